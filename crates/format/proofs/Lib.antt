@@ -1,0 +1,6 @@
+pub mod RoundTrip
+pub mod Stored
+pub mod Loaded
+pub mod Calls
+pub mod Demand3
+pub mod Samples

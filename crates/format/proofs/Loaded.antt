@@ -1,0 +1,238 @@
+-- Whatever is read of bytes is a well-formed tree once its names are repaired, so the store that undump leaves is well formed.
+use Prim.Native.Nat.{ℕ, zero, suc, _+_, _*_, _≤_, _<_, _^_, min}
+use mathlib.Core.Path.{_≡_, refl, sym, ap, _∙_}
+use mathlib.Core.List.{List, [], _∷_, _++_, map}
+use mathlib.Core.Bool.{Bool, true, false, cond, _&&_, not}
+use native.Mathlib.Omega.{arith}
+use lib.ListN.{length, take, drop, length-map}
+use lib.Seq.{length-take-le}
+use lib.Dec.{leb, eqb}
+use borrow.Author.Tests.{leb-true}
+use Rattle.lent.specs.Memory.{Every, Byte, Word, Bytes}
+use Rattle.lent.proofs.Lists.{every-take, every-drop}
+use Rattle.utf8.specs.Utf8.{repair}
+use Rattle.utf8.specs.Laws.{utf8-repair}
+use Rattle.format.specs.Tree.{Constant, Source, Local, Debug, Parts, Function, Functions, count, filled, with}
+use Rattle.format.specs.Read.{Read, Reader, got, refused, andThen, _>>=_, return, refuse, loadBlock, loadByte, littleEndian, loadNumber, loadInt, stringOf, loadString, loadText, limit, countOf, loadCount, many, loadList, loadBoolean, loadNum, loadStr, constantOf, loadConstant, manyFunctions, Constants, loadConstants, loadLocal, loadDebug, loadFunction, same, signature, format, loadExactly, loadHeader}
+use Rattle.format.specs.Valid.{depth, most, Name, ValidSource, ValidConstant, ValidLocal, ValidList, ValidDebug, ValidParts, Valid, ValidAll}
+use Rattle.format.specs.Undump.{repairedSource, repairedLocal, repairedDebug, repaired, repairedAll, loadChunk}
+
+-- of bytes, the reader r gives only values of which P holds, and leaves bytes; it refuses by 2 to 7 only
+record Gives {A : Type 0} (r : Reader A) (P : A → Type 0) : Type 0 where
+  gives : (bs : List ℕ) → Bytes bs → (a : A) (rest : List ℕ) → r bs ≡ got a rest → P a × Bytes rest
+  refuses : (bs : List ℕ) → Bytes bs → (n : ℕ) → r bs ≡ refused n → (2 ≤ n) × (n ≤ 7)
+
+-- a value is no refusal
+got-refused : {A : Type 0} {a : A} {rest : List ℕ} {n : ℕ} → got a rest ≡ refused n → ⊥
+got-refused e = let z : _≡_ {A = ℕ} 0 1 = cc in omega arith
+
+pure : {A : Type 0} {P : A → Type 0} (a : A) → P a → Gives (return a) P
+pure {P} a p =
+    record {
+      gives = λ bs h b rest e. let e₁ : a ≡ b = cc in let e₂ : bs ≡ rest = cc in (rw (← e₁) p, rw (← e₂) h);
+      refuses = λ bs h n e. absurd (got-refused e);
+    }
+
+never : {A : Type 0} {P : A → Type 0} (n : ℕ) → 2 ≤ n → n ≤ 7 → Gives (refuse {A = A} n) P
+never n low high =
+    record {
+      gives = λ bs h b rest e. absurd (got-refused (sym e));
+      refuses = λ bs h m e. let i : n ≡ m = cc in (omega arith, omega arith);
+    }
+
+bind : {A B : Type 0} {r : Reader A} {P : A → Type 0} {Q : B → Type 0} (k : A → Reader B) → Gives r P → ((a : A) → P a → Gives (k a) Q) → Gives (r >>= k) Q
+bind {A} {B} {r} {P} {Q} k p q = record { gives = λ bs h b rest e. by bs h b rest (r bs) refl e; refuses = λ bs h n e. on bs h n (r bs) refl e }
+  where
+    by : (bs : List ℕ) → Bytes bs → (b : B) (rest : List ℕ) (x : Read A) → r bs ≡ x → andThen x k ≡ got b rest → Q b × Bytes rest
+    by bs h b rest (got a cs) e f = let g = p .gives bs h a cs e in q a (g .0) .gives cs (g .1) b rest f
+    by bs h b rest (refused n) e f = absurd (got-refused (sym f))
+
+    on : (bs : List ℕ) → Bytes bs → (n : ℕ) (x : Read A) → r bs ≡ x → andThen x k ≡ refused n → (2 ≤ n) × (n ≤ 7)
+    on bs h n (got a cs) e f = let g = p .gives bs h a cs e in q a (g .0) .refuses cs (g .1) n f
+    on bs h n (refused m) e f = let i : m ≡ n = cc in rw i at (p .refuses bs h m e)
+
+weaken : {A : Type 0} {r : Reader A} {P Q : A → Type 0} → ((a : A) → P a → Q a) → Gives r P → Gives r Q
+weaken f p = record { gives = λ bs h a rest e. let g = p .gives bs h a rest e in (f a (g .0), g .1); refuses = p .refuses }
+
+-- a test before going on
+test : {A : Type 0} {r s : Reader A} {P : A → Type 0} (b : Bool) → (b ≡ true → Gives r P) → (b ≡ false → Gives s P) → Gives (cond b r s) P
+test true p q = p refl
+test false p q = q refl
+
+-- ---- parts of bytes are bytes
+
+split : (b : ℕ) (bs : List ℕ) → Bytes (b ∷ bs) → Byte b × Bytes bs
+unfolding Every
+split b bs h = h
+
+every-map : {A : Type 0} (P : A → Type 0) (g : A → A) (l : List A) → Every (λ a. P (g a)) l → Every P (map g l)
+unfolding Every
+every-map P g [] h = tt
+every-map P g (a ∷ l) h = (h .0, every-map P g l (h .1))
+
+list-map : {A : Type 0} (P : A → Type 0) (g : A → A) (l : List A) → ValidList (λ a. P (g a)) l → ValidList P (map g l)
+list-map P g l h = record { items = every-map P g l (h .items); short = omega (arith, length-map l g, h .short) }
+
+-- ---- the readers, in their order
+
+-- n bytes
+abbrev Block : ℕ → List ℕ → Type 0
+Block n s = Bytes s × (length s ≡ n)
+
+block-gives : (n : ℕ) → Gives (loadBlock n) (Block n)
+block-gives n = record { gives = λ bs h s rest e. by bs h s rest (leb n (length bs)) refl e; refuses = λ bs h m e. on bs m (leb n (length bs)) e }
+  where
+    block : List ℕ → Bool → Read (List ℕ)
+    block bs b = elim b [ true ↦ got (take n bs) (drop n bs) | false ↦ refused 2 ]
+
+    by : (bs : List ℕ) → Bytes bs → (s rest : List ℕ) (b : Bool) → leb n (length bs) ≡ b → block bs b ≡ got s rest → Block n s × Bytes rest
+    by bs h s rest true t e =
+        let e₁ : take n bs ≡ s = cc in
+        let e₂ : drop n bs ≡ rest = cc in
+        (rw (← e₁) (every-take Byte n bs h, length-take-le n bs (leb-true n (length bs) t)), rw (← e₂) (every-drop Byte n bs h))
+    by bs h s rest false t e = absurd (got-refused (sym e))
+
+    on : (bs : List ℕ) (m : ℕ) (b : Bool) → block bs b ≡ refused m → (2 ≤ m) × (m ≤ 7)
+    on bs m true e = absurd (got-refused e)
+    on bs m false e = let i : 2 ≡ m = cc in (omega arith, omega arith)
+
+byte-gives : Gives loadByte Byte
+byte-gives = record { gives = by; refuses = on }
+  where
+    by : (bs : List ℕ) → Bytes bs → (b : ℕ) (rest : List ℕ) → loadByte bs ≡ got b rest → Byte b × Bytes rest
+    by [] h b rest e = absurd (got-refused (sym e))
+    by (c ∷ cs) h b rest e = let e₁ : c ≡ b = cc in let e₂ : cs ≡ rest = cc in (rw (← e₁) (split c cs h .0), rw (← e₂) (split c cs h .1))
+
+    on : (bs : List ℕ) → Bytes bs → (n : ℕ) → loadByte bs ≡ refused n → (2 ≤ n) × (n ≤ 7)
+    on [] h n e = let i : 2 ≡ n = cc in (omega arith, omega arith)
+    on (c ∷ cs) h n e = absurd (got-refused e)
+
+value-below : (n : ℕ) (s : List ℕ) → Bytes s → length s ≡ n → littleEndian s < 256 ^ n
+unfolding littleEndian Every
+value-below zero [] h e = omega arith
+value-below zero (b ∷ s) h e = absurd (omega arith)
+value-below (suc n) [] h e = absurd (omega arith)
+value-below (suc n) (b ∷ s) h e = let i = value-below n s (h .1) (omega arith) in let j = h .0 in omega arith
+
+number-gives : (width : ℕ) → Gives (loadNumber width) (λ n. n < 256 ^ width)
+number-gives width = bind _ (block-gives width) (λ s h. pure (littleEndian s) (value-below width s (h .0) (h .1)))
+
+int-gives : Gives loadInt Word
+int-gives = number-gives 4
+
+string-gives : Gives loadString (λ s. Bytes (filled [] s))
+unfolding Every
+string-gives = bind stringOf (number-gives 8) (λ n h. by n)
+  where
+    by : (n : ℕ) → Gives (stringOf n) (λ s. Bytes (filled [] s))
+    by zero = pure Source.inherited tt
+    by (suc n) = bind _ (block-gives n) (λ s h. bind _ byte-gives (λ z k. pure (Source.own s) (h .0)))
+
+text-gives : Gives loadText Bytes
+text-gives = bind _ string-gives (λ s h. pure (filled [] s) h)
+
+count-gives : Gives loadCount (λ n. n ≤ limit)
+count-gives = bind countOf int-gives (λ n h. test (leb n limit) (λ e. pure n (leb-true n limit e)) (λ e. never 6 (omega arith) (omega arith)))
+
+many-gives : {A : Type 0} {r : Reader A} {P : A → Type 0} → Gives r P → (n : ℕ) → Gives (many r n) (λ l. Every P l × (length l ≡ n))
+unfolding many Every
+many-gives p zero = pure [] (tt, refl)
+many-gives p (suc n) = bind _ p (λ a h. bind _ (many-gives p n) (λ l k. pure (a ∷ l) ((h, k .0), ap suc (k .1))))
+
+list-gives : {A : Type 0} {r : Reader A} {P : A → Type 0} → Gives r P → Gives (loadList r) (ValidList P)
+list-gives {r} {P} p =
+    bind (many r) count-gives (λ n h. weaken (λ l k. record { items = k .0; short = omega (arith, k .1) }) (many-gives p n))
+
+constant-gives : Gives loadConstant ValidConstant
+constant-gives =
+    bind constantOf byte-gives (λ tag h.
+    test (eqb tag 0) (λ e. pure Constant.nil tt) (λ e.
+    test (eqb tag 1) (λ e. bind _ byte-gives (λ b k. pure (Constant.bool (not (eqb b 0))) tt)) (λ e.
+    test (eqb tag 3) (λ e. bind _ int-gives (λ low k. bind _ int-gives (λ high l. pure (Constant.num high low) (l, k)))) (λ e.
+    test (eqb tag 4) (λ e. bind _ text-gives (λ s k. pure (Constant.str s) k)) (λ e. never 5 (omega arith) (omega arith))))))
+
+source-valid : (s : Source) → ValidSource (repairedSource s)
+source-valid Source.inherited = tt
+source-valid (Source.own s) = utf8-repair s
+
+local-gives : Gives loadLocal (λ v. ValidLocal (repairedLocal v))
+local-gives = bind _ text-gives (λ n h. bind _ int-gives (λ s k. bind _ int-gives (λ e l. pure _ (record { name = utf8-repair n; start = k; end = l }))))
+
+debug-gives : Gives loadDebug (λ d. ValidDebug (repairedDebug d))
+unfolding loadDebug
+debug-gives =
+    bind _ (list-gives int-gives) (λ li h.
+    bind _ (list-gives local-gives) (λ lo k.
+    bind _ (list-gives name-gives) (λ up l. pure _ (record { lines = h; locals = list-map ValidLocal repairedLocal lo k; upvalues = list-map Name repair up l }))))
+  where
+    name-gives : Gives loadText (λ s. Name (repair s))
+    name-gives = weaken (λ s h. utf8-repair s) text-gives
+
+-- the constants, and the functions inside once repaired
+record Inside (allowance : ℕ) (c : Constants) : Type 0 where
+  constants : ValidList ValidConstant (c .constants)
+  short : count (repairedAll (c .functions)) ≤ limit
+  functions : ValidAll (repairedAll (c .functions)) allowance
+
+module _ (allowance : ℕ) (child : Gives (loadFunction allowance) (λ f. Valid (repaired f) allowance)) where
+  functions-gives : (n : ℕ) → Gives (manyFunctions (loadFunction allowance) n) (λ fs. ValidAll (repairedAll fs) allowance × (count (repairedAll fs) ≡ n))
+  unfolding manyFunctions repaired Valid count
+  functions-gives zero = pure Functions.none (tt, refl)
+  functions-gives (suc n) = bind _ child (λ f h. bind _ (functions-gives n) (λ fs k. pure (Functions.more f fs) ((h, k .0), ap suc (k .1))))
+
+  counted-gives : Gives (loadCount >>= manyFunctions (loadFunction allowance)) (λ fs. ValidAll (repairedAll fs) allowance × (count (repairedAll fs) ≤ limit))
+  counted-gives = bind _ count-gives (λ n l. weaken (λ fs k. (k .0, omega (arith, k .1))) (functions-gives n))
+
+  constants-gives : Gives (loadConstants (loadFunction allowance)) (Inside allowance)
+  unfolding loadConstants
+  constants-gives = bind _ (list-gives constant-gives) (λ ks h. bind _ counted-gives (λ fs k. pure _ (record { constants = h; short = k .1; functions = k .0 })))
+
+function-gives : (allowance : ℕ) → Gives (loadFunction allowance) (λ f. Valid (repaired f) allowance)
+unfolding loadFunction repaired Valid
+function-gives zero = never 7 (omega arith) (omega arith)
+function-gives (suc allowance) =
+    bind _ string-gives (λ src h₁.
+    bind _ int-gives (λ ld h₂.
+    bind _ int-gives (λ lld h₃.
+    bind _ byte-gives (λ nu h₄.
+    bind _ byte-gives (λ np h₅.
+    bind _ byte-gives (λ va h₆.
+    bind _ byte-gives (λ ms h₇.
+    bind _ (list-gives int-gives) (λ code h₈.
+    bind _ (constants-gives allowance (function-gives allowance)) (λ ks h₉.
+    bind _ debug-gives (λ de h.
+    pure _ (
+      record {
+        source = source-valid src;
+        lineDefined = h₂;
+        lastLineDefined = h₃;
+        numUpvalues = h₄;
+        numParams = h₅;
+        isVararg = h₆;
+        maxStackSize = h₇;
+        code = h₈;
+        constants = h₉ .constants;
+        debug = h;
+      },
+      h₉ .short,
+      h₉ .functions,
+    )))))))))))
+
+header-gives : Gives loadHeader (λ s. Unit {0})
+unfolding loadHeader
+header-gives = bind _ (exactly signature 3 (omega arith) (omega arith)) (λ s h. exactly format 4 (omega arith) (omega arith))
+  where
+    exactly : (bytes : List ℕ) (n : ℕ) → 2 ≤ n → n ≤ 7 → Gives (loadExactly bytes n) (λ s. Unit {0})
+    exactly bytes n low high = bind _ (block-gives (length bytes)) (λ s h. test (same s bytes) (λ e. pure s tt) (λ e. never n low high))
+
+chunk-gives : Gives loadChunk (λ f. Valid f depth)
+unfolding loadChunk
+chunk-gives = bind _ header-gives (λ s h. bind _ (function-gives depth) (λ f k. pure (repaired f) k))
+
+-- ==== the statement: what is read of a chunk's bytes is a well-formed tree, and reading refuses by 2 to 7 only
+
+pub loaded-valid : (chunk : List ℕ) → Bytes chunk → (f : Function) (rest : List ℕ) → loadChunk chunk ≡ got f rest → Valid f depth
+loaded-valid chunk h f rest e = chunk-gives .gives chunk h f rest e .0
+
+pub load-refuses : (chunk : List ℕ) → Bytes chunk → (n : ℕ) → loadChunk chunk ≡ refused n → (2 ≤ n) × (n ≤ 7)
+load-refuses chunk h n e = chunk-gives .refuses chunk h n e

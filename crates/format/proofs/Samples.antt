@@ -1,0 +1,115 @@
+-- The definitions evaluated on the scope's sample and on a tree of three levels, so that the theorems speak of something.
+use Prim.Native.Nat.{ℕ}
+use mathlib.Core.Path.{_≡_, refl}
+use mathlib.Core.Bool.{Bool, true, false}
+use mathlib.Core.Option.{Option, none, some}
+use mathlib.Core.List.{List, [], _∷_, _++_}
+use native.Mathlib.Decide.{decLe, decLt, ℕ-discrete}
+use Rattle.lent.specs.Memory.{Every}
+use Rattle.utf8.specs.Utf8.{utf8UpTo, repairUpTo, firstStep, whole, begun, matched}
+use Rattle.format.specs.Tree.{Constant, Source, Local, Debug, Parts, Function, Functions, count, noDebug, stripped}
+use Rattle.format.specs.Read.{Read, got, refused, loadFunction, loadConstants, loadDebug, loadHeader, many, manyFunctions, littleEndian, same}
+use Rattle.format.specs.Write.{dumpNumber, each, dumpFunction, dumpChunk}
+use Rattle.format.specs.Store.{functionPiece, pieces, wordsOf, textOf}
+use Rattle.format.specs.Valid.{Valid}
+use Rattle.format.specs.Stored.{storedFunction, both?, as?, true?, every?, same?, valid?, treeOf}
+use Rattle.format.specs.Undump.{loadChunk, repaired}
+
+-- ---- the sample
+
+sample : List ℕ
+sample =
+    0x1b ∷ 0x4c ∷ 0x75 ∷ 0x61 ∷ 0x51 ∷ 0 ∷ 1 ∷ 4 ∷ 8 ∷ 4 ∷ 8 ∷ 0
+    ∷ 3 ∷ 0 ∷ 0 ∷ 0 ∷ 0 ∷ 0 ∷ 0 ∷ 0 ∷ 0x40 ∷ 0x61 ∷ 0
+    ∷ 0 ∷ 0 ∷ 0 ∷ 0 ∷ 0 ∷ 0 ∷ 0 ∷ 0
+    ∷ 0 ∷ 0 ∷ 2 ∷ 2
+    ∷ 1 ∷ 0 ∷ 0 ∷ 0 ∷ 0x1e ∷ 0 ∷ 0x80 ∷ 0
+    ∷ 0 ∷ 0 ∷ 0 ∷ 0
+    ∷ 0 ∷ 0 ∷ 0 ∷ 0
+    ∷ 1 ∷ 0 ∷ 0 ∷ 0 ∷ 1 ∷ 0 ∷ 0 ∷ 0
+    ∷ 0 ∷ 0 ∷ 0 ∷ 0
+    ∷ 0 ∷ 0 ∷ 0 ∷ 0
+    ∷ []
+
+abbrev sampleTree : Function
+sampleTree =
+    Function.function
+    (record {
+      source = Source.own (0x40 ∷ 0x61 ∷ []);
+      lineDefined = 0;
+      lastLineDefined = 0;
+      numUpvalues = 0;
+      numParams = 0;
+      isVararg = 2;
+      maxStackSize = 2;
+      code = 0x0080001e ∷ [];
+      constants = [];
+      debug = record { lines = 1 ∷ []; locals = []; upvalues = [] };
+    })
+    Functions.none
+
+sample-read : loadChunk sample ≡ got sampleTree []
+unfolding sample loadChunk loadHeader same loadFunction loadConstants loadDebug many manyFunctions littleEndian repaired repairUpTo firstStep whole begun matched
+sample-read = refl
+
+sample-dumped : dumpChunk false [] sampleTree ≡ sample
+unfolding sample dumpFunction dumpNumber each count same
+sample-dumped = refl
+
+abbrev sampleWords : List ℕ
+sampleWords = 1 ∷ 0 ∷ 2 ∷ 0 ∷ 0 ∷ 0x0202 ∷ 1 ∷ 0x0080001e ∷ 0 ∷ 0 ∷ 1 ∷ 1 ∷ 0 ∷ 0 ∷ []
+
+sample-stored : treeOf sampleWords (0x40 ∷ 0x61 ∷ []) ≡ some sampleTree
+unfolding treeOf storedFunction many manyFunctions both? as? true? every? same? valid? decLe decLt ℕ-discrete functionPiece pieces count Every Valid utf8UpTo firstStep whole begun matched
+sample-stored = refl
+
+-- ---- sources: a function with this source and these functions in it
+
+abbrev sourced : Source → Debug → Functions → Function
+sourced s d fs =
+    Function.function
+    (record {
+      source = s;
+      lineDefined = 0;
+      lastLineDefined = 0;
+      numUpvalues = 0;
+      numParams = 0;
+      isVararg = 0;
+      maxStackSize = 2;
+      code = [];
+      constants = Constant.nil ∷ Constant.bool true ∷ Constant.num 0x80000000 0 ∷ Constant.str (0xff ∷ []) ∷ [];
+      debug = d;
+    })
+    fs
+
+abbrev one : Function → Functions
+one f = Functions.more f Functions.none
+
+abbrev named : Debug
+named = record { lines = 7 ∷ []; locals = record { name = 0x78 ∷ []; start = 0; end = 0xffffffff } ∷ []; upvalues = (0x79 ∷ []) ∷ [] }
+
+abbrev a : List ℕ
+a = 0x40 ∷ 0x61 ∷ []
+
+abbrev b : List ℕ
+b = 0x40 ∷ 0x62 ∷ []
+
+-- a root of the name a; in it one that has its source, with one of its own that is the same and one that is not; and one with an empty source
+abbrev family : Source → Function
+family root =
+    sourced root named
+    (Functions.more (sourced Source.inherited named (Functions.more (sourced (Source.own a) named Functions.none) (one (sourced (Source.own b) named Functions.none))))
+    (one (sourced (Source.own []) named (one (sourced (Source.own a) named Functions.none)))))
+
+-- what is read where it was written: a child's source is left out where it is its parent's, and not where it is the root's
+abbrev written : Debug → Function
+written d =
+    sourced (Source.own a) d
+    (Functions.more (sourced Source.inherited d (Functions.more (sourced Source.inherited d Functions.none) (one (sourced (Source.own b) d Functions.none))))
+    (one (sourced (Source.own []) d (one (sourced (Source.own a) d Functions.none)))))
+
+family-written : (loadChunk (dumpChunk false [] (family (Source.own a)) ++ 0xff ∷ []) ≡ got (written named) (0xff ∷ []))
+    × (loadChunk (dumpChunk false a (family Source.inherited)) ≡ got (written named) [])
+    × (loadChunk (dumpChunk true a (family Source.inherited)) ≡ got (written noDebug) [])
+unfolding loadChunk loadHeader same loadFunction loadConstants loadDebug many manyFunctions littleEndian repaired repairUpTo firstStep whole begun matched dumpFunction dumpNumber each count
+family-written = (refl, refl, refl)

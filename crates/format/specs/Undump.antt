@@ -1,0 +1,88 @@
+-- What undump answers, and what it leaves in lent memory.
+use Prim.Native.Nat.{ℕ, _-_, min}
+use mathlib.Core.List.{List, _++_, map}
+use mathlib.Core.Bool.{Bool, cond, _&&_}
+use lib.ListN.{length, drop}
+use lib.Dec.{leb}
+use Rattle.utf8.specs.Utf8.{isUtf8, repair}
+use Rattle.format.specs.Tree.{Source, Local, Debug, Parts, Function, Functions, with}
+use Rattle.format.specs.Read.{Read, Reader, _>>=_, return, loadHeader, loadFunction}
+use Rattle.format.specs.Store.{wordsOf, textOf}
+use Rattle.format.specs.Valid.{depth, most}
+use Rattle.format.specs.declared.Undumped.{Undumped}
+
+-- ---- sources, local and upvalue names go through repair; constants stay as they are
+
+abbrev pub repairedSource : Source → Source
+repairedSource Source.inherited = Source.inherited
+repairedSource (Source.own s) = Source.own (repair s)
+
+abbrev pub repairedLocal : Local → Local
+repairedLocal v = record { name = repair (v .name); start = v .start; end = v .end }
+
+abbrev pub repairedDebug : Debug → Debug
+repairedDebug d = record { lines = d .lines; locals = map repairedLocal (d .locals); upvalues = map repair (d .upvalues) }
+
+unfoldable mutual
+  pub repaired : Function → Function
+  repaired (Function.function p fs) = Function.function (with (repairedSource (p .source)) (repairedDebug (p .debug)) p) (repairedAll fs)
+
+  pub repairedAll : Functions → Functions
+  repairedAll Functions.none = Functions.none
+  repairedAll (Functions.more f fs) = Functions.more (repaired f) (repairedAll fs)
+
+-- ---- a chunk: the header and the root function (luaU_undump); what stands behind is left
+
+unfoldable pub loadChunk : Reader Function
+loadChunk = do
+  h ← loadHeader
+  f ← loadFunction depth
+  return (repaired f)
+
+-- ---- the call
+
+-- an answer, with what then stands in lent memory
+pub record UndumpLeft : Type 0 where
+  pub answer : Undumped
+  pub words : List ℕ
+  pub text : List ℕ
+
+abbrev pub undumpRefused : ℕ → List ℕ → List ℕ → UndumpLeft
+undumpRefused n words text = record { answer = record { refusal = n; words = 0; text = 0; read = 0 }; words = words; text = text }
+
+-- a chunk name, refused by 1 where it is not UTF-8 or too long
+abbrev pub nameOk : List ℕ → Bool
+nameOk name = isUtf8 name && leb (length name) most
+
+-- whether so many fit the space lent, and the limit
+abbrev pub fits : ℕ → List ℕ → Bool
+fits n lent = leb n (min (length lent) most)
+
+-- what was used of the space, then what stood there
+abbrev pub over : List ℕ → List ℕ → List ℕ
+over used lent = used ++ drop (length used) lent
+
+-- a tree's store, in the space lent
+abbrev pub storeLeft : Function → ℕ → List ℕ → List ℕ → UndumpLeft
+storeLeft f read words text =
+    record {
+      answer = record { refusal = 0; words = length (wordsOf f); text = length (textOf f); read = read };
+      words = over (wordsOf f) words;
+      text = over (textOf f) text;
+    }
+
+-- a tree was read: 8, 9, else its store
+abbrev pub storedOr : Function → ℕ → List ℕ → List ℕ → UndumpLeft
+storedOr f read words text =
+    cond (fits (length (wordsOf f)) words)
+    (cond (fits (length (textOf f)) text) (storeLeft f read words text) (undumpRefused 9 words text))
+    (undumpRefused 8 words text)
+
+-- by what reading the chunk gives
+abbrev pub undumpedBy : List ℕ → Read Function → List ℕ → List ℕ → UndumpLeft
+undumpedBy chunk (Read.got f rest) words text = storedOr f (length chunk - length rest) words text
+undumpedBy chunk (Read.refused n) words text = undumpRefused n words text
+
+-- undump(chunk, name, words, text)
+unfoldable pub undumped : List ℕ → List ℕ → List ℕ → List ℕ → UndumpLeft
+undumped chunk name words text = cond (nameOk name) (undumpedBy chunk (loadChunk chunk) words text) (undumpRefused 1 words text)

@@ -1,0 +1,40 @@
+-- By the table's rule, the opcode's number being below the table's length.
+use borrow.Author.Needs.{needs}
+use Rattle.instructions.specs.OpCodes.{Row, unpacked}
+use Rattle.instructions.proofs.Laws.{opcode-known}
+use Rattle.instructions.proofs.Table.{looked-up}
+use Rattle.instructions.proofs.op_modes.Statement.{statement}
+use Rattle.instructions.proofs.op_modes.Tie as tie
+
+op-mode-bytes-requires : tie.Need-op-mode-bytes-requires
+op-mode-bytes-requires c κs = search needs
+
+or-move-requires : tie.Need-or-move-requires
+or-move-requires c κs = search needs
+
+cast-n : tie.Need-cast-n
+cast-n c = search needs
+
+array-read-unpacked : tie.Need-array-read-unpacked
+array-read-unpacked c = rw (c .or-move .ensures) (opcode-known (c .before .before .args .op))
+
+unpacked-requires : tie.Need-unpacked-requires
+unpacked-requires c κs = search needs
+
+returns : tie.Need-returns
+returns c =
+    let table = c .before .before .op-mode-bytes in
+    let op = c .before .before .before .args .op in
+    rw (c .unpacked .ensures, c .before .or-move .ensures)
+    (looked-up unpacked (λ (o : Row). o .modes) 0 (table .result) op (table .ensures))
+
+pub op-modes-spec : {M : Type 1} → statement M
+op-modes-spec =
+    tie.close
+    (tie.spec
+    op-mode-bytes-requires
+    or-move-requires
+    cast-n
+    array-read-unpacked
+    unpacked-requires
+    returns)

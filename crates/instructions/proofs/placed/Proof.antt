@@ -1,0 +1,24 @@
+-- 1 << size is 2 ^ size, and what is below it, shifted, stays below 2 ^ 32.
+use native.Mathlib.Nat.{mod-lt}
+use lib.Pow.{pow-pos, shl-exact}
+use borrow.Author.Needs.{needs}
+use Rattle.instructions.proofs.Laws.{one-shifted}
+use Rattle.instructions.proofs.placed.Statement.{statement}
+use Rattle.instructions.proofs.placed.Tie as tie
+
+shl-result : tie.Need-shl-result
+shl-result c = search needs
+
+rem-result : tie.Need-rem-result
+rem-result c = rw (one-shifted (c .args .size) (c .pre .1)) (pow-pos (c .args .size))
+
+shl-result-2 : tie.Need-shl-result-2
+shl-result-2 c = search needs
+
+returns : tie.Need-returns
+returns c =
+    let a = c .args in
+    rw (one-shifted (a .size) (c .pre .1)) (shl-exact (a .size) (a .from) 32 (mod-lt (a .x) (pow-pos (a .size))) (c .pre .2))
+
+pub placed-spec : {M : Type 1} → statement M
+placed-spec = tie.close (tie.spec shl-result rem-result shl-result-2 returns)

@@ -1,0 +1,22 @@
+-- Each part is the macro's, by what the callees ensure.
+use native.Mathlib.Nat.{div-one}
+use borrow.Author.Needs.{needs}
+use Rattle.instructions.proofs.unpacked.Statement.{statement}
+use Rattle.instructions.proofs.unpacked.Tie as tie
+
+mode-of-requires : tie.Need-mode-of-requires
+mode-of-requires c κs = search needs
+
+arg-of-requires : tie.Need-arg-of-requires
+arg-of-requires c κs = search needs
+
+arg-of-requires-2 : tie.Need-arg-of-requires-2
+arg-of-requires-2 c κs = search needs
+
+returns : tie.Need-returns
+returns c =
+    let m = c .before .before .before .args .m in
+    rw (c .before .before .mode-of .ensures, c .before .arg-of .ensures, c .arg-of2 .ensures, div-one m)
+
+pub unpacked-spec : {M : Type 1} → statement M
+unpacked-spec = tie.close (tie.spec mode-of-requires arg-of-requires arg-of-requires-2 returns)

@@ -1,0 +1,3 @@
+mod Leads
+mod Ranges
+mod Texts

@@ -1,0 +1,110 @@
+-- Text within bytes: how it goes on, and what it says of the whole.
+use Prim.Native.Nat.{ℕ, suc, _+_, _-_, _≤_, _<_}
+use mathlib.Core.Path.{_≡_, refl, sym, ap, _∙_}
+use mathlib.Core.List.{List, [], _∷_, _++_}
+use mathlib.Core.Bool.{Bool, true, false, not}
+use native.Mathlib.Omega.{arith}
+use native.Mathlib.Decide.{ℕ-discrete}
+use lib.ListN.{length, take, drop, getD, take-append-drop, length-drop, drop-of-length-le}
+use lib.Seq.{take-add, drop-drop}
+use lib.Dec.{eqb}
+use borrow.Author.Tests.{eq-eqb, ne-eqb, not-true, not-false}
+use Rattle.lent.proofs.Lists.{drop-more}
+use Rattle.utf8.specs.declared.Step.{Step}
+use Rattle.utf8.specs.Utf8.{_‥_, table3-7, firstStep, isUtf8, replacement, repairUpTo, repair}
+use Rattle.utf8.specs.Laws.{step-bounds, utf8-nil, utf8-cons, repair-cons, ascii-sequence, front-sequence, sequence-text, utf8-append, utf8-both, repair-append}
+use Rattle.utf8.specs.Rows.{rowOf, secondRange, ranges, begins}
+use Rattle.utf8.specs.Text.{Text, TextEnd}
+use Rattle.utf8.proofs.Leads.{passes, len-from, step-led}
+use Rattle.utf8.proofs.Ranges.{begins-byte, Left, left-done}
+
+-- ---- text from a place on
+
+pub text-none : (s : List ℕ) (at : ℕ) → at ≤ length s → Text s at at
+text-none s at h = record { from = omega arith; fits = h; text = let e : at - at ≡ 0 = omega arith in rw e utf8-nil }
+
+text-some : (s : List ℕ) (at n : ℕ) → at + n ≤ length s → isUtf8 (take n (drop at s)) ≡ true → Text s at (at + n)
+text-some s at n h k = record { from = omega arith; fits = h; text = let e : at + n - at ≡ n = omega arith in rw e k }
+
+-- from a to b, and from b to c
+joined : (s : List ℕ) (a b c : ℕ) → a ≤ b → b ≤ c → take (c - a) (drop a s) ≡ take (b - a) (drop a s) ++ take (c - b) (drop b s)
+joined s a b c h k =
+    let e : c - a ≡ (b - a) + (c - b) = omega arith in
+    let f : a + (b - a) ≡ b = omega arith in
+    rw (e, take-add (b - a) (c - b) (drop a s), drop-drop (b - a) a s, f)
+
+pub text-join : {s : List ℕ} {a b c : ℕ} → Text s a b → Text s b c → Text s a c
+text-join {s} {a} {b} {c} h k =
+    record {
+      from = omega arith;
+      fits = omega arith;
+      text = rw (joined s a b c (h .from) (k .from)) (utf8-both (take (b - a) (drop a s)) (take (c - b) (drop b s)) (h .text) (k .text));
+    }
+
+-- ---- the byte and the step at a place
+
+module _ (s : List ℕ) (at : ℕ) (h : at < length s) where
+  -- what holds of a first byte and those behind it
+  there : (P : List ℕ → Type 0) → ((b : ℕ) (bs : List ℕ) → suc (length bs) ≡ length s - at → P (b ∷ bs)) → P (drop at s)
+  there P f = rw (drop-more s at h) (f (getD s at 0) (drop (at + 1) s) (rw length-drop (omega arith)))
+
+  pub text-byte : getD s at 0 < 0x80 → Text s at (at + 1)
+  text-byte l = text-some s at 1 (omega arith) (rw (drop-more s at h) (sequence-text (getD s at 0 ∷ []) (ascii-sequence (getD s at 0) l)))
+
+  module _ {r : Step} (e : r ≡ firstStep (drop at s)) where
+    pub step-fits : (1 ≤ r .len) × (at + r .len ≤ length s)
+    step-fits = rw e (there (λ bs. (1 ≤ firstStep bs .len) × (at + firstStep bs .len ≤ length s)) (λ b bs l. let k = step-bounds b bs in omega arith))
+
+    pub text-step : not (r .«well_formed») ≡ false → Text s at (at + r .len)
+    text-step k =
+        text-some s at (r .len) (step-fits .1)
+        (rw e (there (λ bs. firstStep bs .«well_formed» ≡ true → isUtf8 (take (firstStep bs .len) bs) ≡ true) (λ b bs l w. sequence-text _ (front-sequence b bs w)) (not-false _ (rw e at k))))
+
+    pub repair-ill : firstStep (drop at s) .«well_formed» ≡ false → repair (drop at s) ≡ replacement ++ repair (drop (at + r .len) s)
+    repair-ill w =
+        rw (e, ← drop-drop (firstStep (drop at s) .len) at s)
+        (there (λ bs. firstStep bs .«well_formed» ≡ false → repair bs ≡ replacement ++ repair (drop (firstStep bs .len) bs)) (λ b bs l w. rw (repair-cons b bs, w)) w)
+
+  utf8-ill : firstStep (drop at s) .«well_formed» ≡ false → isUtf8 (drop at s) ≡ false
+  utf8-ill = there (λ bs. firstStep bs .«well_formed» ≡ false → isUtf8 bs ≡ false) (λ b bs l w. rw (utf8-cons b bs, w))
+
+pub repair-none : (s : List ℕ) (at : ℕ) → length s ≤ at → repair (drop at s) ≡ []
+unfolding repairUpTo
+repair-none s at h = rw (drop-of-length-le s h)
+
+-- a sequence of n bytes, its lead byte in a range whose bytes all lead rows of n
+pub text-led : {s : List ℕ} {at : ℕ} {t : Bool} (n low high : ℕ) → passes (λ b. eqb n (length (rowOf table3-7 b))) low (suc high - low) ≡ true → high < 256
+    → t ≡ begins (low ‥ high) (drop at s) → not t ≡ false → Left (ranges (n - 1) (secondRange (getD s at 0))) s at n [] → Text s at (at + n)
+text-led {s} {at} {t} n low high p k e h l =
+    let b = begins-byte s at (low ‥ high) (sym e ∙ not-false t h) in
+    text-step s at (b .0) (step-led s at n n (b .0) (omega arith) (len-from n low high p (getD s at 0) (b .1) (b .2)) (left-done l)) (rw (eq-eqb n n refl))
+
+-- text that ends before an ill-formed step
+pub text-stop : {s : List ℕ} {at to : ℕ} {r : Step} → r ≡ firstStep (drop to s) → not (r .«well_formed») ≡ true → Text s at to → TextEnd s at to
+text-stop e k h = record { text = h; stops = λ l. not-true _ (rw e at k) }
+
+-- and at the end of the bytes
+pub text-end : {s : List ℕ} {at to : ℕ} → length s ≤ to → Text s at to → TextEnd s at to
+text-end k h = record { text = h; stops = λ l. absurd (omega arith) }
+
+-- ---- the whole
+
+module _ {s : List ℕ} {at to : ℕ} (h : Text s at to) where
+  split : drop at s ≡ take (to - at) (drop at s) ++ drop to s
+  split =
+      let e : at + (to - at) ≡ to = omega arith in
+      sym (take-append-drop (to - at) (drop at s)) ∙ rw (drop-drop (to - at) at s, e)
+
+  pub repair-text : repair (drop at s) ≡ take (to - at) (drop at s) ++ repair (drop to s)
+  repair-text = ap repair split ∙ repair-append (take (to - at) (drop at s)) (drop to s) (h .text)
+
+  pub utf8-text : isUtf8 (drop at s) ≡ isUtf8 (drop to s)
+  utf8-text = ap isUtf8 split ∙ utf8-append (take (to - at) (drop at s)) (drop to s) (h .text)
+
+pub text-whole : {s : List ℕ} {to : ℕ} → TextEnd s 0 to → eqb to (length s) ≡ isUtf8 s
+text-whole {s} {to} h = elim (ℕ-discrete to (length s)) [
+  | yes e ↦ eq-eqb to (length s) e ∙ sym (utf8-text (h .text) ∙ rw (drop-of-length-le s {i = to} (omega arith)) utf8-nil)
+  | no e ↦
+      let l : to < length s = omega (arith, h .text .fits) in
+      ne-eqb to (length s) e ∙ sym (utf8-text (h .text) ∙ utf8-ill s to l (h .stops l))
+]

@@ -1,0 +1,58 @@
+-- Each block goes on with the text so far.
+use Prim.Native.Nat.{_-_}
+use native.Mathlib.Omega.{arith}
+use lib.ListN.{length}
+use borrow.Author.Tests.{not-false}
+use Rattle.utf8.specs.Text.{Text}
+use Rattle.utf8.proofs.Texts.{text-none, text-join}
+use Rattle.utf8.proofs.ascii_blocks.Statement.{statement}
+use Rattle.utf8.proofs.ascii_blocks.Tie as tie
+
+abbrev Inv-loop : tie.InvT-loop
+Inv-loop bytes at i₀ i = Text bytes at i
+
+abbrev μ-loop : tie.MeasureT-loop
+μ-loop bytes at i₀ i = length bytes - i
+
+returns : tie.Need-returns Inv-loop μ-loop
+returns c = text-none _ _ (c .before .before .pre)
+
+loop-holds : tie.Need-loop-holds Inv-loop μ-loop
+loop-holds c = text-none _ _ (c .before .before .pre)
+
+sub-loop : tie.Need-sub-loop Inv-loop μ-loop
+sub-loop c = omega arith
+
+is-ascii-block-requires : tie.Need-is-ascii-block-requires Inv-loop μ-loop
+is-ascii-block-requires c κs = omega arith
+
+returns-2 : tie.Need-returns-2 Inv-loop μ-loop
+returns-2 c = c .before .before .before .loop .inv
+
+add-i : tie.Need-add-i Inv-loop μ-loop
+add-i c = omega arith
+
+loop-less : tie.Need-loop-less Inv-loop μ-loop
+loop-less c = omega arith
+
+loop-again : tie.Need-loop-again Inv-loop μ-loop
+loop-again c = text-join (c .before .before .before .loop .inv) (c .before .is-ascii-block .ensures (not-false _ (c .if2 .left)))
+
+returns-3 : tie.Need-returns-3 Inv-loop μ-loop
+returns-3 c = c .before .loop .inv
+
+pub ascii-blocks-spec : {M : Type 1} → statement M
+ascii-blocks-spec =
+    tie.close
+    (tie.spec
+    Inv-loop
+    μ-loop
+    returns
+    loop-holds
+    sub-loop
+    is-ascii-block-requires
+    returns-2
+    add-i
+    loop-less
+    loop-again
+    returns-3)

@@ -1,0 +1,30 @@
+-- A lead byte of a row of two, and the second byte in its range.
+use borrow.Author.Needs.{needs}
+use native.Mathlib.Omega.{arith}
+use mathlib.Core.Path.{refl}
+use mathlib.Core.Bool.{false≢true}
+use Rattle.utf8.specs.Rows.{rowOf}
+use Rattle.utf8.proofs.Leads.{passes}
+use Rattle.utf8.proofs.Ranges.{left-start, left-more}
+use Rattle.utf8.proofs.Texts.{text-led}
+use Rattle.utf8.proofs.two.Statement.{statement}
+use Rattle.utf8.proofs.two.Tie as tie
+
+in-range-requires : tie.Need-in-range-requires
+in-range-requires c κs = search needs
+
+returns : tie.Need-returns
+returns c e = absurd (false≢true e)
+
+second-fits-requires : tie.Need-second-fits-requires
+second-fits-requires c κs = search needs
+
+returns-2 : tie.Need-returns-2
+unfolding passes rowOf
+returns-2 c e =
+    let c₁ = c .before .before in
+    let c₂ = c₁ .before .before in
+    text-led 2 0xc2 0xdf refl (omega arith) (c₁ .in-range .ensures) (c .before .if1 .left) (left-more (c .second-fits .ensures) e (left-start (c₂ .args .bytes .now) (c₂ .args .at) (c₂ .pre)))
+
+pub two-spec : {M : Type 1} → statement M
+two-spec = tie.close (tie.spec in-range-requires returns second-fits-requires returns-2)
