@@ -9,21 +9,20 @@ ghost use Rattle.lent.specs.Memory.{far, Puts};
 // The farthest place.
 pub const FAR: usize = 18446744073709551615;
 
-// The place n further on, at most the farthest.
+// The place n further on.
 pub fn further(at: usize, n: usize) -> usize
     ensures { λ r. ⌜ r ≡ min (at + n) far ⌝ }
 {
     if n <= FAR - at { at + n } else { FAR }
 }
 
-// The lesser of two numbers.
 fn least(a: usize, b: usize) -> usize
     ensures { λ r. ⌜ r ≡ min a b ⌝ }
 {
     if a <= b { a } else { b }
 }
 
-// Writes a byte at a place. Answers the next place.
+// A byte. Answers the next place.
 pub fn put_byte(out: &mut [u8], at: usize, b: u8) -> usize
     ensures { λ r. ⌜ Puts (b ∷ []) at (now (out .entry)) r (now (out .exit)) ⌝ }
 {
@@ -33,7 +32,7 @@ pub fn put_byte(out: &mut [u8], at: usize, b: u8) -> usize
     further(at, 1)
 }
 
-// Writes the first n bytes of s, for which there is room.
+// The first n bytes of s, which fit.
 fn copy(out: &mut [u8], at: usize, s: &[u8], n: usize)
     requires { ⌜ (n ≤ length (now s)) × (at + n ≤ length (now out)) ⌝ }
     ensures { λ r. ⌜ now (out .exit) ≡ sets (now (out .entry)) at (take n (now (s .entry))) ⌝ }
@@ -45,7 +44,7 @@ fn copy(out: &mut [u8], at: usize, s: &[u8], n: usize)
     }
 }
 
-// Writes bytes at a place. Answers the next place.
+// Bytes. Answers the next place.
 pub fn put_bytes(out: &mut [u8], at: usize, s: &[u8]) -> usize
     ensures { λ r. ⌜ Puts (now (s .entry)) at (now (out .entry)) r (now (out .exit)) ⌝ }
 {
@@ -54,4 +53,14 @@ pub fn put_bytes(out: &mut [u8], at: usize, s: &[u8]) -> usize
         copy(out, at, s, least(s.len(), room));
     }
     further(at, s.len())
+}
+
+// A word. Answers the next place.
+pub fn put_word(out: &mut [u32], at: usize, w: u32) -> usize
+    ensures { λ r. ⌜ Puts (w ∷ []) at (now (out .entry)) r (now (out .exit)) ⌝ }
+{
+    if at < out.len() {
+        out[at] = w;
+    }
+    further(at, 1)
 }

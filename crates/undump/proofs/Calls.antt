@@ -1,0 +1,134 @@
+-- A whole chunk, counted and then written: what undump answers and leaves, at each of its returns.
+use Prim.Native.Nat.{ℕ, zero, suc, _+_, _-_, _≤_, _<_, min}
+use mathlib.Core.Path.{_≡_, refl, sym, ap, _∙_}
+use mathlib.Core.List.{List, [], _∷_, _++_, append-nil}
+use mathlib.Core.Bool.{Bool, true, false, cond}
+use native.Mathlib.Omega.{arith}
+use lib.ListN.{length, take, drop, length-drop, drop-of-length-le}
+use lib.Seq.{sets, sets-eq, length-take-le}
+use borrow.Author.Tests.{le-leb, lt-leb}
+use lib.Dec.{leb}
+use Rattle.lent.specs.Memory.{far}
+use Rattle.utf8.specs.Utf8.{isUtf8}
+use Rattle.format.specs.Tree.{Function}
+use Rattle.format.specs.Read.{Read, got, refused, _>>=_, return, loadHeader, loadFunction}
+use Rattle.format.specs.Store.{functionPiece, wordsOf, textOf}
+use Rattle.format.specs.Valid.{depth, most}
+use Rattle.format.specs.Undump.{repaired, loadChunk, UndumpLeft, undumpRefused, nameOk, over, storeLeft, undumpedBy, undumped}
+use Rattle.undump.specs.declared.cursor.Cursor.{Cursor}
+use Rattle.undump.specs.declared.load.Load.{Load}
+use Rattle.undump.specs.Step.{Stands, Step, Space, space, Wrote, Does, world, Loads, repairedFunction, beginning}
+use Rattle.undump.proofs.Steps.{bind, mapped}
+
+-- a state that nothing was stored from
+abbrev pub fresh : Cursor → Load
+fresh c = record { cursor = c; words = 0; text = 0 }
+
+-- the header, then the root function
+pub chunk-loaded : {bs : List ℕ} {c : Cursor} {r : Load} {ws ts ws′ ts′ : List ℕ} → Step bs loadHeader (λ v. Unit {0}) beginning c
+    → Loads bs (loadFunction depth) repairedFunction (world (fresh c) ws ts) (world r ws′ ts′)
+    → Stands bs (loadChunk bs) (λ f. Does (functionPiece f) (space (fresh c) ws ts) (space r ws′ ts′)) (r .cursor)
+unfolding loadChunk
+chunk-loaded {bs} {c} {r} {ws} {ts} {ws′} {ts′} h k =
+    bind {Q = λ f. Does (functionPiece f) (space (fresh c) ws ts) (space r ws′ ts′)} _ h (k .stays) (λ v e. mapped repaired (λ f d. d) k) .goes refl
+
+-- a part as long as what is written in it holds just that
+written : (w l lent : List ℕ) (n : ℕ) → n ≡ length w → n ≤ length lent → l ≡ sets (take n lent) 0 w → l ++ drop n lent ≡ over w lent
+written w l lent n e h f =
+    let g : length (take n lent) ≡ n = length-take-le n lent h in
+    let a : sets (take n lent) 0 w ≡ w = sets-eq w (take n lent) 0 (omega arith) ∙ rw (drop-of-length-le (take n lent) {i = 0 + length w} (omega arith)) (append-nil w) in
+    rw (f ∙ a, e)
+
+module _ (bs ws ts : List ℕ) (c : Cursor) (need : Load) (u v : List ℕ) where
+  -- what the run without space counted
+  abbrev Counts : Function → Type 0
+  Counts f = Does (functionPiece f) (space (fresh c) [] []) (space need u v)
+
+  counted : (f : Function) → Counts f → (need .words ≡ min (length (wordsOf f)) far) × (need .text ≡ min (length (textOf f)) far)
+  counted f d =
+      let a = d .does 0 (omega arith) (omega arith) in
+      (omega (arith, a .many, a .words .puts (omega arith) (omega arith) .0), omega (arith, a .text .puts (omega arith) (omega arith) .0))
+
+  refused-by : (x : Read Function) → Stands bs x Counts (need .cursor) → 0 < need .cursor .refusal → undumpedBy bs x ws ts ≡ undumpRefused (need .cursor .refusal) ws ts
+  refused-by (got f rest) t h = absurd (omega arith)
+  refused-by (refused k) t h = ap (λ (n : ℕ). undumpRefused n ws ts) (sym (t .0))
+
+  few-words : (x : Read Function) → Stands bs x Counts (need .cursor) → need .cursor .refusal ≤ 0 → min (length ws) most < need .words → undumpedBy bs x ws ts ≡ undumpRefused 8 ws ts
+  few-words (got f rest) t z h = let n = counted f (t .2) in rw (lt-leb (length (wordsOf f)) (min (length ws) most) (omega arith))
+  few-words (refused k) t z h = absurd (omega arith)
+
+  few-text : (x : Read Function) → Stands bs x Counts (need .cursor) → need .cursor .refusal ≤ 0 → need .words ≤ min (length ws) most → min (length ts) most < need .text → undumpedBy bs x ws ts ≡ undumpRefused 9 ws ts
+  few-text (got f rest) t z h k =
+      let n = counted f (t .2) in
+      rw (le-leb (length (wordsOf f)) (min (length ws) most) (omega arith), lt-leb (length (textOf f)) (min (length ts) most) (omega arith))
+  few-text (refused k) t z h l = absurd (omega arith)
+
+  -- what the run over the space left
+  module _ (again : Load) (ws′ ts′ : List ℕ) (z : need .cursor .refusal ≤ 0) (hw : need .words ≤ min (length ws) most) (ht : need .text ≤ min (length ts) most) where
+    stored-by : (x : Read Function) → Stands bs x Counts (need .cursor)
+        → Stands bs x (λ f. Does (functionPiece f) (space (fresh c) (take (need .words) ws) (take (need .text) ts)) (space again ws′ ts′)) (again .cursor)
+        → undumpedBy bs x ws ts
+        ≡ record {
+          answer = record { refusal = 0; words = need .words; text = need .text; read = length bs - (length bs - need .cursor .next) };
+          words = ws′ ++ drop (need .words) ws;
+          text = ts′ ++ drop (need .text) ts;
+        }
+    stored-by (got f rest) t u =
+        let n = counted f (t .2) in
+        let nw : need .words ≡ length (wordsOf f) = omega arith in
+        let nt : need .text ≡ length (textOf f) = omega arith in
+        let lt : length (take (need .text) ts) ≡ need .text = length-take-le (need .text) ts (omega arith) in
+        let lw : length (take (need .words) ws) ≡ need .words = length-take-le (need .words) ws (omega arith) in
+        let a = u .2 .does 0 (omega arith) (omega arith) in
+        let w : ws′ ≡ sets (take (need .words) ws) 0 (wordsOf f) = a .words .puts (omega arith) (omega arith) .1 ∙ rw (a .exact (omega arith)) in
+        let v : ts′ ≡ sets (take (need .text) ts) 0 (textOf f) = a .text .puts (omega arith) (omega arith) .1 in
+        let rd : length bs - length rest ≡ length bs - (length bs - need .cursor .next) = rw (t .1, length-drop) refl in
+        rw (
+          le-leb (length (wordsOf f)) (min (length ws) most) (omega arith),
+          le-leb (length (textOf f)) (min (length ts) most) (omega arith),
+          rd,
+          written (wordsOf f) ws′ ws (need .words) nw (omega arith) w,
+          written (textOf f) ts′ ts (need .text) nt (omega arith) v,
+          nw,
+          nt,
+        )
+    stored-by (refused k) t u = absurd (omega arith)
+
+-- ---- the returns of undump
+
+pub unnamed : (bs name ws ts : List ℕ) → nameOk name ≡ false → undumpRefused 1 ws ts ≡ undumped bs name ws ts
+unfolding undumped
+unnamed bs name ws ts e = rw e
+
+module _ (name ws ts : List ℕ) {bs u v : List ℕ} {c : Cursor} {need : Load} (e : nameOk name ≡ true) (h : Step bs loadHeader (λ v. Unit {0}) beginning c)
+    (k : Loads bs (loadFunction depth) repairedFunction (world (fresh c) [] []) (world need u v)) where
+  pub refused-reading : 0 < need .cursor .refusal → undumpRefused (need .cursor .refusal) ws ts ≡ undumped bs name ws ts
+  unfolding undumped
+  refused-reading z = rw e (sym (refused-by bs ws ts c need u v (loadChunk bs) (chunk-loaded h k) z))
+
+  pub refused-words : need .cursor .refusal ≤ 0 → min (length ws) most < need .words → undumpRefused 8 ws ts ≡ undumped bs name ws ts
+  unfolding undumped
+  refused-words z l = rw e (sym (few-words bs ws ts c need u v (loadChunk bs) (chunk-loaded h k) z l))
+
+  pub refused-text : need .cursor .refusal ≤ 0 → need .words ≤ min (length ws) most → min (length ts) most < need .text → undumpRefused 9 ws ts ≡ undumped bs name ws ts
+  unfolding undumped
+  refused-text z l m = rw e (sym (few-text bs ws ts c need u v (loadChunk bs) (chunk-loaded h k) z l m))
+
+  pub stored : {again : Load} {ws′ ts′ : List ℕ} → need .cursor .refusal ≤ 0 → need .words ≤ min (length ws) most → need .text ≤ min (length ts) most
+      → Loads bs (loadFunction depth) repairedFunction (world (fresh c) (take (need .words) ws) (take (need .text) ts)) (world again ws′ ts′)
+      → record {
+        answer = record { refusal = 0; words = need .words; text = need .text; read = length bs - (length bs - need .cursor .next) };
+        words = ws′ ++ drop (need .words) ws;
+        text = ts′ ++ drop (need .text) ts;
+      }
+      ≡ undumped bs name ws ts
+  unfolding undumped
+  stored {again} {ws′} {ts′} z l m r = rw e (sym (stored-by bs ws ts c need u v again ws′ ts′ z l m (loadChunk bs) (chunk-loaded h k) (chunk-loaded h r)))
+
+-- ---- a chunk name
+
+pub name-bad : (name : List ℕ) → isUtf8 name ≡ false → false ≡ nameOk name
+name-bad name e = rw e
+
+pub name-good : (name : List ℕ) → isUtf8 name ≡ true → leb (length name) most ≡ nameOk name
+name-good name e = rw e

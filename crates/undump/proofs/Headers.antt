@@ -1,0 +1,51 @@
+-- The header: bytes that are there, or are not, or are others.
+use Prim.Native.Nat.{ℕ, zero, suc, _+_, _-_, _≤_, _<_}
+use mathlib.Core.Path.{_≡_, refl, sym, _∙_}
+use mathlib.Core.List.{List, [], _∷_}
+use mathlib.Core.Bool.{Bool, true, false}
+use native.Mathlib.Omega.{arith}
+use lib.ListN.{length, take, drop, length-drop}
+use lib.Seq.{drop-drop}
+use borrow.Author.Tests.{eq-eqb}
+use Rattle.format.specs.Read.{Read, got, loadExactly, same, signature, format, loadHeader}
+use Rattle.format.proofs.RoundTrip.{same-true}
+use Rattle.undump.specs.declared.cursor.Cursor.{Cursor}
+use Rattle.undump.specs.Step.{Step}
+use Rattle.undump.proofs.Bytes.{block-got, block-none}
+use Rattle.undump.proofs.Steps.{takes, stops, bind}
+
+same-self : (s : List ℕ) → same s s ≡ true
+unfolding same
+same-self [] = refl
+same-self (a ∷ s) = rw (eq-eqb a a refl) (same-self s)
+
+-- a test that tells whether two lists are the same is the definition's
+same-is : (t : Bool) (a b : List ℕ) → (t ≡ true → a ≡ b) × (a ≡ b → t ≡ true) → same a b ≡ t
+same-is true a b h = rw (h .0 refl) (same-self b)
+same-is false a b h = by (same a b) refl
+  where
+    by : (x : Bool) → same a b ≡ x → x ≡ false
+    by true e = sym (h .1 (same-true a b e))
+    by false e = refl
+
+module _ (bs bytes : List ℕ) (n : ℕ) (s r : Cursor) (z : s .refusal ≤ 0) where
+  pub exactly-short : length bs - s .next < length bytes → r .refusal ≡ 2 → Step bs (loadExactly bytes n) (λ v. Unit {0}) s r
+  exactly-short h f = let k : length (drop (s .next) bs) < length bytes = rw length-drop h in stops z (rw (block-none (length bytes) (drop (s .next) bs) k)) f (omega arith)
+
+  module _ (t : Bool) (h : length bytes ≤ length bs - s .next)
+      (tells : (t ≡ true → take (s .next + length bytes - s .next) (drop (s .next) bs) ≡ bytes) × (take (s .next + length bytes - s .next) (drop (s .next) bs) ≡ bytes → t ≡ true)) where
+    enough : length bytes ≤ length (drop (s .next) bs)
+    enough = rw length-drop h
+
+    test : same (take (length bytes) (drop (s .next) bs)) bytes ≡ t
+    test = let e : s .next + length bytes - s .next ≡ length bytes = omega arith in rw e at (same-is t _ bytes tells)
+
+    pub exactly-others : t ≡ false → r .refusal ≡ n → 0 < n → Step bs (loadExactly bytes n) (λ v. Unit {0}) s r
+    exactly-others e f k = stops z (rw (block-got (length bytes) (drop (s .next) bs) enough, test, e)) f k
+
+    pub exactly-these : t ≡ true → r .refusal ≡ 0 → r .next ≡ s .next + length bytes → Step bs (loadExactly bytes n) (λ v. Unit {0}) s r
+    exactly-these e f g = takes {a = take (length bytes) (drop (s .next) bs)} {rest = drop (length bytes) (drop (s .next) bs)} z (rw (block-got (length bytes) (drop (s .next) bs) enough, test, e)) f (rw (drop-drop (length bytes) (s .next) bs, g)) tt
+
+pub header-loaded : {bs : List ℕ} {s m r : Cursor} → Step bs (loadExactly signature 3) (λ v. Unit {0}) s m → Step bs (loadExactly format 4) (λ v. Unit {0}) m r → Step bs loadHeader (λ v. Unit {0}) s r
+unfolding loadHeader
+header-loaded h k = bind _ h (k .stays) (λ v e. k)

@@ -1,0 +1,85 @@
+// Reading a chunk into lent memory (lundump.c; in the Rust, undump.rs).
+pub mod cursor;
+pub mod function;
+pub mod header;
+pub mod list;
+pub mod load;
+
+use cursor::remaining;
+use format::Undumped;
+use function::load_function;
+use header::load_header;
+use load::Load;
+ghost use mathlib.Core.Path.{_≡_};
+ghost use mathlib.Core.List.{[]};
+ghost use Prim.Native.Nat.{min};
+ghost use Rattle.format.specs.Undump.{nameOk, undumped, undumpRefused};
+ghost use Rattle.undump.specs.Step.{undumpLeft};
+
+// The most words, and the most text bytes.
+const MOST: usize = 16777216;
+
+// The most functions nested.
+const DEPTH: u32 = 200;
+
+fn refused(n: u32) -> Undumped
+    ensures { λ r. ⌜ r ≡ undumpRefused n [] [] .answer ⌝ }
+{
+    Undumped {
+        refusal: n,
+        words: 0,
+        text: 0,
+        read: 0,
+    }
+}
+
+// Whether a chunk name is UTF-8, and not too long.
+fn name_ok(name: &[u8]) -> bool
+    ensures { λ r. ⌜ r ≡ nameOk (now (name .entry)) ⌝ }
+{
+    if !utf8::is_utf8(name) {
+        return false;
+    }
+    name.len() <= MOST
+}
+
+fn least(a: usize, b: usize) -> usize
+    ensures { λ r. ⌜ r ≡ min a b ⌝ }
+{
+    if a <= b { a } else { b }
+}
+
+// Reads a chunk into lent memory: once with no space, to count and to find what refuses it, then, where all fits, to write.
+pub fn undump(chunk: &[u8], name: &[u8], words: &mut [u32], text: &mut [u8]) -> Undumped
+    ensures { λ r. ⌜ undumpLeft r (now (words .exit)) (now (text .exit)) ≡ undumped (now (chunk .entry)) (now (name .entry)) (now (words .entry)) (now (text .entry)) ⌝ }
+{
+    if !name_ok(name) {
+        return refused(1);
+    }
+    let start = Load {
+        cursor: load_header(chunk),
+        words: 0,
+        text: 0,
+    };
+    let mut no_words = [0u32; 0];
+    let mut no_text = [0u8; 0];
+    let need = load_function(chunk, &mut no_words, &mut no_text, start, DEPTH);
+    if 0 < need.cursor.refusal {
+        return refused(need.cursor.refusal);
+    }
+    let n = need.words;
+    let m = need.text;
+    if least(words.len(), MOST) < n {
+        return refused(8);
+    }
+    if least(text.len(), MOST) < m {
+        return refused(9);
+    }
+    load_function(chunk, &mut words[..n], &mut text[..m], start, DEPTH);
+    Undumped {
+        refusal: 0,
+        words: n,
+        text: m,
+        read: chunk.len() - remaining(chunk, need.cursor.next),
+    }
+}
