@@ -1,0 +1,18 @@
+// The library's face: the calls for C, each with the contract of the call that it passes on.
+use format::Undumped;
+ghost use mathlib.Core.Path.{_≡_};
+ghost use Rattle.format.specs.Undump.{undumped};
+ghost use Rattle.undump.specs.Step.{undumpLeft};
+
+// Reads a chunk into lent memory: undump.
+#[no_mangle]
+pub extern "C" fn lua_chunk_undump(
+    chunk: &[u8],
+    name: &[u8],
+    words: &mut [u32],
+    text: &mut [u8],
+) -> Undumped
+    ensures { λ r. ⌜ undumpLeft r (now (words .exit)) (now (text .exit)) ≡ undumped (now (chunk .entry)) (now (name .entry)) (now (words .entry)) (now (text .entry)) ⌝ }
+{
+    undump::undump(chunk, name, words, text)
+}

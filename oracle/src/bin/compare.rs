@@ -1,0 +1,307 @@
+//! Compares this library's calls with the Rust's, through the exported functions.
+//!
+//!     compare N CHUNK..        each chunk, and N damaged copies of it
+//!     compare bench CHUNK..    times of both, medians of 21
+//!
+//! undump: the refusal or the whole tree with sources filled in, the bytes read (the shortest prefix that the Rust accepts), that
+//! space beyond the used part and all space on a refusal is untouched, exact space, and one word and one byte too little.
+//! A chunk that is refused by 6 or more lies outside the domain of comparison and is only counted.
+
+use std::hint::black_box;
+use std::panic::{AssertUnwindSafe, catch_unwind};
+use std::time::Instant;
+
+use oracle::vm::proto::Proto;
+use oracle::vm::undump::undump;
+use oracle::vm::value::Val;
+
+#[repr(C)]
+#[derive(Debug, Clone, Copy, PartialEq)]
+struct Undumped {
+    refusal: u32,
+    words: usize,
+    text: usize,
+    read: usize,
+}
+
+unsafe extern "C" {
+    fn lua_chunk_undump(
+        chunk: *const u8,
+        chunk_len: usize,
+        name: *const u8,
+        name_len: usize,
+        words: *mut u32,
+        words_len: usize,
+        text: *mut u8,
+        text_len: usize,
+    ) -> Undumped;
+}
+
+const NAME: &str = "=n";
+
+fn ours(chunk: &[u8], words: &mut [u32], text: &mut [u8]) -> Undumped {
+    unsafe {
+        lua_chunk_undump(
+            chunk.as_ptr(),
+            chunk.len(),
+            NAME.as_ptr(),
+            NAME.len(),
+            words.as_mut_ptr(),
+            words.len(),
+            text.as_mut_ptr(),
+            text.len(),
+        )
+    }
+}
+
+/// A walk over a store, each string where the one before ended.
+struct Walk<'a> {
+    words: &'a [u32],
+    text: &'a [u8],
+    at: usize,
+    to: usize,
+}
+
+impl<'a> Walk<'a> {
+    fn word(&mut self) -> u32 {
+        self.at += 1;
+        self.words[self.at - 1]
+    }
+
+    fn string(&mut self) -> &'a [u8] {
+        let (place, len) = (self.word() as usize, self.word() as usize);
+        assert_eq!(place, self.to);
+        self.to += len;
+        &self.text[place..self.to]
+    }
+
+    fn list(&mut self, len: usize) {
+        assert_eq!(self.word() as usize, len);
+    }
+
+    fn constant(&mut self, p: &Proto, i: usize, next: &mut usize) {
+        if let Some((at, bytes)) = p.string_pool.get(*next) {
+            if *at as usize == i {
+                *next += 1;
+                assert_eq!(self.word(), 4);
+                assert_eq!(self.string(), &bytes[..]);
+                return;
+            }
+        }
+        let words = match p.constants[i] {
+            Val::Nil => [0, 0, 0],
+            Val::Bool(b) => [1, u32::from(b), 0],
+            Val::Num(n) => [3, (n.to_bits() >> 32) as u32, n.to_bits() as u32],
+            _ => panic!("a constant of another kind"),
+        };
+        assert_eq!([self.word(), self.word(), self.word()], words);
+    }
+
+    /// The function that stands here is p, outer being the source that an inherited one stands for.
+    fn function(&mut self, p: &Proto, outer: &str) {
+        let source = match self.word() {
+            1 => self.string(),
+            own => {
+                assert_eq!([own, self.word(), self.word()], [0, 0, 0]);
+                outer.as_bytes()
+            }
+        };
+        assert_eq!(source, p.source.as_bytes());
+        assert_eq!([self.word(), self.word()], [p.line_defined, p.last_line_defined]);
+        assert_eq!(self.word().to_be_bytes(), [p.num_upvalues, p.num_params, p.is_vararg, p.max_stack_size]);
+        self.list(p.code.len());
+        for &word in &p.code {
+            assert_eq!(self.word(), word);
+        }
+        self.list(p.constants.len());
+        let mut next = 0;
+        for i in 0..p.constants.len() {
+            self.constant(p, i, &mut next);
+        }
+        self.list(p.protos.len());
+        for child in &p.protos {
+            self.function(child, &p.source);
+        }
+        self.list(p.line_info.len());
+        for &line in &p.line_info {
+            assert_eq!(self.word(), line);
+        }
+        self.list(p.local_vars.len());
+        for v in &p.local_vars {
+            assert_eq!(self.string(), v.name.as_bytes());
+            assert_eq!([self.word(), self.word()], [v.start_pc, v.end_pc]);
+        }
+        self.list(p.upvalue_names.len());
+        for name in &p.upvalue_names {
+            assert_eq!(self.string(), name.as_bytes());
+        }
+    }
+}
+
+#[derive(Default)]
+struct Counts {
+    chunks: u64,
+    outside: u64,
+    panics: u64,
+    differ: u64,
+    refusals: [u64; 10],
+}
+
+/// What no call has written.
+const WORD: u32 = 0xA5A5_A5A5;
+const BYTE: u8 = 0x5A;
+
+/// Whether exact space and one too little of each give what they must.
+fn tight(chunk: &[u8], answer: Undumped, words: &[u32], text: &[u8]) -> bool {
+    let (mut w, mut t) = (vec![WORD; words.len()], vec![BYTE; text.len()]);
+    let exact = ours(chunk, &mut w, &mut t) == answer && w == words && t == text;
+    let mut few = vec![WORD; words.len() - 1];
+    let eight = ours(chunk, &mut few, &mut t).refusal == 8 && few.iter().all(|x| *x == WORD) && t == text;
+    let nine = text.is_empty() || {
+        let mut few = vec![BYTE; text.len() - 1];
+        ours(chunk, &mut w, &mut few).refusal == 9 && few.iter().all(|x| *x == BYTE) && w == words
+    };
+    exact && eight && nine
+}
+
+/// The refusal that the Rust's message stands for.
+fn refusal(message: &str) -> u32 {
+    match () {
+        () if message.contains("truncated") => 2,
+        () if message.contains("not a precompiled") => 3,
+        () if message.contains("incompatible") => 4,
+        () if message.contains("bad constant") => 5,
+        () => 99,
+    }
+}
+
+fn same(chunk: &[u8], words: &mut [u32], text: &mut [u8], counts: &mut Counts) -> bool {
+    words.fill(WORD);
+    text.fill(BYTE);
+    let r = ours(chunk, words, text);
+    counts.refusals[r.refusal as usize] += 1;
+    let zeros = r.refusal == 0 || [r.words, r.text, r.read] == [0, 0, 0];
+    let (words, words_beyond) = words.split_at(r.words);
+    let (text, text_beyond) = text.split_at(r.text);
+    if !zeros || words_beyond.iter().any(|x| *x != WORD) || text_beyond.iter().any(|x| *x != BYTE) {
+        return false;
+    }
+    if r.refusal >= 6 {
+        counts.outside += 1;
+        return true;
+    }
+    match catch_unwind(|| undump(chunk, NAME)) {
+        Err(_) => {
+            counts.panics += 1;
+            r.refusal == 2
+        }
+        Ok(Err(e)) => refusal(&format!("{e:?}")) == r.refusal,
+        Ok(Ok(p)) => {
+            r.refusal == 0
+                && catch_unwind(AssertUnwindSafe(|| {
+                    let mut walk = Walk { words, text, at: 0, to: 0 };
+                    walk.function(&p, NAME);
+                    assert_eq!([walk.at, walk.to], [words.len(), text.len()]);
+                }))
+                .is_ok()
+                && undump(&chunk[..r.read], NAME).is_ok()
+                && undump(&chunk[..r.read - 1], NAME).is_err()
+                && tight(chunk, r, words, text)
+        }
+    }
+}
+
+/// SplitMix64, from a fixed seed.
+struct Random(u64);
+
+impl Random {
+    fn next(&mut self) -> u64 {
+        self.0 = self.0.wrapping_add(0x9E37_79B9_7F4A_7C15);
+        let mut z = self.0;
+        z = (z ^ (z >> 30)).wrapping_mul(0xBF58_476D_1CE4_E5B9);
+        z = (z ^ (z >> 27)).wrapping_mul(0x94D0_49BB_1331_11EB);
+        z ^ (z >> 31)
+    }
+
+    fn below(&mut self, n: usize) -> usize {
+        (self.next() % n as u64) as usize
+    }
+}
+
+/// A copy with a byte or a bit changed, cut short, with a byte more, or with some bytes at values that mean something.
+fn damaged(chunk: &[u8], r: &mut Random) -> Vec<u8> {
+    let mut d = chunk.to_vec();
+    let i = r.below(d.len());
+    match r.below(5) {
+        0 => d[i] = r.next() as u8,
+        1 => d[i] ^= 1 << r.below(8),
+        2 => d.truncate(i),
+        3 => d.insert(i, r.next() as u8),
+        _ => {
+            for _ in 0..=r.below(6) {
+                let i = r.below(d.len());
+                d[i] = [0, 1, 2, 4, 0xFF, 0x80, 0xC2, 0xE2][r.below(8)];
+            }
+        }
+    }
+    d
+}
+
+fn compare(chunk: &[u8], counts: &mut Counts) {
+    counts.chunks += 1;
+    let (mut words, mut text) = (vec![0; chunk.len() + 64], vec![0; 3 * chunk.len() + 64]);
+    if !same(chunk, &mut words, &mut text, counts) {
+        counts.differ += 1;
+        eprintln!("differs: {chunk:02x?}");
+    }
+}
+
+fn median(mut run: impl FnMut() -> u128) -> f64 {
+    run();
+    let mut ns: Vec<u128> = (0..21).map(|_| run()).collect();
+    ns.sort_unstable();
+    ns[10] as f64
+}
+
+fn bench(path: &str) {
+    let chunk = std::fs::read(path).unwrap();
+    let (mut words, mut text) = (vec![0; chunk.len() + 64], vec![0; 3 * chunk.len() + 64]);
+    let r = ours(&chunk, &mut words, &mut text);
+    assert_eq!(r.refusal, 0);
+    let (words, text) = (&mut words[..r.words], &mut text[..r.text]);
+    let here = median(|| {
+        let start = Instant::now();
+        black_box(ours(black_box(&chunk), words, text));
+        start.elapsed().as_nanos()
+    });
+    let rust = median(|| {
+        let start = Instant::now();
+        let p = black_box(undump(black_box(&chunk), NAME));
+        let ns = start.elapsed().as_nanos();
+        drop(p);
+        ns
+    });
+    let n = chunk.len() as f64;
+    println!("{path}: {n} bytes, undump {:.3} ns a byte, the Rust {:.3}, ratio {:.2}", here / n, rust / n, here / rust);
+}
+
+fn main() {
+    let args: Vec<String> = std::env::args().skip(1).collect();
+    if args[0] == "bench" {
+        args[1..].iter().for_each(|path| bench(path));
+        return;
+    }
+    std::panic::set_hook(Box::new(|_| {}));
+    let copies: usize = args[0].parse().expect("compare N CHUNK.. | compare bench CHUNK..");
+    let (mut counts, mut random) = (Counts::default(), Random(7));
+    for path in &args[1..] {
+        let chunk = std::fs::read(path).unwrap();
+        compare(&chunk, &mut counts);
+        for _ in 0..copies {
+            compare(&damaged(&chunk, &mut random), &mut counts);
+        }
+    }
+    let Counts { chunks, outside, panics, differ, refusals } = counts;
+    println!("{chunks} chunks, {differ} differ; {outside} outside the domain, {panics} where the Rust panics; by refusal {refusals:?}");
+    assert_eq!(differ, 0);
+}
