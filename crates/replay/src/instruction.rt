@@ -1,12 +1,12 @@
 // instructions against instructions.rs.
-use crate::record::Compared;
-use crate::record::after;
-use crate::record::byte;
-use crate::record::part;
-use crate::record::word;
+use crate::Compared;
 use instructions::Instruction;
 use instructions::OpArgMask;
 use instructions::OpMode;
+use records::after;
+use records::byte;
+use records::part;
+use records::word;
 
 // The number that has these 32 bits.
 fn signed(bits: u32) -> i32 {

@@ -4,15 +4,19 @@
 //   I  an instruction word, then its opcode, A, B, C, Bx and sBx, 4 bytes each
 //   O  an opcode, its name padded to 9, mode, kinds of B and C, test, sets A, 1 byte each
 mod instruction;
-mod record;
 mod text;
 
 use libc::STDIN_FILENO;
 use libc::STDOUT_FILENO;
-use record::Compared;
-use record::after;
-use record::byte;
+use records::after;
+use records::byte;
 ghost use mathlib.Core.Path.{_≡_};
+
+// Where the next record stands, and whether the answers are the same.
+pub struct Compared {
+    pub next: usize,
+    pub same: bool,
+}
 
 // How far the records are read, and what was found.
 struct Tally {
@@ -73,7 +77,7 @@ fn all(records: &[u8]) -> Tally {
 fn main() {
     let mut space = io::large_buffer();
     let n = io::read_full(STDIN_FILENO, &mut space);
-    let t = all(record::first(&space, n));
+    let t = all(records::first(&space, n));
     io::print_decimal(STDOUT_FILENO, t.compared as u64);
     io::write_all(STDOUT_FILENO, b" answers compared, ");
     io::print_decimal(STDOUT_FILENO, t.differ as u64);

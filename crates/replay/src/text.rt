@@ -1,10 +1,10 @@
 // utf8 against String::from_utf8_lossy and std::str::from_utf8.
-use crate::record::Compared;
-use crate::record::after;
-use crate::record::byte;
-use crate::record::first;
-use crate::record::half;
-use crate::record::part;
+use crate::Compared;
+use records::after;
+use records::byte;
+use records::first;
+use records::half;
+use records::part;
 ghost use Prim.Native.Nat.{_≤_};
 ghost use lib.ListN.{length};
 

@@ -1,12 +1,6 @@
-// Reading records.
+// Reading records: bytes with numbers in them, low byte first. Past the end there are zeros.
 ghost use Prim.Native.Nat.{_≤_};
 ghost use lib.ListN.{length};
-
-// Where the next record stands, and whether the answers are the same.
-pub struct Compared {
-    pub next: usize,
-    pub same: bool,
-}
 
 // A byte, 0 past the end.
 pub fn byte(records: &[u8], at: usize) -> u8 {
