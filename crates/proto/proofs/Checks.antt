@@ -1,0 +1,300 @@
+-- Steps of the check, one after the other: words, strings and lists.
+use Prim.Native.Nat.{ℕ, suc, zero-le, _+_, _-_, _≤_, _<_, _^_}
+use mathlib.Core.Path.{_≡_, refl, sym, ap, _∙_}
+use mathlib.Core.List.{List, [], _∷_}
+use mathlib.Core.Bool.{Bool, true, false}
+use native.Mathlib.Omega.{arith}
+use native.Mathlib.Decide.{decLt}
+use native.Mathlib.Nat.{add-zero, add-assoc}
+use lib.ListN.{length, drop, getD, length-append, length-drop, length-take, List·getD-eq-default}
+use lib.Seq.{getD-take, getD-drop, length-take-le}
+use Rattle.lent.specs.Memory.{Every, Word, Bytes}
+use Rattle.utf8.specs.Utf8.{isUtf8}
+use Rattle.utf8.specs.Laws.{utf8-bytes}
+use Rattle.format.specs.Store.{Piece, word, _⊕_, string, pieces, list, ints}
+use Rattle.format.specs.Stored.{part}
+use Rattle.format.specs.Valid.{Name, ValidList}
+use Rattle.format.proofs.Stored.{Here, here-left, here-right, here-part}
+use Rattle.proto.specs.declared.formed.Checked.{Checked}
+use Rattle.proto.specs.Walk.{Stands}
+use Rattle.proto.specs.Formed.{Passed, Check, Within, three, Three}
+use Rattle.proto.proofs.Heres.{here-length, here-get, here-none, here-one, here-join, here-take}
+use Rattle.proto.proofs.Pieces.{Same, same-refl, stands-same, same-sym, stands-left, stands-right}
+
+pub never : {b : Bool} → b ≡ true → b ≡ false → ⊥
+never p q = let z : _≡_ {A = ℕ} 0 1 = cc in omega arith
+
+-- the piece is that of a valid value
+pub record As {A : Type 0} (ok : A → Type 0) (piece : A → Piece) (p : Piece) : Type 0 where
+  pub value : A
+  pub valid : ok value
+  pub same : Same (piece value) p
+
+passed-same : {p q : Piece} {s r : Checked} → Same p q → Passed p s r → Passed q s r
+passed-same {s = s} e h = record { ok = h .ok; at = rw (← e .words (s .to)) (h .at); to = rw (← e .text) (h .to) }
+
+module _ {words text : List ℕ} where
+  module _ {A : Type 0} {ok : A → Type 0} {piece : A → Piece} where
+    -- what is not well formed stays so
+    pub check-stopped : {s : Checked} → s .ok ≡ false → Check words text ok piece s s
+    check-stopped e = record { sound = λ h. absurd (never h e); complete = λ h a k t. absurd (never h e) }
+
+    pub check-wrong : {s r : Checked} → r .ok ≡ false → (s .ok ≡ true → (a : A) → ok a → Stands words text (s .at) (s .to) (piece a) → ⊥) → Check words text ok piece s r
+    check-wrong e f = record { sound = λ h. absurd (never h e); complete = λ h a k t. absurd (f h a k t) }
+
+    -- past what was found
+    pub check-passed : {s r : Checked} (c : Check words text ok piece s r) → (e : r .ok ≡ true) → Passed (piece (c .sound e .1 .value)) s r
+    check-passed c e = let x = c .sound e in c .complete (x .0) (x .1 .value) (x .1 .valid) (x .1 .stands)
+
+  module _ {A B : Type 0} {ok : A → Type 0} {ok′ : B → Type 0} {p : A → Piece} {q : B → Piece} where
+    -- the same check of other values
+    pub check-as : {s r : Checked} → ((a : A) → ok a → As ok′ q (p a)) → ((b : B) → ok′ b → Stands words text (s .at) (s .to) (q b) → As ok p (q b)) → Check words text ok p s r → Check words text ok′ q s r
+    check-as f g c =
+        record {
+          sound = λ h.
+              let x = c .sound h in
+              let y = f (x .1 .value) (x .1 .valid) in
+              (x .0, record { value = y .value; valid = y .valid; stands = stands-same (same-sym (y .same)) (x .1 .stands) });
+          complete = λ h b k t.
+              let y = g b k t in
+              passed-same (y .same) (c .complete h (y .value) (y .valid) (stands-same (same-sym (y .same)) t));
+        }
+
+    pub check-then : {s m r : Checked} → Check words text ok p s m → Check words text ok′ q m r → Check {A = A × B} words text (λ v. ok (v .0) × ok′ (v .1)) (λ v. p (v .0) ⊕ q (v .1)) s r
+    check-then {s} {m} {r} c d =
+        record {
+          sound = λ h.
+              let y = d .sound h in
+              let x = c .sound (y .0) in
+              let e = check-passed c (y .0) in
+              let a = x .1 .value in
+              let b = y .1 .value in
+              let t = y .1 .stands in
+              let w : Here words (s .at + length (p a .words (s .to))) (q b .words (s .to + length (p a .text))) = rw (e .at, e .to) at (t .in-words) in
+              let z : Here text (s .to + length (p a .text)) (q b .text) = rw (e .to) at (t .in-text) in (
+                x .0,
+                record {
+                  value = (a, b);
+                  valid = (x .1 .valid, y .1 .valid);
+                  stands = record {
+                    in-words = here-join (p a .words (s .to)) (q b .words (s .to + length (p a .text))) (x .1 .stands .in-words) w;
+                    in-text = here-join (p a .text) (q b .text) (x .1 .stands .in-text) z;
+                  };
+                },
+              );
+          complete = λ h v k t.
+              let e = c .complete h (v .0) (k .0) (stands-left (p (v .0)) (q (v .1)) t) in
+              let u : Stands words text (m .at) (m .to) (q (v .1)) = rw (e .at, e .to) (stands-right (p (v .0)) (q (v .1)) t) in
+              let g = d .complete (e .ok) (v .1) (k .1) u in
+              record {
+                ok = g .ok;
+                at = g .at ∙ rw (e .at, e .to, length-append (p (v .0) .words (s .to)) (q (v .1) .words (s .to + length (p (v .0) .text)))) (add-assoc _ _ _);
+                to = g .to ∙ rw (e .to, length-append (p (v .0) .text) (q (v .1) .text)) (add-assoc _ _ _);
+              };
+        }
+
+  -- ---- a word
+
+  module _ {s : Checked} {low high : ℕ} where
+    pub word-good : s .ok ≡ true → s .at < length words → low ≤ getD words (s .at) 0 → getD words (s .at) 0 ≤ high
+        → Check words text (Within low high) word s (record { ok = true; at = s .at + 1; to = s .to })
+    word-good e h l k =
+        record {
+          sound = λ z. (e, record { value = getD words (s .at) 0; valid = record { above = l; below = k }; stands = record { in-words = here-one h; in-text = here-none } });
+          complete = λ z v y t. record { ok = refl; at = refl; to = sym (add-zero _) };
+        }
+
+    pub word-bad : {r : Checked} → r .ok ≡ false → (s .at < length words → low ≤ getD words (s .at) 0 → getD words (s .at) 0 ≤ high → ⊥) → Check words text (Within low high) word s r
+    word-bad e f =
+        check-wrong e
+        (λ o v k t.
+        let g : getD words (s .at) 0 ≡ v = here-get v [] (t .in-words) in
+        f (omega (arith, here-length (v ∷ []) (t .in-words))) (omega (arith, k .above)) (omega (arith, k .below)))
+
+  pub any-word : {s r : Checked} → Check words text (Within 0 4294967295) word s r → Check words text Word word s r
+  any-word c =
+      check-as (λ v k. record { value = v; valid = omega (arith, k .below); same = same-refl }) (λ v k t. record { value = v; valid = record { above = zero-le; below = omega arith }; same = same-refl }) c
+
+  -- three words
+  pub check-three : {s a b r : Checked} (kind x y : ℕ) → Check words text (Within kind kind) word s a → Check words text (Within 0 x) word a b → Check words text (Within 0 y) word b r
+      → Check words text (Three kind x y) three s r
+  check-three kind x y c d f =
+      check-as
+      (λ v k. record {
+        value = record { first = v .0; second = v .1 .0; third = v .1 .1 };
+        valid = record { is = omega (arith, k .0 .above, k .0 .below); second = k .1 .0 .below; third = k .1 .1 .below };
+        same = same-refl;
+      })
+      (λ w k t. record {
+        value = (w .first, (w .second, w .third));
+        valid = (record { above = omega (arith, k .is); below = omega (arith, k .is) }, (record { above = zero-le; below = k .second }, record { above = zero-le; below = k .third }));
+        same = same-refl;
+      })
+      (check-then c (check-then d f))
+
+-- ---- lists
+
+-- n items
+pub record CheckAll {A : Type 0} (words text : List ℕ) (P : A → Type 0) (piece : A → Piece) (n : ℕ) (s r : Checked) : Type 0 where
+  pub all : Check words text (λ l. (length l ≡ n) × Every P l) (pieces piece) s r
+
+module _ {A : Type 0} {words text : List ℕ} {P : A → Type 0} {piece : A → Piece} where
+  pub all-none : {s : Checked} → CheckAll words text P piece 0 s s
+  unfolding pieces Every
+  all-none {s} =
+      record {
+        all = record {
+          sound = λ h. (h, record { value = []; valid = (refl, tt); stands = record { in-words = here-none; in-text = here-none } });
+          complete = λ h l k t. go l (k .0) h;
+        };
+      }
+    where
+      go : (l : List A) → length l ≡ 0 → s .ok ≡ true → Passed (pieces piece l) s s
+      go [] e h = record { ok = h; at = sym (add-zero _); to = sym (add-zero _) }
+      go (a ∷ l) e h = absurd (omega arith)
+
+  pub all-more : {s m : Checked} → Check words text P piece s m → (n : ℕ) (r : Checked) → CheckAll words text P piece n m r → CheckAll words text P piece (suc n) s r
+  unfolding pieces Every
+  all-more {s} c n r d =
+      record {
+        all = check-as (λ v k. record { value = v .0 ∷ v .1; valid = (ap suc (k .1 .0), (k .0, k .1 .1)); same = same-refl }) (λ l k t. go l (k .0) (k .1)) (check-then c (d .all));
+      }
+    where
+      go : (l : List A) → length l ≡ suc n → Every P l → As {A = A × List A} (λ v. P (v .0) × ((length (v .1) ≡ n) × Every P (v .1))) (λ v. piece (v .0) ⊕ pieces piece (v .1)) (pieces piece l)
+      go [] e k = absurd (omega arith)
+      go (a ∷ l) e k = record { value = (a, l); valid = (k .0, (omega arith, k .1)); same = same-refl }
+
+  pub all-stopped : {s : Checked} → s .ok ≡ false → (n : ℕ) → CheckAll words text P piece n s s
+  all-stopped e n = record { all = check-stopped e }
+
+  -- a count, and as many items
+  pub counted : {n : ℕ} {s m r : Checked} → n ≡ getD words (s .at) 0 → Check words text (Within 0 65535) word s m → CheckAll words text P piece n m r → Check words text (ValidList P) (list piece) s r
+  counted {n} {s} {m} {r} e c d =
+      let w = check-then c (d .all) in
+      record {
+        sound = λ h.
+            let x = w .sound h in
+            let v = x .1 .value in
+            let k = x .1 .valid in
+            let g : v .0 ≡ length (v .1) = sym (here-get (v .0) _ (x .1 .stands .in-words)) ∙ sym e ∙ sym (k .1 .0) in
+            let u : Stands words text (s .at) (s .to) (list piece (v .1)) = rw g at (x .1 .stands) in
+            (x .0, record { value = v .1; valid = record { items = k .1 .1; short = rw g at (k .0 .below) }; stands = u });
+        complete = λ h l k t.
+            let g : length l ≡ n = sym (here-get (length l) _ (t .in-words)) ∙ sym e in
+            w .complete h (length l, l) (record { above = zero-le; below = k .short }, (g, k .items)) t;
+      }
+
+-- ---- words and bytes as they stand
+
+every-below : (b : ℕ) (l : List ℕ) → ((i : ℕ) → getD l i 0 < b) → Every (λ x. x < b) l
+unfolding Every
+every-below b [] f = tt
+every-below b (x ∷ l) f = (f 0, every-below b l (λ i. f (suc i)))
+
+-- a part of a slice has the slice's bound
+part-below : (b : ℕ) (xs : List ℕ) (place n : ℕ) → ((i : ℕ) → getD xs i 0 < b) → Every (λ x. x < b) (part xs place n)
+part-below b xs place n f = every-below b (part xs place n) go
+  where
+    go : (i : ℕ) → getD (part xs place n) i 0 < b
+    go i = elim (decLt i n) [
+      | yes h ↦ rw (getD-take n (drop place xs) i 0 h, getD-drop place xs i 0) (f (place + i))
+      | no h ↦ let e : length (part xs place n) ≤ i = rw length-take (omega arith) in rw (List·getD-eq-default (part xs place n) 0 e) (omega (arith, f 0))
+    ]
+
+-- words after their count
+module _ {words : List ℕ} (text : List ℕ) {s m : Checked} {n : ℕ} (e : n ≡ getD words (s .at) 0) (c : (t : List ℕ) → Check words t (Within 0 65535) word s m) where
+  counted-at : m .ok ≡ true → (m .at ≡ s .at + 1) × (m .to ≡ s .to) × (s .at < length words) × (n ≤ 65535)
+  counted-at o =
+      let p = check-passed (c text) o in
+      let x = c text .sound o .1 in
+      let g = here-get (x .value) [] (x .stands .in-words) in
+      (p .at, omega (arith, p .to), omega (arith, here-length (x .value ∷ []) (x .stands .in-words)), omega (arith, x .valid .below))
+
+  pub ints-within : m .ok ≡ true → m .at ≤ length words
+  ints-within o = omega (arith, counted-at o)
+
+  pub ints-good : ((i : ℕ) → getD words i 0 < 2 ^ 32) → m .ok ≡ true → n ≤ length words - m .at → Check words text (ValidList Word) ints s (record { ok = true; at = m .at + n; to = m .to })
+  ints-good w o h =
+      let k = counted-at o in
+      let l = part words (s .at + 1) n in
+      let g : length l ≡ n = length-take-le n (drop (s .at + 1) words) (rw length-drop (omega arith)) in
+      let u : Here words (s .at) (length l ∷ l) = rw g (rw (← e) at (here-join (getD words (s .at) 0 ∷ []) l (here-one (k .2)) (here-take n))) in
+      record {
+        sound = λ z. (
+          c text .sound o .0,
+          record { value = l; valid = record { items = part-below (2 ^ 32) words (s .at + 1) n w; short = omega arith }; stands = record { in-words = u; in-text = here-none } },
+        );
+        complete = λ z x v t. let q = here-get (length x) x (t .in-words) in record { ok = refl; at = omega arith; to = omega arith };
+      }
+
+  pub ints-bad : {r : Checked} → r .ok ≡ false → (m .ok ≡ true → n ≤ length words - m .at → ⊥) → Check words text (ValidList Word) ints s r
+  ints-bad o f =
+      check-wrong o
+      (λ h l v t.
+      let p = c text .complete h (length l) (record { above = zero-le; below = v .short }) (record { in-words = here-left (length l ∷ []) l (t .in-words); in-text = here-none }) in
+      let q = here-get (length l) l (t .in-words) in
+      f (p .ok) (omega (arith, here-length (length l ∷ l) (t .in-words), p .at)))
+
+-- ---- strings
+
+module _ {words : List ℕ} (text : List ℕ) {s a b : Checked} {place n : ℕ} {found : List ℕ} (c : (t : List ℕ) → Check words t (Within 0 4294967295) word s a) (d : (t : List ℕ) → Check words t (Within 0 4294967295) word a b)
+    (e : place ≡ getD words (s .at) 0) (f : n ≡ getD words (a .at) 0) (g : found ≡ part text place n) (w : (i : ℕ) → getD words i 0 < 2 ^ 32) where
+  both : Check {A = ℕ × ℕ} words text (λ v. Within 0 4294967295 (v .0) × Within 0 4294967295 (v .1)) (λ v. word (v .0) ⊕ word (v .1)) s b
+  both = check-then (c text) (d text)
+
+  -- where two words stand, they are those that were read
+  two-words : {x y : ℕ} → s .ok ≡ true → Here words (s .at) (x ∷ y ∷ []) → (place ≡ x) × (n ≡ y) × Passed (word x ⊕ word y) s b
+  two-words {x} {y} o h =
+      let k = here-get x (y ∷ []) h in
+      let i : Within 0 4294967295 x = record { above = zero-le; below = omega (arith, w (s .at)) } in
+      let m = c text .complete o x i (record { in-words = here-left (x ∷ []) (y ∷ []) h; in-text = here-none }) in
+      let l : getD words (a .at) 0 ≡ y = rw (m .at) (here-get y [] (here-right (x ∷ []) (y ∷ []) h)) in
+      let j : Within 0 4294967295 y = record { above = zero-le; below = omega (arith, w (a .at)) } in
+      (e ∙ k, f ∙ l, both .complete o (x, y) (i, j) (record { in-words = h; in-text = here-none }))
+
+  pub string-good : ((i : ℕ) → getD text i 0 < 256) → b .ok ≡ true → place ≡ s .to → length found ≡ n → Check words text Bytes string s (record { ok = true; at = b .at; to = place + n })
+  string-good y o q z =
+      record {
+        sound = λ h.
+            let x = both .sound o in
+            let v = x .1 .value in
+            let r = two-words {x = v .0} {y = v .1} (x .0) (x .1 .stands .in-words) in
+            let e₀ : v .0 ≡ s .to = sym (r .0) ∙ q in
+            let e₁ : v .1 ≡ length found = sym (r .1) ∙ sym z in
+            let i : Here words (s .at) (s .to ∷ length found ∷ []) = rw (e₀, e₁) at (x .1 .stands .in-words) in
+            let j : Here text (s .to) found = rw (g, q) (here-take n) in
+            (x .0, record { value = found; valid = rw g (part-below 256 text place n y); stands = record { in-words = i; in-text = j } });
+        complete = λ h l k u. let r = two-words {x = s .to} {y = length l} h (u .in-words) in record { ok = refl; at = r .2 .at; to = omega (arith, r .0, r .1) };
+      }
+
+  pub string-bad : {r : Checked} → r .ok ≡ false → (b .ok ≡ true → place ≡ s .to → length found ≡ n → ⊥) → Check words text Bytes string s r
+  string-bad o q =
+      check-wrong o
+      (λ h l k u.
+      let r = two-words {x = s .to} {y = length l} h (u .in-words) in
+      let i : found ≡ l = g ∙ rw (r .0, r .1) (here-part l (u .in-text)) in
+      q (r .2 .ok) (r .0) (ap length i ∙ sym (r .1)))
+
+module _ {words text : List ℕ} {s r : Checked} (c : Check words text Bytes string s r) where
+  pub string-within : r .ok ≡ true → s .to ≤ r .to
+  string-within o = omega (arith, check-passed c o .to)
+
+  module _ {b : List ℕ} {u : Bool} (e : u ≡ isUtf8 b) (f : b ≡ part text (s .to) (r .to - s .to)) where
+    string-is : (l : List ℕ) → Stands words text (s .at) (s .to) (string l) → Passed (string l) s r → b ≡ l
+    string-is l t p = let n : r .to - s .to ≡ length l = omega (arith, p .to) in f ∙ rw n (here-part l (t .in-text))
+
+    pub name-good : u ≡ true → Check words text (λ n. Name n) string s r
+    name-good k =
+        record {
+          sound = λ h.
+              let x = c .sound h in
+              let i : b ≡ x .1 .value = string-is (x .1 .value) (x .1 .stands) (check-passed c h) in
+              (x .0, record { value = x .1 .value; valid = rw i at (sym e ∙ k); stands = x .1 .stands });
+          complete = λ h l v t. c .complete h l (utf8-bytes l v) t;
+        }
+
+    pub name-bad : {q : Checked} → q .ok ≡ false → u ≡ false → Check words text (λ n. Name n) string s q
+    name-bad k z = check-wrong k (λ h l v t. never (e ∙ rw (string-is l t (c .complete h l (utf8-bytes l v) t)) v) z)
+
+  pub name-stopped : {q : Checked} → r .ok ≡ false → q .ok ≡ false → Check words text (λ n. Name n) string s q
+  name-stopped o k = check-wrong k (λ h l v t. never (c .complete h l (utf8-bytes l v) t .ok) o)

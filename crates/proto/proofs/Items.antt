@@ -1,0 +1,234 @@
+-- What stands at the places that walking finds: the lists of a function, their counts, their items, strings and constants.
+use Prim.Native.Nat.{ℕ, zero, suc, _+_, _*_, _/_, _%_, _≤_, _<_, min}
+use mathlib.Core.Path.{_≡_, refl, ap, _∙_}
+use mathlib.Core.List.{List, [], _∷_}
+use mathlib.Core.Bool.{true, false, not}
+use mathlib.Core.Option.{none, some}
+use native.Mathlib.Omega.{arith}
+use native.Mathlib.Nat.{add-zero, mul-suc, mul-zero}
+use lib.ListN.{length, take, getD, length-append}
+use lib.Seq.{length-take-le}
+use lib.Dec.{eqb}
+use Rattle.lent.specs.Memory.{far}
+use Rattle.format.specs.Tree.{Constant as Value, Source, Parts, Function, Functions, count, filled}
+use Rattle.format.specs.Store.{Piece, word, _⊕_, string, pieces, list, ints, sourcePiece, constantPiece, localPiece, debugPiece, packed, functionPiece, functionPieces}
+use Rattle.format.specs.Stored.{part}
+use Rattle.format.specs.Valid.{ValidParts, Valid, ValidAll}
+use Rattle.format.proofs.Stored.{Here, here-left, here-right, here-part}
+use Rattle.proto.specs.declared.walk.Next.{Next}
+use Rattle.proto.specs.Walk.{Stands, item, Skips, Past, totalAll, totalBefore, Passes, children, childrenPiece, toCode, toConstants, toFunctions, toChild, toLines, toLocals, toUpvalues}
+use Rattle.proto.specs.Head.{headOf}
+use Rattle.proto.proofs.Heres.{here-get, here-item, here-front}
+use Rattle.proto.proofs.Pieces.{Same, same-sym, same-trans, same-behind, same-assoc, function-debug, stands-same, stands-left, stands-right, source-words, pieces-words}
+use Rattle.proto.proofs.Walks.{past-stands, passes-past}
+
+-- ---- the lists of a function
+
+module _ {words text : List ℕ} {at to : ℕ} (p : Parts) (fs : Functions) (h : Stands words text at to (functionPiece (Function.function p fs))) where
+  lines : Stands words text at to (toLines p fs ⊕ debugPiece (p .debug))
+  lines = stands-same (function-debug p fs) h
+
+  front : Stands words text at to (toFunctions p ⊕ childrenPiece fs)
+  front = stands-left (toLines p fs) (debugPiece (p .debug)) lines
+
+  pub code-stands : {r : ℕ} → Past words (toCode p) at r → Stands words text r (to + length (toCode p .text)) (ints (p .code))
+  code-stands w =
+      past-stands {p = toCode p} {q = ints (p .code)} w (stands-left (toConstants p) (list constantPiece (p .constants)) (stands-left (toFunctions p) (childrenPiece fs) front))
+
+  pub constants-stand : {r : ℕ} → Past words (toConstants p) at r → Stands words text r (to + length (toConstants p .text)) (list constantPiece (p .constants))
+  constants-stand w = past-stands {p = toConstants p} {q = list constantPiece (p .constants)} w (stands-left (toFunctions p) (childrenPiece fs) front)
+
+  pub functions-stand : {r : ℕ} → Past words (toFunctions p) at r → Stands words text r (to + length (toFunctions p .text)) (childrenPiece fs)
+  functions-stand w = past-stands {p = toFunctions p} {q = childrenPiece fs} w front
+
+  pub lines-stand : {r : ℕ} → Past words (toLines p fs) at r → Stands words text r (to + length (toLines p fs .text)) (ints (p .debug .lines))
+  lines-stand w = stands-left (ints (p .debug .lines)) (list localPiece (p .debug .locals) ⊕ list string (p .debug .upvalues)) (past-stands {p = toLines p fs} {q = debugPiece (p .debug)} w lines)
+
+  -- behind the lines
+  names : Stands words text at to (toLocals p fs ⊕ list localPiece (p .debug .locals) ⊕ list string (p .debug .upvalues))
+  names = stands-same (same-sym (same-assoc (toLines p fs) (ints (p .debug .lines)) (list localPiece (p .debug .locals) ⊕ list string (p .debug .upvalues)))) lines
+
+  pub locals-stand : {r : ℕ} → Past words (toLocals p fs) at r → Stands words text r (to + length (toLocals p fs .text)) (list localPiece (p .debug .locals))
+  locals-stand w =
+      stands-left (list localPiece (p .debug .locals)) (list string (p .debug .upvalues)) (past-stands {p = toLocals p fs} {q = list localPiece (p .debug .locals) ⊕ list string (p .debug .upvalues)} w names)
+
+  pub upvalues-stand : {r : ℕ} → Past words (toUpvalues p fs) at r → Stands words text r (to + length (toUpvalues p fs .text)) (list string (p .debug .upvalues))
+  upvalues-stand w =
+      past-stands {p = toUpvalues p fs} {q = list string (p .debug .upvalues)} w
+      (stands-same (same-sym (same-assoc (toLocals p fs) (list localPiece (p .debug .locals)) (list string (p .debug .upvalues)))) names)
+
+  pub debug-stands : {r : ℕ} → Past words (toLines p fs) at r → Stands words text r (to + length (toLines p fs .text)) (debugPiece (p .debug))
+  debug-stands w = past-stands {p = toLines p fs} {q = debugPiece (p .debug)} w lines
+
+-- a piece stands at a place of the words, its text somewhere
+pub record StandsAt (words text : List ℕ) (at : ℕ) (p : Piece) : Type 0 where
+  pub to : ℕ
+  pub stands : Stands words text at to p
+
+module _ {words text : List ℕ} where
+  module _ {at to : ℕ} where
+    -- ---- the items of a list
+
+    pub ints-count : (l : List ℕ) → Stands words text at to (ints l) → getD words at 0 ≡ length l
+    ints-count l h = here-get (length l) l (h .in-words)
+
+    pub ints-item : (l : List ℕ) (i : ℕ) → i < length l → Stands words text at to (ints l) → getD words (at + suc i) 0 ≡ getD l i 0
+    ints-item l i k h = here-item (length l ∷ l) (suc i) (omega arith) (h .in-words)
+
+    pub list-count : {A : Type 0} (piece : A → Piece) (l : List A) → Stands words text at to (list piece l) → getD words at 0 ≡ length l
+    list-count piece l h = here-get (length l) _ (h .in-words)
+
+  pieces-item : {A : Type 0} (piece : A → Piece) (k : ℕ) → ((a : A) (to : ℕ) → length (piece a .words to) ≡ k) → (l : List A) (i : ℕ) (a : A) (at to : ℕ) → item l i ≡ some a
+      → Stands words text at to (pieces piece l) → (k * suc i ≤ length (pieces piece l .words to)) × StandsAt words text (at + k * i) (piece a)
+  unfolding item pieces
+  pieces-item piece k e [] i a at to h s = let z : _≡_ {A = ℕ} 0 1 = cc in absurd (omega arith)
+  pieces-item piece k e (b ∷ l) zero a at to h s =
+      let g : b ≡ a = cc in
+      let n : length (pieces piece (b ∷ l) .words to) ≡ k * suc (length l) = pieces-words piece k e (b ∷ l) to in
+      let m : at + k * 0 ≡ at = rw (mul-zero k) (add-zero at) in
+      (rw (n, mul-suc k 0, mul-suc k (length l), mul-zero k) (omega arith), rw (m, ← g) (record { to = to; stands = stands-left (piece b) (pieces piece l) s }))
+  pieces-item piece k e (b ∷ l) (suc i) a at to h s =
+      let x = pieces-item piece k e l i a _ _ h (stands-right (piece b) (pieces piece l) s) in
+      let n : length (pieces piece (b ∷ l) .words to) ≡ k * suc (length l) = pieces-words piece k e (b ∷ l) to in
+      let m : length (pieces piece l .words (to + length (piece b .text))) ≡ k * length l = pieces-words piece k e l (to + length (piece b .text)) in
+      let j : at + k * suc i ≡ at + length (piece b .words to) + k * i = rw (e b to, mul-suc k i) (omega arith) in
+      (rw (n, mul-suc k (suc i), mul-suc k (length l)) (omega (arith, x .0)), rw j (x .1))
+
+  pub list-item : {A : Type 0} {at to r : ℕ} (piece : A → Piece) (k : ℕ) → ((a : A) (to : ℕ) → length (piece a .words to) ≡ k) → (l : List A) (i : ℕ) (a : A) → item l i ≡ some a
+      → Stands words text at to (list piece l) → Skips words (1 + k * i) at r → StandsAt words text r (piece a)
+  list-item {at = at} {to = to} {r = r} piece k e l i a h s w =
+      let x = pieces-item piece k e l i a (at + 1) (to + 0) h (stands-right (word (length l)) (pieces piece l) s) in
+      let m = length l ∷ pieces piece l .words (to + 0) in
+      let n : length (take (1 + k * i) m) ≡ 1 + k * i = length-take-le (1 + k * i) m (omega (arith, x .0, mul-suc k i)) in
+      let g : r ≡ at + 1 + k * i = w .skips (take (1 + k * i) m) n (here-front (1 + k * i) m (s .in-words)) ∙ omega arith in
+      rw g (x .1)
+
+  -- ---- strings and sources
+
+  pub string-here : {at to a y z : ℕ} {r : List ℕ} (s : List ℕ) → Stands words text at to (string s) → y ≡ getD words at 0 → Skips words 1 at a → z ≡ getD words a 0 → r ≡ part text y z → r ≡ s
+  string-here {to = to} {y = y} {z = z} s h e f g q =
+      let w = h .in-words in
+      let u : y ≡ to = e ∙ here-get to _ w in
+      let v : z ≡ length s = g ∙ rw (f .skips (to ∷ []) refl (here-left (to ∷ []) _ w)) (here-get (length s) [] (here-right (to ∷ []) (length s ∷ []) w)) in
+      q ∙ rw (u, v) (here-part s (h .in-text))
+
+  pub source-inherited : {at to x : ℕ} (around : List ℕ) (s : Source) → Stands words text at to (sourcePiece s) → x ≡ getD words at 0 → x ≡ 0 → around ≡ filled around s
+  source-inherited around Source.inherited h e z = refl
+  source-inherited around (Source.own s) h e z = absurd (omega (arith, here-get 1 _ (h .in-words)))
+
+  pub source-own : {at to x a : ℕ} {r : List ℕ} (around : List ℕ) (s : Source) → Stands words text at to (sourcePiece s) → x ≡ getD words at 0 → (x ≡ 0 → ⊥) → Skips words 1 at a
+      → ((b : List ℕ) (to : ℕ) → Stands words text a to (string b) → r ≡ b) → r ≡ filled around s
+  source-own around Source.inherited h e n f q = absurd (n (e ∙ here-get 0 _ (h .in-words)))
+  source-own {at} {to} {a = a} around (Source.own s) h e n f q =
+      let k : a ≡ at + 1 = f .skips (1 ∷ []) refl (here-left (1 ∷ []) _ (h .in-words)) in
+      q s (to + 0) (rw k (stands-right (word 1) (string s) h))
+
+-- ---- constants
+
+module _ {words : List ℕ} {at x a y b z : ℕ} (e : x ≡ getD words at 0) (f : Skips words 1 at a) (g : y ≡ getD words a 0) (f′ : Skips words 2 at b) (g′ : z ≡ getD words b 0) where
+  three-words : {u v w : ℕ} → Here words at (u ∷ v ∷ w ∷ []) → (x ≡ u) × (y ≡ v) × (z ≡ w)
+  three-words {u} {v} {w} i = (
+    e ∙ here-get u _ i,
+    g ∙ rw (f .skips (u ∷ []) refl (here-left (u ∷ []) _ i)) (here-get v _ (here-right (u ∷ []) (v ∷ w ∷ []) i)),
+    g′ ∙ rw (f′ .skips (u ∷ v ∷ []) refl (here-left (u ∷ v ∷ []) _ i)) (here-get w _ (here-right (u ∷ v ∷ []) (w ∷ []) i)),
+  )
+
+  pub constant-nil : x ≡ 0 → (k : Value) (text : List ℕ) (to : ℕ) → Stands words text at to (constantPiece k) → Value.nil ≡ k
+  constant-nil n Value.nil text to h = refl
+  constant-nil n (Value.bool b) text to h = absurd (omega (arith, three-words (h .in-words) .0))
+  constant-nil n (Value.num high low) text to h = absurd (omega (arith, three-words (h .in-words) .0))
+  constant-nil n (Value.str s) text to h = absurd (omega (arith, three-words (h .in-words) .0))
+
+  pub constant-bool : x ≡ 1 → (k : Value) (text : List ℕ) (to : ℕ) → Stands words text at to (constantPiece k) → Value.bool (not (eqb y 0)) ≡ k
+  constant-bool n Value.nil text to h = absurd (omega (arith, three-words (h .in-words) .0))
+  constant-bool n (Value.bool true) text to h = rw (three-words (h .in-words) .1)
+  constant-bool n (Value.bool false) text to h = rw (three-words (h .in-words) .1)
+  constant-bool n (Value.num high low) text to h = absurd (omega (arith, three-words (h .in-words) .0))
+  constant-bool n (Value.str s) text to h = absurd (omega (arith, three-words (h .in-words) .0))
+
+  pub constant-num : x ≡ 3 → (k : Value) (text : List ℕ) (to : ℕ) → Stands words text at to (constantPiece k) → Value.num y z ≡ k
+  constant-num n Value.nil text to h = absurd (omega (arith, three-words (h .in-words) .0))
+  constant-num n (Value.bool b) text to h = absurd (omega (arith, three-words (h .in-words) .0))
+  constant-num n (Value.num high low) text to h = let t = three-words (h .in-words) in rw (t .1, t .2)
+  constant-num n (Value.str s) text to h = absurd (omega (arith, three-words (h .in-words) .0))
+
+  pub constant-str : (x ≡ 0 → ⊥) → (x ≡ 1 → ⊥) → (x ≡ 3 → ⊥) → (k : Value) (text : List ℕ) (to : ℕ) → Stands words text at to (constantPiece k) → Value.str (part text y z) ≡ k
+  constant-str n₀ n₁ n₃ Value.nil text to h = absurd (n₀ (three-words (h .in-words) .0))
+  constant-str n₀ n₁ n₃ (Value.bool b) text to h = absurd (n₁ (three-words (h .in-words) .0))
+  constant-str n₀ n₁ n₃ (Value.num high low) text to h = absurd (n₃ (three-words (h .in-words) .0))
+  constant-str n₀ n₁ n₃ (Value.str s) text to h = let t = three-words (h .in-words) in rw (t .1, t .2, add-zero to) (ap Value.str (here-part s (h .in-text)))
+
+-- ---- the functions in a function
+
+-- those before child i, the child, and those behind it
+record Split (fs : Functions) (i : ℕ) (f : Function) : Type 0 where
+  before : Functions
+  behind : Functions
+  many : count before ≡ i
+  number : totalAll before ≡ totalBefore fs i
+  pieces : Same (functionPieces fs) (functionPieces before ⊕ functionPiece f ⊕ functionPieces behind)
+  valid : (n : ℕ) → ValidAll fs n → ValidAll before n × Valid f n
+
+split : (fs : Functions) (i : ℕ) (f : Function) → item (children fs) i ≡ some f → Split fs i f
+unfolding item children count totalAll totalBefore functionPieces ValidAll
+split Functions.none i f e = let z : _≡_ {A = ℕ} 0 1 = cc in absurd (omega arith)
+split (Functions.more g fs) zero f e =
+    let q : g ≡ f = cc in
+    rw (← q) (record { before = Functions.none; behind = fs; many = refl; number = refl; pieces = record { words = λ to. rw add-zero; text = refl }; valid = λ n v. (tt, v .0) })
+split (Functions.more g fs) (suc i) f e =
+    let s = split fs i f e in
+    record {
+      before = Functions.more g (s .before);
+      behind = s .behind;
+      many = ap suc (s .many);
+      number = rw (s .number);
+      pieces = same-trans (same-behind (functionPiece g) (s .pieces)) (same-sym (same-assoc (functionPiece g) (functionPieces (s .before)) (functionPiece f ⊕ functionPieces (s .behind))));
+      valid = λ n v. let w = s .valid n (v .1) in ((v .0, w .0), w .1);
+    }
+
+-- child i begins where child_at says, and has the number that it says
+pub child-stands : {words text : List ℕ} {to : ℕ} {s r : Next} (p : Parts) (fs : Functions) (allowance i : ℕ) (f : Function) → ValidAll fs allowance → item (children fs) i ≡ some f
+    → Stands words text (s .at) to (functionPiece (Function.function p fs))
+    → ((p : Parts) (n : ℕ) (gs : Functions) → ValidAll gs allowance → count gs ≡ i → Passes words (toChild p n gs) (suc (totalAll gs)) s r)
+    → StandsAt words text (r .at) (functionPiece f) × Valid f allowance × (s .number ≤ far → r .number ≡ min (s .number + suc (totalBefore fs i)) far)
+child-stands {words} {text} {s = s} {r = r} p fs allowance i f v e h w =
+    let x = split fs i f e in
+    let y = x .valid allowance v in
+    let a = toFunctions p in
+    let k = word (count fs) in
+    let b = functionPieces (x .before) in
+    let c = functionPiece f ⊕ functionPieces (x .behind) in
+    let g : Same (a ⊕ k ⊕ functionPieces fs) ((a ⊕ k ⊕ b) ⊕ c) =
+    same-trans (same-behind a (same-behind k (x .pieces))) (same-trans (same-behind a (same-sym (same-assoc k b c))) (same-sym (same-assoc a (k ⊕ b) c))) in
+    let t = stands-same g (stands-left (toLines p fs) (debugPiece (p .debug)) (stands-same (function-debug p fs) h)) in
+    let q = w p (count fs) (x .before) (y .0) (x .many) in (
+      record { to = _; stands = stands-left (functionPiece f) (functionPieces (x .behind)) (past-stands {p = toChild p (count fs) (x .before)} {q = c} (passes-past q) t) },
+      y .1,
+      rw (x .number) at (q .passes _ (stands-left (toChild p (count fs) (x .before)) c t .in-words) .1),
+    )
+
+-- ---- the head of a function
+
+-- behind the source stand three words
+head-words : {words : List ℕ} {at : ℕ} (p : Parts) (to : ℕ) → Here words at (toCode p .words to) → Here words (at + 3) (p .lineDefined ∷ p .lastLineDefined ∷ packed p ∷ [])
+head-words p to h = rw (source-words (p .source) to) at (here-right (sourcePiece (p .source) .words to) (p .lineDefined ∷ p .lastLineDefined ∷ packed p ∷ []) h)
+
+pub head-here : {words : List ℕ} {at a b c x y z : ℕ} → Skips words 3 at a → x ≡ getD words a 0 → Skips words 4 at b → y ≡ getD words b 0 → Skips words 5 at c → z ≡ getD words c 0
+    → (p : Parts) (to : ℕ) → ValidParts p → Here words at (toCode p .words to)
+    → record { «line_defined» = x; «last_line_defined» = y; «num_upvalues» = z / 16777216; «num_params» = z / 65536 % 256; «is_vararg» = z / 256 % 256; «max_stack_size» = z % 256 } ≡ headOf p
+head-here {words} {at} {a} {b} {c} {x} {y} {z} f i g j k l p to v h =
+    let w = toCode p .words to in
+    let n : length w ≡ 6 = length-append (sourcePiece (p .source) .words to) _ ∙ rw (source-words (p .source) to) in
+    let t = head-words p to h in
+    let skipped : (m r : ℕ) → m ≤ 6 → Skips words m at r → r ≡ at + m = λ m r q s. s .skips (take m w) (length-take-le m w (omega arith)) (here-front m w h) in
+    let e : x ≡ p .lineDefined = i ∙ rw (skipped 3 a (omega arith) f) (here-get _ _ t) in
+    let d : b ≡ at + 3 + 1 = omega (arith, skipped 4 b (omega arith) g) in
+    let d′ : c ≡ at + 3 + 2 = omega (arith, skipped 5 c (omega arith) k) in
+    let e′ : y ≡ p .lastLineDefined = j ∙ rw d (here-item (p .lineDefined ∷ p .lastLineDefined ∷ packed p ∷ []) 1 (omega arith) t) in
+    let o : z ≡ packed p = l ∙ rw d′ (here-item (p .lineDefined ∷ p .lastLineDefined ∷ packed p ∷ []) 2 (omega arith) t) in
+    let u = unpacked p v in
+    rw (e, e′, o, u .0, u .1, u .2, u .3)
+  where
+    unpacked : (p : Parts) → ValidParts p
+        → (packed p / 16777216 ≡ p .numUpvalues) × (packed p / 65536 % 256 ≡ p .numParams) × (packed p / 256 % 256 ≡ p .isVararg) × (packed p % 256 ≡ p .maxStackSize)
+    unpacked p v = omega arith

@@ -1,0 +1,9 @@
+pub mod Loops
+pub mod Heres
+pub mod Pieces
+pub mod Walks
+pub mod Checks
+pub mod Stores
+pub mod Places
+pub mod Sources
+pub mod Items

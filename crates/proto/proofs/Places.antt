@@ -1,0 +1,164 @@
+-- The search for the function at a place: what is found in one function, in those behind it, and in those in it.
+use Prim.Native.Nat.{ℕ, suc, _+_, _-_}
+use mathlib.Core.Path.{_≡_, refl, sym, _∙_}
+use mathlib.Core.List.{List, [], _∷_, _++_}
+use mathlib.Core.Bool.{Bool, true, false, cond}
+use mathlib.Core.Option.{Option, none, some}
+use native.Mathlib.Omega.{arith}
+use native.Mathlib.Nat.{add-zero, add-assoc}
+use lib.ListN.{length, getD, length-append}
+use lib.Dec.{eqb}
+use borrow.Author.Tests.{eq-eqb, ne-eqb}
+use Rattle.format.specs.Tree.{Source, Debug, Parts, Function, Functions, count, filled}
+use Rattle.format.specs.Store.{sourcePiece, debugPiece, functionPiece, functionPieces}
+use Rattle.format.specs.Valid.{Valid, ValidAll}
+use Rattle.format.proofs.Stored.{Here, here-left, here-right}
+use Rattle.proto.specs.declared.place.Span.{Span}
+use Rattle.proto.specs.declared.place.Sought.{Sought}
+use Rattle.proto.specs.Walk.{Skips, Past, toFunctions, toLines, childrenPiece}
+use Rattle.proto.specs.Places.{spanOf, Placed, placed, placedAll, beginsAt, Seeks, Search}
+use Rattle.proto.proofs.Heres.{here-get}
+use Rattle.proto.proofs.Pieces.{function-debug}
+use Rattle.proto.proofs.Checks.{never}
+
+-- ---- the source of a function
+
+module _ {words : List ℕ} {at x : ℕ} (around : Span) (s : Source) (to : ℕ) (h : Here words at (sourcePiece s .words to)) (e : x ≡ getD words at 0) where
+  pub span-inherited : x ≡ 0 → around ≡ spanOf around to s
+  span-inherited z = go s h
+    where
+      go : (s : Source) → Here words at (sourcePiece s .words to) → around ≡ spanOf around to s
+      go Source.inherited h = refl
+      go (Source.own l) h = absurd (omega (arith, here-get 1 _ h))
+
+  pub span-own : {a b y z : ℕ} → (x ≡ 0 → ⊥) → Skips words 1 at a → y ≡ getD words a 0 → Skips words 2 at b → z ≡ getD words b 0 → record { «in_text» = 1; start = y; end = y + z } ≡ spanOf around to s
+  span-own {a} {b} {y} {z} n k f l g = go s h
+    where
+      go : (s : Source) → Here words at (sourcePiece s .words to) → record { «in_text» = 1; start = y; end = y + z } ≡ spanOf around to s
+      go Source.inherited h = absurd (n (e ∙ here-get 0 _ h))
+      go (Source.own s) h =
+          let i : Here words at (1 ∷ to ∷ length s ∷ []) = rw (add-zero to) at h in
+          let u : y ≡ to = f ∙ rw (k .skips (1 ∷ []) refl (here-left (1 ∷ []) _ i)) (here-get to _ (here-right (1 ∷ []) (to ∷ length s ∷ []) i)) in
+          let v : z ≡ length s = g ∙ rw (l .skips (1 ∷ to ∷ []) refl (here-left (1 ∷ to ∷ []) _ i)) (here-get (length s) [] (here-right (1 ∷ to ∷ []) (length s ∷ []) i)) in
+          rw (u, v)
+
+-- ---- one function after the other
+
+abbrev orElse : Option Placed → Option Placed → Option Placed
+orElse none y = y
+orElse (some x) y = some x
+
+begins-append : (place : ℕ) (a b : List Placed) → beginsAt place (a ++ b) ≡ orElse (beginsAt place a) (beginsAt place b)
+unfolding beginsAt
+begins-append place [] b = refl
+begins-append place (x ∷ a) b = by (begins-append place a b) (eqb place (x .place))
+  where
+    by : beginsAt place (a ++ b) ≡ orElse (beginsAt place a) (beginsAt place b) → (t : Bool) → cond t (some x) (beginsAt place (a ++ b)) ≡ orElse (cond t (some x) (beginsAt place a)) (beginsAt place b)
+    by i true = refl
+    by i false = i
+
+-- of n functions, whichever they are
+pub record SearchAll (words : List ℕ) (place : ℕ) (around : Span) (allowance n at : ℕ) (r : Sought) : Type 0 where
+  pub seeks : (fs : Functions) (to : ℕ) (bytes : List ℕ) → ValidAll fs allowance → count fs ≡ n → Here words at (functionPieces fs .words to)
+      → Seeks (beginsAt place (placedAll fs at to (record { bytes = bytes; span = around }))) (at + length (functionPieces fs .words to)) r
+
+module _ {words : List ℕ} {place : ℕ} {around : Span} {allowance : ℕ} where
+  pub search-none : {at : ℕ} {r : Sought} → r .found ≡ false → r .at ≡ at → SearchAll words place around allowance 0 at r
+  unfolding count functionPieces placedAll beginsAt
+  search-none {at} {r} e f = record { seeks = go }
+    where
+      go : (fs : Functions) (to : ℕ) (bytes : List ℕ) → ValidAll fs allowance → count fs ≡ 0 → Here words at (functionPieces fs .words to)
+          → Seeks (beginsAt place (placedAll fs at to (record { bytes = bytes; span = around }))) (at + length (functionPieces fs .words to)) r
+      go Functions.none to bytes v e′ h = (e, f ∙ sym (add-zero at))
+      go (Functions.more f fs) to bytes v e′ h = absurd (omega arith)
+
+  module _ {at : ℕ} {r : Sought} (one : (f : Function) → Valid f allowance → Search words place around f at r) where
+    -- it is in this one
+    pub search-found : r .found ≡ true → (n : ℕ) → SearchAll words place around allowance (suc n) at r
+    unfolding count functionPieces placedAll ValidAll
+    search-found e n = record { seeks = go }
+      where
+        by : (o y : Option Placed) (end end′ : ℕ) → Seeks o end r → Seeks (orElse o y) end′ r
+        by none y end end′ k = absurd (never e (k .0))
+        by (some x) y end end′ k = k
+
+        go : (fs : Functions) (to : ℕ) (bytes : List ℕ) → ValidAll fs allowance → count fs ≡ suc n → Here words at (functionPieces fs .words to)
+            → Seeks (beginsAt place (placedAll fs at to (record { bytes = bytes; span = around }))) (at + length (functionPieces fs .words to)) r
+        go Functions.none to bytes v c h = absurd (omega arith)
+        go (Functions.more f fs) to bytes v c h =
+            rw begins-append (by (beginsAt place (placed f at to (record { bytes = bytes; span = around }))) _ _ _ (one f (v .0) .seeks to bytes (here-left (functionPiece f .words to) _ h)))
+
+    -- it is not, and may be behind it
+    pub search-more : r .found ≡ false → (n : ℕ) (q : Sought) → SearchAll words place around allowance n (r .at) q → SearchAll words place around allowance (suc n) at q
+    unfolding count functionPieces placedAll ValidAll
+    search-more e n q rest = record { seeks = go }
+      where
+        go : (fs : Functions) (to : ℕ) (bytes : List ℕ) → ValidAll fs allowance → count fs ≡ suc n → Here words at (functionPieces fs .words to)
+            → Seeks (beginsAt place (placedAll fs at to (record { bytes = bytes; span = around }))) (at + length (functionPieces fs .words to)) q
+        go Functions.none to bytes v c h = absurd (omega arith)
+        go (Functions.more f fs) to bytes v c h =
+            rw begins-append (by (beginsAt place (placed f at to (record { bytes = bytes; span = around }))) (one f (v .0) .seeks to bytes (here-left (functionPiece f .words to) _ h)))
+          where
+            by : (o : Option Placed) → Seeks o (at + length (functionPiece f .words to)) r
+                → Seeks (orElse o (beginsAt place (placedAll fs (at + length (functionPiece f .words to)) (to + length (functionPiece f .text)) (record { bytes = bytes; span = around }))))
+                (at + length (functionPiece f .words to ++ functionPieces fs .words (to + length (functionPiece f .text)))) q
+            by (some x) k = absurd (never (k .0) e)
+            by none k =
+                let to′ = to + length (functionPiece f .text) in
+                let i : at + length (functionPiece f .words to ++ functionPieces fs .words to′) ≡ r .at + length (functionPieces fs .words to′) =
+                rw (k .1, length-append (functionPiece f .words to) (functionPieces fs .words to′)) (sym (add-assoc _ _ _)) in
+                rw (i, ← k .1) (rest .seeks fs to′ bytes (v .1) (omega arith) (rw (k .1) (here-right (functionPiece f .words to) _ h)))
+
+-- ---- in one function
+
+own-here : {words : List ℕ} {at : ℕ} {around own : Span} → ((s : Source) (to : ℕ) → Here words at (sourcePiece s .words to) → own ≡ spanOf around to s)
+    → (p : Parts) (fs : Functions) (to : ℕ) → Here words at (functionPiece (Function.function p fs) .words to) → own ≡ spanOf around to (p .source)
+unfolding functionPiece
+own-here s p fs to h = s (p .source) to (here-left (sourcePiece (p .source) .words to) _ h)
+
+module _ {words : List ℕ} (place : ℕ) {at : ℕ} {around own : Span} (s : (s : Source) (to : ℕ) → Here words at (sourcePiece s .words to) → own ≡ spanOf around to s) where
+  -- it is this one
+  pub search-here : {r : Sought} → place ≡ at → r .found ≡ true → r .source ≡ own → (f : Function) → Search words place around f at r
+  unfolding placed beginsAt
+  search-here e o i (Function.function p fs) = record { seeks = λ to bytes h. rw (eq-eqb place at e) (o, i ∙ own-here s p fs to h) }
+
+  module _ {a q n m : ℕ} {r : Sought} (z : place ≡ at → ⊥) (w : (p : Parts) → Past words (toFunctions p) at a) (e : n ≡ getD words a 0) (k : Skips words 1 a q) (all : SearchAll words place own m n q r) where
+    inside : (p : Parts) (fs : Functions) (to : ℕ) (bytes : List ℕ) → ValidAll fs m → Here words at (functionPiece (Function.function p fs) .words to)
+        → Seeks (beginsAt place (placed (Function.function p fs) at to (record { bytes = bytes; span = around }))) (at + length (toLines p fs .words to)) r
+    unfolding placed beginsAt
+    inside p fs to bytes v h =
+        let to′ = to + length (toFunctions p .text) in
+        let l : Here words at (toLines p fs .words to) = here-left (toLines p fs .words to) _ (rw (function-debug p fs .words to) at h) in
+        let d : a ≡ at + length (toFunctions p .words to) = w p .past to (here-left (toFunctions p .words to) _ l) in
+        let i : Here words a (childrenPiece fs .words to′) = rw d (here-right (toFunctions p .words to) _ l) in
+        let c : count fs ≡ n = sym (here-get (count fs) _ i) ∙ sym e in
+        let j : q ≡ a + 1 = k .skips (count fs ∷ []) refl (here-left (count fs ∷ []) _ i) in
+        let g : Here words q (functionPieces fs .words to′) = rw (j, ← add-zero to′) (here-right (count fs ∷ []) _ i) in
+        let b : at + length (toLines p fs .words to) ≡ q + length (functionPieces fs .words to′) =
+        rw (j, d, length-append (toFunctions p .words to) (childrenPiece fs .words to′), add-zero to′) (omega arith) in
+        rw (ne-eqb place at z, b, ← d, ← j, ← own-here s p fs to h) (all .seeks fs to′ (filled bytes (p .source)) v c g)
+
+    -- it is in it
+    pub search-inside : r .found ≡ true → (f : Function) → Valid f (suc m) → Search words place around f at r
+    unfolding Valid
+    search-inside o (Function.function p fs) v = record { seeks = λ to bytes h. by (beginsAt place (placed (Function.function p fs) at to (record { bytes = bytes; span = around }))) _ _ (inside p fs to bytes (v .2) h) }
+      where
+        by : (x : Option Placed) (end end′ : ℕ) → Seeks x end r → Seeks x end′ r
+        by none end end′ y = absurd (never o (y .0))
+        by (some x) end end′ y = y
+
+    -- it is not
+    pub search-outside : {x : Sought} → r .found ≡ false → x .found ≡ false → ((d : Debug) → Past words (debugPiece d) (r .at) (x .at)) → (f : Function) → Valid f (suc m) → Search words place around f at x
+    unfolding Valid
+    search-outside {x} o i g (Function.function p fs) v =
+        record {
+          seeks = λ to bytes h. by to h (beginsAt place (placed (Function.function p fs) at to (record { bytes = bytes; span = around }))) (inside p fs to bytes (v .2) h);
+        }
+      where
+        by : (to : ℕ) → Here words at (functionPiece (Function.function p fs) .words to) → (y : Option Placed) → Seeks y (at + length (toLines p fs .words to)) r → Seeks y (at + length (functionPiece (Function.function p fs) .words to)) x
+        by to h (some y) t = absurd (never (t .0) o)
+        by to h none t =
+            let to′ = to + length (toLines p fs .text) in
+            let l : Here words at (toLines p fs .words to ++ debugPiece (p .debug) .words to′) = rw (function-debug p fs .words to) at h in
+            let e₁ : x .at ≡ r .at + length (debugPiece (p .debug) .words to′) = g (p .debug) .past to′ (rw (t .1) (here-right (toLines p fs .words to) _ l)) in
+            (i, e₁ ∙ rw (t .1, function-debug p fs .words to, length-append (toLines p fs .words to) (debugPiece (p .debug) .words to′)) (add-assoc _ _ _))

@@ -1,0 +1,238 @@
+-- Each function that functionAt finds stands in the store, well formed, and its source stands where its span says. So source_at and source answer as defined.
+use Prim.Native.Nat.{ℕ, zero, suc, _+_, _-_, _≤_}
+use mathlib.Core.Path.{_≡_, refl, sym}
+use mathlib.Core.List.{List, [], _∷_}
+use mathlib.Core.Bool.{Bool, true, false, cond}
+use mathlib.Core.Option.{Option, none, some}
+use native.Mathlib.Omega.{arith}
+use native.Mathlib.Nat.{add-zero}
+use lib.ListN.{length}
+use lib.Seq.{take-length}
+use lib.Dec.{eqb}
+use borrow.Author.Tests.{eqb-true}
+use Rattle.lent.specs.Memory.{Every}
+use Rattle.lent.proofs.Lists.{every-append}
+use Rattle.format.specs.Tree.{Source, Parts, Function, Functions, count}
+use Rattle.format.specs.Store.{word, sourcePiece, debugPiece, functionPiece, functionPieces, wordsOf, textOf}
+use Rattle.format.specs.Stored.{part, treeOf}
+use Rattle.format.specs.Undump.{nameOk}
+use Rattle.format.specs.Valid.{depth, Valid, ValidAll, Holds}
+use Rattle.format.proofs.Stored.{here-left, here-part, tree-holds, holds-tree}
+use Rattle.proto.specs.declared.place.Sought.{Sought}
+use Rattle.proto.specs.declared.place.SourceAt.{SourceAt}
+use Rattle.proto.specs.Walk.{Stands, toFunctions, toLines, childrenPiece}
+use Rattle.proto.specs.Formed.{isHeld}
+use Rattle.proto.specs.Places.{Filled, filledIn, named, Placed, placed, placedAll, beginsAt, functionAt, Seeks, Search, onTree, onFunction, onPlace, placeRefusal, noSource, spanAnswer, sourceAnswer, sourcePart}
+use Rattle.proto.proofs.Heres.{whole-here}
+use Rattle.proto.proofs.Pieces.{function-debug, stands-same, stands-left, stands-right}
+use Rattle.proto.proofs.Checks.{never}
+use Rattle.proto.proofs.Stores.{held-tree, no-tree}
+
+-- ---- what stands in a store
+
+-- the bytes at a span
+abbrev pub spanned : List ℕ → List ℕ → ℕ → ℕ → ℕ → List ℕ
+spanned text name in-text start end = cond (eqb in-text 1) (part text start (end - start)) (part name start (end - start))
+
+-- a source stands where its span says
+pub record Sourced (text name : List ℕ) (s : Filled) : Type 0 where
+  pub ordered : s .span .start ≤ s .span .end
+  pub is : spanned text name (s .span .«in_text») (s .span .start) (s .span .end) ≡ s .bytes
+
+-- a function that begins at a place stands there, with at most so many nested
+pub record StandsIn (words text name : List ℕ) (allowance : ℕ) (x : Placed) : Type 0 where
+  pub to : ℕ
+  pub stands : Stands words text (x .place) to (functionPiece (x .function))
+  pub valid : Valid (x .function) allowance
+  pub sourced : Sourced text name (x .source)
+
+-- a greater allowance does not harm
+mutual
+  unfolding Valid
+
+  pub valid-suc : (f : Function) (n : ℕ) → Valid f n → Valid f (suc n)
+  valid-suc (Function.function p fs) zero v = absurd v
+  valid-suc (Function.function p fs) (suc n) v = (v .0, v .1, all-suc fs n (v .2))
+
+  pub all-suc : (fs : Functions) (n : ℕ) → ValidAll fs n → ValidAll fs (suc n)
+  all-suc Functions.none n v = tt
+  all-suc (Functions.more f fs) n v = (valid-suc f n (v .0), all-suc fs n (v .1))
+
+named-sourced : {text : List ℕ} (name : List ℕ) → Sourced text name (named name)
+named-sourced name = let e : length name - 0 ≡ length name = omega arith in record { ordered = omega arith; is = rw e (take-length name) }
+
+module _ {words text : List ℕ} (name : List ℕ) where
+  filled-sourced : {at to : ℕ} {around : Filled} (s : Source) → Stands words text at to (sourcePiece s) → Sourced text name around → Sourced text name (filledIn around to s)
+  filled-sourced Source.inherited h k = k
+  filled-sourced {to = to} (Source.own s) h k =
+      let e : to + length s - to ≡ length s = omega arith in
+      record { ordered = omega arith; is = rw e (here-part s (h .in-text)) }
+
+-- where a function stands, its source stands, and the functions in it
+pub stands-source : {words text : List ℕ} {at to : ℕ} (p : Parts) (fs : Functions) → Stands words text at to (functionPiece (Function.function p fs)) → Stands words text at to (sourcePiece (p .source))
+unfolding functionPiece
+stands-source {to = to} p fs h = record { in-words = here-left (sourcePiece (p .source) .words to) _ (h .in-words); in-text = here-left (sourcePiece (p .source) .text) _ (h .in-text) }
+
+pub stands-children : {words text : List ℕ} {at to : ℕ} (p : Parts) (fs : Functions) → Stands words text at to (functionPiece (Function.function p fs))
+    → Stands words text (at + length (toFunctions p .words to) + 1) (to + length (toFunctions p .text)) (functionPieces fs)
+stands-children {words} {text} {at} {to} p fs h =
+    let l = stands-right (toFunctions p) (childrenPiece fs) (stands-left (toLines p fs) (debugPiece (p .debug)) (stands-same (function-debug p fs) h)) in
+    rw (← add-zero (to + length (toFunctions p .text))) (stands-right (word (count fs)) (functionPieces fs) l)
+
+module _ {words text : List ℕ} (name : List ℕ) (allowance : ℕ) where
+  mutual
+    unfolding placed Valid Every functionPieces
+
+    placed-stands : (f : Function) (n at to : ℕ) (around : Filled) → Valid f n → ((g : Function) → Valid g n → Valid g allowance)
+        → Stands words text at to (functionPiece f) → Sourced text name around → Every (StandsIn words text name allowance) (placed f at to around)
+    placed-stands (Function.function p fs) zero at to around v up h k = absurd v
+    placed-stands (Function.function p fs) (suc n) at to around v up h k =
+        let j = filled-sourced name (p .source) (stands-source p fs h) k in (
+          record { to = to; stands = h; valid = up (Function.function p fs) v; sourced = j },
+          all-stand fs n _ _ _ (v .2) (λ g w. up g (valid-suc g n w)) (stands-children p fs h) j,
+        )
+
+    all-stand : (fs : Functions) (n at to : ℕ) (around : Filled) → ValidAll fs n → ((g : Function) → Valid g n → Valid g allowance)
+        → Stands words text at to (functionPieces fs) → Sourced text name around → Every (StandsIn words text name allowance) (placedAll fs at to around)
+    all-stand Functions.none n at to around v up h k = tt
+    all-stand (Functions.more f fs) n at to around v up h k =
+        every-append (StandsIn words text name allowance) (placed f at to around) _
+        (placed-stands f n at to around (v .0) up (stands-left (functionPiece f) (functionPieces fs) h) k)
+        (all-stand fs n _ _ around (v .1) up (stands-right (functionPiece f) (functionPieces fs) h) k)
+
+begins-every : (P : Placed → Type 0) (place : ℕ) (l : List Placed) (x : Placed) → Every P l → beginsAt place l ≡ some x → P x × (x .place ≡ place)
+unfolding beginsAt Every
+begins-every P place [] x h e = let z : _≡_ {A = ℕ} 0 1 = cc in absurd (omega arith)
+begins-every P place (y ∷ l) x h e = by (λ d. begins-every P place l x (h .1) d) (eqb place (y .place)) refl e
+  where
+    by : (beginsAt place l ≡ some x → P x × (x .place ≡ place)) → (t : Bool) → eqb place (y .place) ≡ t → cond t (some y) (beginsAt place l) ≡ some x → P x × (x .place ≡ place)
+    by i true e d =
+        let s : y ≡ x = cc in
+        (rw s at (h .0), rw (← s) (sym (eqb-true place (y .place) e)))
+    by i false e d = i d
+
+root-stands : {words text : List ℕ} (f : Function) → Holds words text f → Stands words text 0 0 (functionPiece f)
+root-stands {words} {text} f h = record { in-words = whole-here (wordsOf f) words (h .words-are); in-text = whole-here (textOf f) text (h .text-is) }
+
+-- ==== the statement: where functionAt finds a function, it stands there
+
+pub function-stands : {words text : List ℕ} (name : List ℕ) {f : Function} (place : ℕ) (x : Placed) → Holds words text f → functionAt f name place ≡ some x → StandsIn words text name depth x × (x .place ≡ place)
+function-stands name {f} place x h e =
+    begins-every _ place (placed f 0 0 (named name)) x (placed-stands name depth f depth 0 0 (named name) (h .valid) (λ g v. v) (root-stands f h) (named-sourced name)) e
+
+-- ---- the calls
+
+-- the search from the root
+root-seeks : {words text : List ℕ} {place : ℕ} {r : Sought} (name : List ℕ) (f : Function) → Holds words text f → Search words place (named name .span) f 0 r → Seeks (functionAt f name place) (0 + length (wordsOf f)) r
+root-seeks name f h s = s .seeks 0 name (root-stands f h .in-words)
+
+-- where the search finds none, and where it finds one
+not-sought : (P : Option Placed → Type 0) (x : Option Placed) (end : ℕ) (r : Sought) → Seeks x end r → r .found ≡ false → P none → P x
+not-sought P none end r h e k = k
+not-sought P (some x) end r h e k = absurd (never (h .0) e)
+
+sought : (P : Option Placed → Type 0) (x : Option Placed) (end : ℕ) (r : Sought) → Seeks x end r → r .found ≡ true → ((y : Placed) → r .source ≡ y .source .span → P (some y)) → P x
+sought P none end r h e k = absurd (never e (h .0))
+sought P (some x) end r h e k = k x (h .1)
+
+module _ (words text : List ℕ) (place : ℕ) where
+  pub place-10 : isHeld (treeOf words text) ≡ false → 10 ≡ placeRefusal words text place
+  unfolding placeRefusal
+  place-10 h = no-tree words text (λ t. 10 ≡ onTree (λ n. n) (λ f. onFunction (λ n. n) (λ x. 0) (functionAt f [] place)) t) h refl
+
+  module _ {r : Sought} (h : isHeld (treeOf words text) ≡ true) (s : (f : Function) → Valid f depth → Search words place (named [] .span) f 0 r) where
+    pub place-12 : r .found ≡ false → 12 ≡ placeRefusal words text place
+    unfolding placeRefusal
+    place-12 e =
+        held-tree words text (λ t. 12 ≡ onTree (λ n. n) (λ f. onFunction (λ n. n) (λ x. 0) (functionAt f [] place)) t) h
+        (λ f k. not-sought (λ x. 12 ≡ onFunction (λ n. n) (λ x. 0) x) (functionAt f [] place) _ r (root-seeks [] f k (s f (k .valid))) e refl)
+
+    pub place-0 : r .found ≡ true → 0 ≡ placeRefusal words text place
+    unfolding placeRefusal
+    place-0 e =
+        held-tree words text (λ t. 0 ≡ onTree (λ n. n) (λ f. onFunction (λ n. n) (λ x. 0) (functionAt f [] place)) t) h
+        (λ f k. sought (λ x. 0 ≡ onFunction (λ n. n) (λ x. 0) x) (functionAt f [] place) _ r (root-seeks [] f k (s f (k .valid))) e (λ y i. refl))
+
+-- what a call on the function at a place finds, where it is not refused
+pub record On (words text : List ℕ) (place : ℕ) : Type 0 where
+  pub tree : Function
+  pub function : Placed
+  pub holds : Holds words text tree
+  pub begins : functionAt tree [] place ≡ some function
+
+pub place-on : (words text : List ℕ) (place : ℕ) → placeRefusal words text place ≡ 0 → On words text place
+unfolding placeRefusal
+place-on words text place e = by (treeOf words text) refl e
+  where
+    by-place : (f : Function) → Holds words text f → (x : Option Placed) → functionAt f [] place ≡ x → onFunction (λ n. n) (λ x. 0) x ≡ 0 → On words text place
+    by-place f h none e d = absurd (omega arith)
+    by-place f h (some x) e d = record { tree = f; function = x; holds = h; begins = e }
+
+    by : (t : Option Function) → treeOf words text ≡ t → onTree (λ n. n) (λ f. onFunction (λ n. n) (λ x. 0) (functionAt f [] place)) t ≡ 0 → On words text place
+    by none e d = absurd (omega arith)
+    by (some f) e d = by-place f (tree-holds words text f e) (functionAt f [] place) refl d
+
+module _ {A : Type 0} (refuse : ℕ → A) (answer : Placed → A) where
+  pub on-answer : {words text : List ℕ} {place : ℕ} (o : On words text place) → onPlace refuse answer words text place ≡ answer (o .function)
+  on-answer o = rw (holds-tree (o .holds), o .begins)
+
+  pub on-refused : (words text : List ℕ) (place : ℕ) → (placeRefusal words text place ≡ 0 → ⊥) → onPlace refuse answer words text place ≡ refuse (placeRefusal words text place)
+  unfolding placeRefusal
+  on-refused words text place n = by (treeOf words text) n
+    where
+      by-place : (x : Option Placed) → (onFunction (λ n. n) (λ x. 0) x ≡ 0 → ⊥) → onFunction refuse answer x ≡ refuse (onFunction (λ n. n) (λ x. 0) x)
+      by-place none n = refl
+      by-place (some x) n = absurd (n refl)
+
+      by : (t : Option Function) → (onTree (λ n. n) (λ f. onFunction (λ n. n) (λ x. 0) (functionAt f [] place)) t ≡ 0 → ⊥)
+          → onTree refuse (λ f. onFunction refuse answer (functionAt f [] place)) t ≡ refuse (onTree (λ n. n) (λ f. onFunction (λ n. n) (λ x. 0) (functionAt f [] place)) t)
+      by none n = refl
+      by (some f) n = by-place (functionAt f [] place) n
+
+module _ (words text name : List ℕ) (place : ℕ) where
+  pub source-1 : nameOk name ≡ false → noSource 1 ≡ sourceAnswer words text name place
+  unfolding sourceAnswer
+  source-1 e = rw e
+
+  module _ (n : nameOk name ≡ true) where
+    pub source-10 : isHeld (treeOf words text) ≡ false → noSource 10 ≡ sourceAnswer words text name place
+    unfolding sourceAnswer
+    source-10 h = rw n (no-tree words text (λ t. noSource 10 ≡ onTree noSource (λ f. onFunction noSource (λ x. spanAnswer (x .source .span)) (functionAt f name place)) t) h refl)
+
+    module _ {r : Sought} (h : isHeld (treeOf words text) ≡ true) (s : (f : Function) → Valid f depth → Search words place (named name .span) f 0 r) where
+      pub source-12 : r .found ≡ false → noSource 12 ≡ sourceAnswer words text name place
+      unfolding sourceAnswer
+      source-12 e =
+          rw n
+          (held-tree words text (λ t. noSource 12 ≡ onTree noSource (λ f. onFunction noSource (λ x. spanAnswer (x .source .span)) (functionAt f name place)) t) h
+          (λ f k. not-sought (λ x. noSource 12 ≡ onFunction noSource (λ x. spanAnswer (x .source .span)) x) (functionAt f name place) _ r (root-seeks name f k (s f (k .valid))) e refl))
+
+      pub source-found : r .found ≡ true → spanAnswer (r .source) ≡ sourceAnswer words text name place
+      unfolding sourceAnswer
+      source-found e =
+          rw n
+          (held-tree words text (λ t. spanAnswer (r .source) ≡ onTree noSource (λ f. onFunction noSource (λ x. spanAnswer (x .source .span)) (functionAt f name place)) t) h
+          (λ f k. sought (λ x. spanAnswer (r .source) ≡ onFunction noSource (λ x. spanAnswer (x .source .span)) x) (functionAt f name place) _ r (root-seeks name f k (s f (k .valid))) e (λ y i. rw i)))
+
+  -- what source_at answers leads to what source gives
+  pub source-part : (a : SourceAt) → a ≡ sourceAnswer words text name place
+      → (a .start ≤ a .end) × (spanned text name (a .«in_text») (a .start) (a .end) ≡ sourcePart words text name place)
+  unfolding sourceAnswer sourcePart
+  source-part a e = rw e (by-name (nameOk name))
+    where
+      by-place : (f : Function) → Holds words text f → (x : Option Placed) → functionAt f name place ≡ x
+          → let a = onFunction noSource (λ x. spanAnswer (x .source .span)) x in (a .start ≤ a .end) × (spanned text name (a .«in_text») (a .start) (a .end) ≡ onFunction (λ n. []) (λ x. x .source .bytes) x)
+      by-place f h none e = (omega arith, refl)
+      by-place f h (some x) e = let k = function-stands name place x h e .0 .sourced in (k .ordered, k .is)
+
+      by-tree : (t : Option Function) → treeOf words text ≡ t
+          → let a = onTree noSource (λ f. onFunction noSource (λ x. spanAnswer (x .source .span)) (functionAt f name place)) t in
+          (a .start ≤ a .end) × (spanned text name (a .«in_text») (a .start) (a .end) ≡ onTree (λ n. []) (λ f. onFunction (λ n. []) (λ x. x .source .bytes) (functionAt f name place)) t)
+      by-tree none e = (omega arith, refl)
+      by-tree (some f) e = by-place f (tree-holds words text f e) (functionAt f name place) refl
+
+      by-name : (b : Bool)
+          → let a = cond b (onTree noSource (λ f. onFunction noSource (λ x. spanAnswer (x .source .span)) (functionAt f name place)) (treeOf words text)) (noSource 1) in
+          (a .start ≤ a .end) × (spanned text name (a .«in_text») (a .start) (a .end) ≡ cond b (onTree (λ n. []) (λ f. onFunction (λ n. []) (λ x. x .source .bytes) (functionAt f name place)) (treeOf words text)) [])
+      by-name false = (omega arith, refl)
+      by-name true = by-tree (treeOf words text) refl

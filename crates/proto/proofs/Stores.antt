@@ -1,0 +1,328 @@
+-- What the check of each part of a function finds, and of a whole store: it holds where, and only where, the store holds a tree.
+use Prim.Native.Nat.{ℕ, zero, suc, zero-le, _+_, _*_, _-_, _/_, _%_, _≤_}
+use mathlib.Core.Path.{_≡_, refl, ap, _∙_}
+use mathlib.Core.List.{List, [], _∷_}
+use mathlib.Core.Bool.{Bool, true, false, cond}
+use mathlib.Core.Option.{Option, none, some}
+use native.Mathlib.Omega.{arith}
+use lib.ListN.{length, getD}
+use lib.Dec.{eqb}
+use borrow.Author.Tests.{eq-eqb, eqb-true}
+use Rattle.lent.specs.Memory.{Every, Word, Bytes}
+use Rattle.format.specs.Tree.{Constant, Source, Debug, Parts, Function, Functions, count}
+use Rattle.format.specs.Store.{Piece, word, _⊕_, string, pieces, list, ints, sourcePiece, constantPiece, localPiece, debugPiece, packed, functionPiece, functionPieces, wordsOf, textOf}
+use Rattle.format.specs.Stored.{treeOf}
+use Rattle.format.specs.Valid.{depth, most, Name, ValidSource, ValidConstant, ValidLocal, ValidList, ValidDebug, ValidParts, Valid, ValidAll, Holds}
+use Rattle.format.proofs.Stored.{holds-tree, tree-holds}
+use Rattle.proto.specs.declared.formed.Checked.{Checked}
+use Rattle.proto.specs.Walk.{Stands, children, childrenPiece}
+use Rattle.proto.specs.Formed.{isHeld, Check, Within, Words, three, Three, ValidChildren}
+use Rattle.proto.proofs.Heres.{here-get, here-whole, whole-here}
+use Rattle.proto.proofs.Pieces.{same-refl, same-is}
+use Rattle.proto.proofs.Walks.{none-deep}
+use Rattle.proto.proofs.Checks.{never, As, check-wrong, check-as, check-then, check-passed, any-word}
+
+-- the first word of a constant
+abbrev kindOf : Constant → ℕ
+kindOf Constant.nil = 0
+kindOf (Constant.bool b) = 1
+kindOf (Constant.num high low) = 3
+kindOf (Constant.str s) = 4
+
+bit : (n : ℕ) → n ≤ 1 → _≡_ {A = ℕ} (cond (eqb n 1) 1 0) n
+bit zero h = refl
+bit (suc zero) h = refl
+bit (suc (suc n)) h = absurd (omega arith)
+
+module _ {words text : List ℕ} where
+  -- ---- sources
+
+  pub source-inherited : {x : ℕ} {s r : Checked} → x ≡ getD words (s .at) 0 → x ≡ 0 → Check words text (Three 0 0 0) three s r → Check words text ValidSource sourcePiece s r
+  source-inherited {s = s} e z c = check-as to from c
+    where
+      to : (w : Words) → Three 0 0 0 w → As ValidSource sourcePiece (three w)
+      to w k =
+          let e₂ : w .second ≡ 0 = omega (arith, k .second) in
+          let e₃ : w .third ≡ 0 = omega (arith, k .third) in
+          record { value = Source.inherited; valid = tt; same = rw (k .is, e₂, e₃) same-refl }
+
+      from : (v : Source) → ValidSource v → Stands words text (s .at) (s .to) (sourcePiece v) → As (Three 0 0 0) three (sourcePiece v)
+      from Source.inherited k h = record { value = record { first = 0; second = 0; third = 0 }; valid = record { is = refl; second = zero-le; third = zero-le }; same = same-refl }
+      from (Source.own l) k h = absurd (omega (arith, here-get 1 _ (h .in-words)))
+
+  pub source-own : {x : ℕ} {s a r : Checked} → x ≡ getD words (s .at) 0 → (x ≡ 0 → ⊥) → Check words text (Within 1 1) word s a → Check words text (λ n. Name n) string a r → Check words text ValidSource sourcePiece s r
+  source-own {s = s} e z c d =
+      check-as (λ v k. let g : v .0 ≡ 1 = omega (arith, k .0 .above, k .0 .below) in record { value = Source.own (v .1); valid = k .1; same = rw g same-refl }) from (check-then c d)
+    where
+      from : (v : Source) → ValidSource v → Stands words text (s .at) (s .to) (sourcePiece v) → As {A = ℕ × List ℕ} (λ v. Within 1 1 (v .0) × Name (v .1)) (λ v. word (v .0) ⊕ string (v .1)) (sourcePiece v)
+      from Source.inherited k h = absurd (z (e ∙ here-get 0 _ (h .in-words)))
+      from (Source.own l) k h = record { value = (1, l); valid = (record { above = omega arith; below = omega arith }, k); same = same-refl }
+
+  -- ---- constants
+
+  kind-here : {at to : ℕ} (k : Constant) → Stands words text at to (constantPiece k) → getD words at 0 ≡ kindOf k
+  kind-here Constant.nil h = here-get 0 _ (h .in-words)
+  kind-here (Constant.bool b) h = here-get 1 _ (h .in-words)
+  kind-here (Constant.num high low) h = here-get 3 _ (h .in-words)
+  kind-here (Constant.str s) h = here-get 4 _ (h .in-words)
+
+  module _ {x : ℕ} {s r : Checked} (e : x ≡ getD words (s .at) 0) where
+    pub constant-nil : x ≡ 0 → Check words text (Three 0 0 0) three s r → Check words text ValidConstant constantPiece s r
+    constant-nil z c = check-as to from c
+      where
+        to : (w : Words) → Three 0 0 0 w → As ValidConstant constantPiece (three w)
+        to w k =
+            let e₂ : w .second ≡ 0 = omega (arith, k .second) in
+            let e₃ : w .third ≡ 0 = omega (arith, k .third) in
+            record { value = Constant.nil; valid = tt; same = rw (k .is, e₂, e₃) same-refl }
+
+        from : (v : Constant) → ValidConstant v → Stands words text (s .at) (s .to) (constantPiece v) → As (Three 0 0 0) three (constantPiece v)
+        from Constant.nil k h = record { value = record { first = 0; second = 0; third = 0 }; valid = record { is = refl; second = zero-le; third = zero-le }; same = same-refl }
+        from (Constant.bool b) k h = absurd (omega (arith, kind-here (Constant.bool b) h))
+        from (Constant.num high low) k h = absurd (omega (arith, kind-here (Constant.num high low) h))
+        from (Constant.str l) k h = absurd (omega (arith, kind-here (Constant.str l) h))
+
+    pub constant-bool : x ≡ 1 → Check words text (Three 1 1 0) three s r → Check words text ValidConstant constantPiece s r
+    constant-bool z c = check-as to from c
+      where
+        to : (w : Words) → Three 1 1 0 w → As ValidConstant constantPiece (three w)
+        to w k =
+            let e₃ : w .third ≡ 0 = omega (arith, k .third) in
+            record { value = Constant.bool (eqb (w .second) 1); valid = tt; same = rw (k .is, e₃, bit (w .second) (k .second)) same-refl }
+
+        is-bool : (b : Bool) → As (Three 1 1 0) three (constantPiece (Constant.bool b))
+        is-bool true = record { value = record { first = 1; second = 1; third = 0 }; valid = record { is = refl; second = omega arith; third = zero-le }; same = same-refl }
+        is-bool false = record { value = record { first = 1; second = 0; third = 0 }; valid = record { is = refl; second = zero-le; third = zero-le }; same = same-refl }
+
+        from : (v : Constant) → ValidConstant v → Stands words text (s .at) (s .to) (constantPiece v) → As (Three 1 1 0) three (constantPiece v)
+        from Constant.nil k h = absurd (omega (arith, kind-here Constant.nil h))
+        from (Constant.bool b) k h = is-bool b
+        from (Constant.num high low) k h = absurd (omega (arith, kind-here (Constant.num high low) h))
+        from (Constant.str l) k h = absurd (omega (arith, kind-here (Constant.str l) h))
+
+    pub constant-num : x ≡ 3 → Check words text (Three 3 4294967295 4294967295) three s r → Check words text ValidConstant constantPiece s r
+    constant-num z c =
+        check-as (λ w k. record { value = Constant.num (w .second) (w .third); valid = (omega (arith, k .second), omega (arith, k .third)); same = rw (k .is) same-refl }) from c
+      where
+        from : (v : Constant) → ValidConstant v → Stands words text (s .at) (s .to) (constantPiece v) → As (Three 3 4294967295 4294967295) three (constantPiece v)
+        from Constant.nil k h = absurd (omega (arith, kind-here Constant.nil h))
+        from (Constant.bool b) k h = absurd (omega (arith, kind-here (Constant.bool b) h))
+        from (Constant.num high low) k h =
+            record { value = record { first = 3; second = high; third = low }; valid = record { is = refl; second = omega (arith, k .0); third = omega (arith, k .1) }; same = same-refl }
+        from (Constant.str l) k h = absurd (omega (arith, kind-here (Constant.str l) h))
+
+  -- none of the kinds above
+  pub constant-str : {x : ℕ} {s a r : Checked} → x ≡ getD words (s .at) 0 → (x ≡ 0 → ⊥) → (x ≡ 1 → ⊥) → (x ≡ 3 → ⊥) → Check words text (Within 4 4) word s a → Check words text Bytes string a r
+      → Check words text ValidConstant constantPiece s r
+  constant-str {s = s} e n₀ n₁ n₃ c d =
+      check-as (λ v k. let g : v .0 ≡ 4 = omega (arith, k .0 .above, k .0 .below) in record { value = Constant.str (v .1); valid = k .1; same = rw g same-refl }) from (check-then c d)
+    where
+      from : (v : Constant) → ValidConstant v → Stands words text (s .at) (s .to) (constantPiece v) → As {A = ℕ × List ℕ} (λ v. Within 4 4 (v .0) × Bytes (v .1)) (λ v. word (v .0) ⊕ string (v .1)) (constantPiece v)
+      from Constant.nil k h = absurd (n₀ (e ∙ kind-here Constant.nil h))
+      from (Constant.bool b) k h = absurd (n₁ (e ∙ kind-here (Constant.bool b) h))
+      from (Constant.num high low) k h = absurd (n₃ (e ∙ kind-here (Constant.num high low) h))
+      from (Constant.str l) k h = record { value = (4, l); valid = (record { above = omega arith; below = omega arith }, k); same = same-refl }
+
+  -- ---- locals
+
+  pub local-checked : {s a b r : Checked} → Check words text (λ n. Name n) string s a → Check words text (Within 0 4294967295) word a b → Check words text (Within 0 4294967295) word b r → Check words text ValidLocal localPiece s r
+  local-checked c d f =
+      check-as
+      (λ v k. record { value = record { name = v .0; start = v .1 .0; end = v .1 .1 }; valid = record { name = k .0; start = k .1 .0; end = k .1 .1 }; same = same-refl })
+      (λ v k h. record { value = (v .name, (v .start, v .end)); valid = (k .name, (k .start, k .end)); same = same-refl })
+      (check-then c (check-then (any-word d) (any-word f)))
+
+-- ---- the functions in a function
+
+abbrev functionsOf : List Function → Functions
+functionsOf [] = Functions.none
+functionsOf (f ∷ l) = Functions.more f (functionsOf l)
+
+children-of : (l : List Function) → children (functionsOf l) ≡ l
+unfolding children
+children-of [] = refl
+children-of (f ∷ l) = rw (children-of l)
+
+pub children-count : (fs : Functions) → length (children fs) ≡ count fs
+unfolding children count
+children-count Functions.none = refl
+children-count (Functions.more f fs) = ap suc (children-count fs)
+
+pub children-pieces : (fs : Functions) → pieces functionPiece (children fs) ≡ functionPieces fs
+unfolding children pieces functionPieces
+children-pieces Functions.none = refl
+children-pieces (Functions.more f fs) = rw (children-pieces fs)
+
+every-valid : (n : ℕ) (fs : Functions) → ValidAll fs n → Every (λ f. Valid f n) (children fs)
+unfolding children ValidAll Every
+every-valid n Functions.none v = tt
+every-valid n (Functions.more f fs) v = (v .0, every-valid n fs (v .1))
+
+valid-every : (n : ℕ) (fs : Functions) → Every (λ f. Valid f n) (children fs) → ValidAll fs n
+unfolding children ValidAll Every
+valid-every n Functions.none v = tt
+valid-every n (Functions.more f fs) v = (v .0, valid-every n fs (v .1))
+
+pub children-list : (fs : Functions) → list functionPiece (children fs) ≡ childrenPiece fs
+children-list fs = rw (children-count fs, children-pieces fs)
+
+module _ {words text : List ℕ} where
+  pub children-checked : {s r : Checked} (n : ℕ) → Check words text (ValidList (λ f. Valid f n)) (list functionPiece) s r → Check words text (ValidChildren n) childrenPiece s r
+  children-checked n c =
+      check-as
+      (λ l k.
+      let e = children-of l in
+      let fs = functionsOf l in
+      record {
+        value = fs;
+        valid = record { short = rw (← children-count fs, e) (k .short); all = valid-every n fs (rw e (k .items)) };
+        same = rw (← children-list fs, e) same-refl;
+      })
+      (λ fs k h. record { value = children fs; valid = record { items = every-valid n fs (k .all); short = rw (children-count fs) (k .short) }; same = same-is (children-list fs) })
+      c
+
+-- ---- functions
+
+module _ {words text : List ℕ} where
+  pub debug-checked : {s a b r : Checked} → Check words text (ValidList Word) ints s a → Check words text (ValidList ValidLocal) (list localPiece) a b → Check words text (ValidList (λ n. Name n)) (list string) b r
+      → Check words text ValidDebug debugPiece s r
+  debug-checked c d f =
+      check-as
+      (λ v k. record { value = record { lines = v .0; locals = v .1 .0; upvalues = v .1 .1 }; valid = record { lines = k .0; locals = k .1 .0; upvalues = k .1 .1 }; same = same-refl })
+      (λ v k h. record { value = (v .lines, (v .locals, v .upvalues)); valid = (k .lines, (k .locals, k .upvalues)); same = same-refl })
+      (check-then c (check-then d f))
+
+-- all that a function holds, in its order
+abbrev Held : Type 0
+Held = Source × (ℕ × (ℕ × (ℕ × (List ℕ × (List Constant × (Functions × Debug))))))
+
+abbrev HeldOk : ℕ → Held → Type 0
+HeldOk n v =
+    ValidSource (v .0) × (Word (v .1 .0) × (Word (v .1 .1 .0) × (Word (v .1 .1 .1 .0) × (ValidList Word (v .1 .1 .1 .1 .0)
+    × (ValidList ValidConstant (v .1 .1 .1 .1 .1 .0) × (ValidChildren n (v .1 .1 .1 .1 .1 .1 .0) × ValidDebug (v .1 .1 .1 .1 .1 .1 .1)))))))
+
+abbrev heldPiece : Held → Piece
+heldPiece v =
+    sourcePiece (v .0) ⊕ word (v .1 .0) ⊕ word (v .1 .1 .0) ⊕ word (v .1 .1 .1 .0) ⊕ ints (v .1 .1 .1 .1 .0)
+    ⊕ list constantPiece (v .1 .1 .1 .1 .1 .0) ⊕ childrenPiece (v .1 .1 .1 .1 .1 .1 .0) ⊕ debugPiece (v .1 .1 .1 .1 .1 .1 .1)
+
+abbrev partsOf : Held → Parts
+partsOf v =
+    let w = v .1 .1 .1 .0 in
+    record {
+      source = v .0;
+      lineDefined = v .1 .0;
+      lastLineDefined = v .1 .1 .0;
+      numUpvalues = w / 16777216;
+      numParams = w / 65536 % 256;
+      isVararg = w / 256 % 256;
+      maxStackSize = w % 256;
+      code = v .1 .1 .1 .1 .0;
+      constants = v .1 .1 .1 .1 .1 .0;
+      debug = v .1 .1 .1 .1 .1 .1 .1;
+    }
+
+packed-word : (w : ℕ) → Word w → ((w / 16777216 * 256 + w / 65536 % 256) * 256 + w / 256 % 256) * 256 + w % 256 ≡ w
+packed-word w h = omega arith
+
+word-packed : (p : Parts) → ValidParts p → Word (packed p)
+word-packed p v = omega arith
+
+parts-valid : (n : ℕ) (v : Held) → HeldOk n v → ValidParts (partsOf v)
+parts-valid n v k =
+    record {
+      source = k .0;
+      lineDefined = k .1 .0;
+      lastLineDefined = k .1 .1 .0;
+      numUpvalues = omega (arith, k .1 .1 .1 .0);
+      numParams = omega arith;
+      isVararg = omega arith;
+      maxStackSize = omega arith;
+      code = k .1 .1 .1 .1 .0;
+      constants = k .1 .1 .1 .1 .1 .0;
+      debug = k .1 .1 .1 .1 .1 .1 .1;
+    }
+
+module _ {words text : List ℕ} where
+  pub function-checked : (n : ℕ) {s a b c d e f g h i r : Checked} → Check words text ValidSource sourcePiece s a
+      → Check words text (Within 0 4294967295) word a b → Check words text (Within 0 4294967295) word b c → Check words text (Within 0 4294967295) word c d
+      → Check words text (ValidList Word) ints d e → Check words text (ValidList ValidConstant) (list constantPiece) e f → Check words text (ValidChildren n) childrenPiece f g
+      → Check words text (ValidList Word) ints g h → Check words text (ValidList ValidLocal) (list localPiece) h i → Check words text (ValidList (λ n. Name n)) (list string) i r
+      → Check words text (λ k. Valid k (suc n)) functionPiece s r
+  unfolding Valid functionPiece
+  function-checked n {s = s} {r = r} c₁ c₂ c₃ c₄ c₅ c₆ c₇ c₈ c₉ c₁₀ =
+      let all : Check {A = Held} words text (HeldOk n) heldPiece s r =
+      check-then c₁ (check-then (any-word c₂) (check-then (any-word c₃) (check-then (any-word c₄) (check-then c₅ (check-then c₆ (check-then c₇ (debug-checked c₈ c₉ c₁₀))))))) in
+      check-as to from all
+    where
+      to : (v : Held) → HeldOk n v → As (λ k. Valid k (suc n)) functionPiece (heldPiece v)
+      to v k =
+          let e : packed (partsOf v) ≡ v .1 .1 .1 .0 = packed-word (v .1 .1 .1 .0) (k .1 .1 .1 .0) in
+          record {
+            value = Function.function (partsOf v) (v .1 .1 .1 .1 .1 .1 .0);
+            valid = (parts-valid n v k, k .1 .1 .1 .1 .1 .1 .0 .short, k .1 .1 .1 .1 .1 .1 .0 .all);
+            same = rw e same-refl;
+          }
+
+      from : (f : Function) → Valid f (suc n) → Stands words text (s .at) (s .to) (functionPiece f) → As (HeldOk n) heldPiece (functionPiece f)
+      from (Function.function p fs) k h =
+          record {
+            value = (p .source, (p .lineDefined, (p .lastLineDefined, (packed p, (p .code, (p .constants, (fs, p .debug)))))));
+            valid = (
+              k .0 .source,
+              (k .0 .lineDefined, (k .0 .lastLineDefined, (word-packed p (k .0), (k .0 .code, (k .0 .constants, (record { short = k .1; all = k .2 }, k .0 .debug)))))),
+            );
+            same = same-refl;
+          }
+
+  pub function-deep : {n : ℕ} {s r : Checked} → n ≡ 0 → r .ok ≡ false → Check words text (λ f. Valid f n) functionPiece s r
+  function-deep e o = check-wrong o (λ h f k t. none-deep e f k)
+
+-- ---- a whole store
+
+-- what is shown of every tree that the store holds, or of none, is shown of treeOf
+module _ (words text : List ℕ) where
+  pub held-tree : (P : Option Function → Type 0) → isHeld (treeOf words text) ≡ true → ((f : Function) → Holds words text f → P (some f)) → P (treeOf words text)
+  held-tree P h k = by (treeOf words text) refl h
+    where
+      by : (x : Option Function) → treeOf words text ≡ x → isHeld x ≡ true → P x
+      by none e h = absurd (never h refl)
+      by (some f) e h = k f (tree-holds words text f e)
+
+  pub no-tree : (P : Option Function → Type 0) → isHeld (treeOf words text) ≡ false → P none → P (treeOf words text)
+  no-tree P h k = by (treeOf words text) h
+    where
+      by : (x : Option Function) → isHeld x ≡ false → P x
+      by none h = k
+      by (some f) h = absurd (never refl h)
+
+pub held-yes : {words text : List ℕ} {f : Function} → Holds words text f → true ≡ isHeld (treeOf words text)
+held-yes h = rw (holds-tree h)
+
+pub held-no : (words text : List ℕ) → ((f : Function) → Holds words text f → ⊥) → false ≡ isHeld (treeOf words text)
+held-no words text k = by (treeOf words text) refl
+  where
+    by : (x : Option Function) → treeOf words text ≡ x → false ≡ isHeld x
+    by none e = refl
+    by (some f) e = absurd (k f (tree-holds words text f e))
+
+module _ {words text : List ℕ} {r : Checked} (c : Check words text (λ f. Valid f depth) functionPiece (record { ok = true; at = 0; to = 0 }) r) where
+  -- what holds a tree is passed to its end
+  pub store-passed : (f : Function) → Holds words text f → (r .ok ≡ true) × (r .at ≡ length words) × (r .to ≡ length text)
+  store-passed f h =
+      let p = c .complete refl f (h .valid) (record { in-words = whole-here (wordsOf f) words (h .words-are); in-text = whole-here (textOf f) text (h .text-is) }) in
+      (p .ok, p .at ∙ rw (h .words-are) (omega arith), p .to ∙ rw (h .text-is) (omega arith))
+
+  -- what is passed to its end holds a tree
+  pub store-held : r .ok ≡ true → r .at ≡ length words → length words ≤ most → length text ≤ most → eqb (r .to) (length text) ≡ isHeld (treeOf words text)
+  store-held o e k l = by (eqb (r .to) (length text)) refl
+    where
+      by : (b : Bool) → eqb (r .to) (length text) ≡ b → b ≡ isHeld (treeOf words text)
+      by true h =
+          let x = c .sound o .1 in
+          let f = x .value in
+          let p = check-passed c o in
+          let w : wordsOf f ≡ words = here-whole words (wordsOf f) (x .stands .in-words) (omega (arith, p .at)) in
+          let t : textOf f ≡ text = here-whole text (textOf f) (x .stands .in-text) (omega (arith, p .to, eqb-true (r .to) (length text) h)) in
+          held-yes (record { valid = x .valid; words-are = w; text-is = t; words-fit = k; text-fits = l })
+      by false h = held-no words text (λ f g. never (eq-eqb (r .to) (length text) (store-passed f g .2)) h)

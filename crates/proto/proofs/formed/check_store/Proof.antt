@@ -1,0 +1,29 @@
+-- A store that holds a tree is passed to its end, and one that is passed to its end holds the tree found.
+use borrow.Author.Needs.{needs}
+use native.Mathlib.Omega.{arith}
+use Rattle.proto.proofs.Checks.{never}
+use Rattle.proto.proofs.Stores.{held-no, store-passed, store-held}
+use Rattle.proto.proofs.formed.check_store.Statement.{statement}
+use Rattle.proto.proofs.formed.check_store.Tie as tie
+
+returns : tie.Need-returns
+returns c = held-no _ _ (λ f h. omega (arith, h .words-fit))
+
+returns-2 : tie.Need-returns-2
+returns-2 c = held-no _ _ (λ f h. omega (arith, h .text-fits))
+
+check-function-requires : tie.Need-check-function-requires
+check-function-requires c κs = search needs
+
+returns-3 : tie.Need-returns-3
+returns-3 c = store-held (c .before .before .before .before .check-function .ensures) (c .before .before .before .if3 .taken) (omega arith) (omega arith) (omega arith)
+
+returns-4 : tie.Need-returns-4
+returns-4 c = held-no _ _ (λ f h. c .if4 .left (store-passed (c .before .before .before .check-function .ensures) f h .1))
+
+returns-5 : tie.Need-returns-5
+returns-5 c = held-no _ _ (λ f h. never (store-passed (c .before .check-function .ensures) f h .0) (c .if3 .left))
+
+pub check-store-spec : {M : Type 1} → statement M
+check-store-spec =
+    tie.close (tie.spec returns returns-2 check-function-requires returns-3 returns-4 returns-5)

@@ -1,0 +1,14 @@
+-- Six words stand before the code.
+use borrow.Author.Needs.{needs}
+use Rattle.proto.proofs.Walks.{past-head}
+use Rattle.proto.proofs.walk.code_at.Statement.{statement}
+use Rattle.proto.proofs.walk.code_at.Tie as tie
+
+skip-requires : tie.Need-skip-requires
+skip-requires c κs = search needs
+
+returns : tie.Need-returns
+returns c = λ p. past-head p (c .skip .ensures)
+
+pub code-at-spec : {M : Type 1} → statement M
+code-at-spec = tie.close (tie.spec skip-requires returns)

@@ -1,0 +1,21 @@
+-- The product of two 32-bit numbers and 1 fits.
+use borrow.Author.Needs.{needs}
+use native.Mathlib.Omega.{arith}
+use native.Mathlib.Nat.{mul-le-mul}
+use Rattle.proto.proofs.walk.item_at.Statement.{statement}
+use Rattle.proto.proofs.walk.item_at.Tie as tie
+
+mul-skip : tie.Need-mul-skip
+mul-skip c = omega (arith, mul-le-mul {n₁ = c .before .args .size} {m₁ = c .before .args .i} {n₂ = 4294967295} {m₂ = 4294967295} (search needs) (search needs))
+
+add-skip : tie.Need-add-skip
+add-skip c = omega (arith, mul-le-mul {n₁ = c .before .args .size} {m₁ = c .before .args .i} {n₂ = 4294967295} {m₂ = 4294967295} (search needs) (search needs))
+
+skip-requires : tie.Need-skip-requires
+skip-requires c κs = search needs
+
+returns : tie.Need-returns
+returns c = search needs
+
+pub item-at-spec : {M : Type 1} → statement M
+item-at-spec = tie.close (tie.spec mul-skip add-skip skip-requires returns)

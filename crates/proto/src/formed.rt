@@ -1,0 +1,290 @@
+// Whether a store is well formed: one walk over its words, and over its text beside them.
+use crate::walk::part;
+use crate::walk::word_at;
+ghost use mathlib.Core.Path.{_≡_};
+ghost use mathlib.Core.Bool.{false};
+ghost use mathlib.Core.List.{List};
+ghost use Prim.Native.Nat.{ℕ};
+ghost use Rattle.lent.specs.Memory.{Word, Bytes};
+ghost use Rattle.format.specs.Store.{string, list, ints, sourcePiece, constantPiece, localPiece, functionPiece};
+ghost use Rattle.format.specs.Store.{word as wordPiece};
+ghost use Rattle.format.specs.Stored.{treeOf};
+ghost use Rattle.format.specs.Undump.{nameOk};
+ghost use Rattle.format.specs.Valid.{Name, Valid, ValidSource, ValidConstant, ValidLocal, ValidList};
+ghost use Rattle.proto.specs.Walk.{childrenPiece};
+ghost use Rattle.proto.specs.Formed.{isHeld, Check, Within, Three, three, ValidChildren};
+
+// The greatest word.
+const ANY: u32 = 4294967295;
+
+// The most items of a list.
+const LIMIT: u32 = 65535;
+
+// The most functions nested, the root being 1.
+pub const DEPTH: u32 = 200;
+
+// The most words, text bytes, and bytes of a chunk name.
+const MOST: usize = 16777216;
+
+// Whether a store is well formed so far, and the places reached in the words and in the text.
+pub struct Checked {
+    pub ok: bool,
+    pub at: usize,
+    pub to: usize,
+}
+
+// It is not.
+fn wrong() -> Checked
+    ensures { λ r. ⌜ r .ok ≡ false ⌝ }
+{
+    Checked {
+        ok: false,
+        at: 0,
+        to: 0,
+    }
+}
+
+// A word within limits.
+fn check_word(words: &[u32], s: Checked, low: u32, high: u32) -> Checked
+    ensures { λ r. ⌜ ((t : List ℕ) → Check (now (words .entry)) t (Within low high) wordPiece s r) ⌝ }
+{
+    if !s.ok {
+        return s;
+    }
+    let at = s.at;
+    if at < words.len() {
+        let w = words[at];
+        if low <= w {
+            if w <= high {
+                return Checked {
+                    ok: true,
+                    at: at + 1,
+                    to: s.to,
+                };
+            }
+        }
+    }
+    wrong()
+}
+
+// Three words: a kind, and two with their greatest values.
+fn check_three(words: &[u32], s: Checked, kind: u32, a: u32, b: u32) -> Checked
+    ensures { λ r. ⌜ ((t : List ℕ) → Check (now (words .entry)) t (Three kind a b) three s r) ⌝ }
+{
+    let first = check_word(words, s, kind, kind);
+    let second = check_word(words, first, 0, a);
+    check_word(words, second, 0, b)
+}
+
+// The place and the length of a string, which stands next in the text.
+fn check_string(words: &[u32], text: &[u8], s: Checked) -> Checked
+    ensures { λ r. ⌜ Check (now (words .entry)) (now (text .entry)) Bytes string s r ⌝ }
+{
+    let a = check_word(words, s, 0, ANY);
+    let b = check_word(words, a, 0, ANY);
+    let place = word_at(words, s.at) as usize;
+    let n = word_at(words, a.at) as usize;
+    let found = part(text, place, n);
+    if b.ok {
+        if place == s.to {
+            if found.len() == n {
+                return Checked {
+                    ok: true,
+                    at: b.at,
+                    to: place + n,
+                };
+            }
+        }
+    }
+    wrong()
+}
+
+// A string that is UTF-8.
+fn check_name(words: &[u32], text: &[u8], s: Checked) -> Checked
+    ensures { λ r. ⌜ Check (now (words .entry)) (now (text .entry)) Name string s r ⌝ }
+{
+    let r = check_string(words, text, s);
+    if r.ok {
+        if utf8::is_utf8(part(text, s.to, r.to - s.to)) {
+            return r;
+        }
+    }
+    wrong()
+}
+
+// The source of a function: inherited, or its own.
+fn check_source(words: &[u32], text: &[u8], s: Checked) -> Checked
+    ensures { λ r. ⌜ Check (now (words .entry)) (now (text .entry)) ValidSource sourcePiece s r ⌝ }
+{
+    if word_at(words, s.at) == 0 {
+        return check_three(words, s, 0, 0, 0);
+    }
+    let own = check_word(words, s, 1, 1);
+    check_name(words, text, own)
+}
+
+// A constant: Nil, Bool, Num or String.
+fn check_constant(words: &[u32], text: &[u8], s: Checked) -> Checked
+    ensures { λ r. ⌜ Check (now (words .entry)) (now (text .entry)) ValidConstant constantPiece s r ⌝ }
+{
+    let kind = word_at(words, s.at);
+    match kind {
+        0 => check_three(words, s, 0, 0, 0),
+        1 => check_three(words, s, 1, 1, 0),
+        3 => check_three(words, s, 3, ANY, ANY),
+        _ => {
+            let a = check_word(words, s, 4, 4);
+            check_string(words, text, a)
+        }
+    }
+}
+
+// A local: its name, start and end.
+fn check_local(words: &[u32], text: &[u8], s: Checked) -> Checked
+    ensures { λ r. ⌜ Check (now (words .entry)) (now (text .entry)) ValidLocal localPiece s r ⌝ }
+{
+    let name = check_name(words, text, s);
+    let start = check_word(words, name, 0, ANY);
+    check_word(words, start, 0, ANY)
+}
+
+// A list of words.
+fn check_ints(words: &[u32], s: Checked) -> Checked
+    ensures { λ r. ⌜ ((t : List ℕ) → Check (now (words .entry)) t (ValidList Word) ints s r) ⌝ }
+{
+    let p = check_word(words, s, 0, LIMIT);
+    let n = word_at(words, s.at) as usize;
+    let at = p.at;
+    if p.ok {
+        if n <= words.len() - at {
+            return Checked {
+                ok: true,
+                at: at + n,
+                to: p.to,
+            };
+        }
+    }
+    wrong()
+}
+
+// The constants.
+fn check_constants(words: &[u32], text: &[u8], s: Checked) -> Checked
+    ensures { λ r. ⌜ Check (now (words .entry)) (now (text .entry)) (ValidList ValidConstant) (list constantPiece) s r ⌝ }
+{
+    let n = word_at(words, s.at);
+    let mut p = check_word(words, s, 0, LIMIT);
+    let mut i: u32 = 0;
+    while i < n {
+        if !p.ok {
+            return p;
+        }
+        p = check_constant(words, text, p);
+        i += 1;
+    }
+    p
+}
+
+// The locals.
+fn check_locals(words: &[u32], text: &[u8], s: Checked) -> Checked
+    ensures { λ r. ⌜ Check (now (words .entry)) (now (text .entry)) (ValidList ValidLocal) (list localPiece) s r ⌝ }
+{
+    let n = word_at(words, s.at);
+    let mut p = check_word(words, s, 0, LIMIT);
+    let mut i: u32 = 0;
+    while i < n {
+        if !p.ok {
+            return p;
+        }
+        p = check_local(words, text, p);
+        i += 1;
+    }
+    p
+}
+
+// The upvalues' names.
+fn check_names(words: &[u32], text: &[u8], s: Checked) -> Checked
+    ensures { λ r. ⌜ Check (now (words .entry)) (now (text .entry)) (ValidList (λ n. Name n)) (list string) s r ⌝ }
+{
+    let n = word_at(words, s.at);
+    let mut p = check_word(words, s, 0, LIMIT);
+    let mut i: u32 = 0;
+    while i < n {
+        if !p.ok {
+            return p;
+        }
+        p = check_name(words, text, p);
+        i += 1;
+    }
+    p
+}
+
+// The functions in a function, each with so many nested at most.
+fn check_functions(words: &[u32], text: &[u8], s: Checked, allowance: u32) -> Checked
+    ensures { λ r. ⌜ Check (now (words .entry)) (now (text .entry)) (ValidChildren allowance) childrenPiece s r ⌝ }
+{
+    let n = word_at(words, s.at);
+    let mut p = check_word(words, s, 0, LIMIT);
+    let mut i: u32 = 0;
+    while i < n {
+        if !p.ok {
+            return p;
+        }
+        p = check_function(words, text, p, allowance);
+        i += 1;
+    }
+    p
+}
+
+// A function.
+fn check_function(words: &[u32], text: &[u8], s: Checked, allowance: u32) -> Checked
+    ensures { λ r. ⌜ Check (now (words .entry)) (now (text .entry)) (λ f. Valid f allowance) functionPiece s r ⌝ }
+{
+    if allowance == 0 {
+        return wrong();
+    }
+    let source = check_source(words, text, s);
+    let first = check_word(words, source, 0, ANY);
+    let last = check_word(words, first, 0, ANY);
+    let packed = check_word(words, last, 0, ANY);
+    let code = check_ints(words, packed);
+    let constants = check_constants(words, text, code);
+    let functions = check_functions(words, text, constants, allowance - 1);
+    let lines = check_ints(words, functions);
+    let locals = check_locals(words, text, lines);
+    check_names(words, text, locals)
+}
+
+// Whether a chunk name is UTF-8 and not too long: refusal 1 where it is not.
+pub fn name_ok(name: &[u8]) -> bool
+    ensures { λ r. ⌜ r ≡ nameOk (now (name .entry)) ⌝ }
+{
+    if utf8::is_utf8(name) {
+        name.len() <= MOST
+    } else {
+        false
+    }
+}
+
+// Whether the store holds a tree: refusal 10 where it does not.
+pub fn check_store(words: &[u32], text: &[u8]) -> bool
+    ensures { λ r. ⌜ r ≡ isHeld (treeOf (now (words .entry)) (now (text .entry))) ⌝ }
+{
+    if MOST < words.len() {
+        return false;
+    }
+    if MOST < text.len() {
+        return false;
+    }
+    let start = Checked {
+        ok: true,
+        at: 0,
+        to: 0,
+    };
+    let r = check_function(words, text, start, DEPTH);
+    if r.ok {
+        if r.at == words.len() {
+            return r.to == text.len();
+        }
+    }
+    false
+}

@@ -1,0 +1,6 @@
+// A tree in lent memory: all that knows how a store is laid out.
+pub mod constant;
+pub mod formed;
+pub mod head;
+pub mod place;
+pub mod walk;

@@ -1,0 +1,221 @@
+// Asks where sources stand in stores, most of them broken: takes cases from standard input, at most 65,536 bytes, and writes a line of
+// text for each question: the refusal, in_text, start and end, in decimal; then the source's bytes in hexadecimal. A case is a
+// letter and what follows it, all numbers low byte first:
+//   S  2 bytes n, n runs of words (2 bytes how many, 4 bytes the word), 2 bytes length, the text: the store from here on
+//   W  2 bytes place, 4 bytes word: the question of place 0, with another word there
+//   T  2 bytes place, 1 byte: the same with another text byte
+//   N  4 bytes words, 2 bytes text bytes: the same with so many lent
+//   Q  4 bytes place, 1 byte length, the chunk name: the question of that place
+use libc::STDIN_FILENO;
+use libc::STDOUT_FILENO;
+use proto::place::source;
+use proto::place::source_at;
+use proto::walk::word_at;
+use records::after;
+use records::byte;
+use records::half;
+use records::part;
+use records::word;
+ghost use Prim.Native.Nat.{_≤_};
+
+// The most words and text bytes of a store.
+const WORDS: usize = 65600;
+
+const TEXT: usize = 512;
+
+// Where the chunk name stands, behind the text.
+const NAME: usize = 256;
+
+// Where the next case stands, and how many words and text bytes the store has.
+struct Read {
+    next: usize,
+    words: usize,
+    text: usize,
+}
+
+// A number, no more than the most.
+fn within(n: usize, most: usize) -> usize
+    ensures { λ r. ⌜ r ≤ most ⌝ }
+{
+    if n < most { n } else { most }
+}
+
+fn number(n: usize) {
+    io::print_decimal(STDOUT_FILENO, n as u64);
+    io::write_all(STDOUT_FILENO, b" ");
+}
+
+fn letter(b: u8) {
+    io::write_all(STDOUT_FILENO, b" ");
+    io::print_hex(STDOUT_FILENO, b as u64, 2);
+}
+
+fn all_text(text: &[u8]) {
+    let mut i = 0;
+    while i < text.len() {
+        letter(text[i]);
+        i += 1;
+    }
+}
+
+// The first n words, as many as there are.
+fn first(words: &[u32], n: usize) -> &[u32] {
+    let end = within(n, words.len());
+    &words[0..end]
+}
+
+// The question, and its line.
+fn tell<'a>(words: &[u32], text: &'a [u8], name: &'a [u8], place: usize) {
+    let r = source_at(words, text, name, place);
+    number(r.refusal as usize);
+    number(r.in_text as usize);
+    number(r.start);
+    number(r.end);
+    io::write_all(STDOUT_FILENO, b":");
+    all_text(source(words, text, name, place));
+    io::write_all(STDOUT_FILENO, b"\n");
+}
+
+// The same with n words and m text bytes lent, and a chunk name of k bytes.
+fn ask(words: &[u32], text: &[u8], n: usize, m: usize, k: usize, place: usize) {
+    tell(
+        first(words, n),
+        part(text, 0, m),
+        part(text, NAME, k),
+        place,
+    );
+}
+
+// A word written, where it is in range.
+fn put(words: &mut [u32], at: usize, w: u32) {
+    if at < words.len() {
+        words[at] = w;
+    }
+}
+
+// n words alike, from a place on. Answers the place behind them.
+fn run(words: &mut [u32], at: usize, n: u16, w: u32) -> usize {
+    let mut p = at;
+    let mut i: u16 = 0;
+    while i < n {
+        put(words, p, w);
+        p = within(p, WORDS) + 1;
+        i += 1;
+    }
+    p
+}
+
+// n runs. Answers where the next case's bytes stand, and how many words there are.
+fn runs(cases: &[u8], at: usize, n: u16, words: &mut [u32]) -> Read {
+    let mut next = at;
+    let mut p = 0;
+    let mut i: u16 = 0;
+    while i < n {
+        let w = word(cases, after(cases, next, 2));
+        p = run(words, p, half(cases, next), w);
+        next = after(cases, next, 6);
+        i += 1;
+    }
+    Read {
+        next,
+        words: p,
+        text: 0,
+    }
+}
+
+// A store.
+fn store(cases: &[u8], at: usize, words: &mut [u32], text: &mut [u8]) -> Read {
+    let n = half(cases, at);
+    let s = runs(cases, after(cases, at, 2), n, words);
+    let m = half(cases, s.next) as usize;
+    let from = after(cases, s.next, 2);
+    lent::put_bytes(text, 0, part(cases, from, m));
+    Read {
+        next: after(cases, from, m),
+        words: s.words,
+        text: m,
+    }
+}
+
+// The question with another word at a place, which is put back.
+fn changed_word(words: &mut [u32], text: &[u8], s: Read, at: usize, w: u32) {
+    let old = word_at(words, at);
+    put(words, at, w);
+    ask(words, text, s.words, s.text, 0, 0);
+    put(words, at, old);
+}
+
+// The same with a text byte.
+fn changed_byte(words: &[u32], text: &mut [u8], s: Read, at: usize, b: u8) {
+    let old = byte(text, at);
+    let new = [b];
+    lent::put_bytes(text, at, &new);
+    ask(words, text, s.words, s.text, 0, 0);
+    let before = [old];
+    lent::put_bytes(text, at, &before);
+}
+
+// The store, with the next case n bytes on.
+fn further(cases: &[u8], at: usize, n: usize, s: Read) -> Read {
+    Read {
+        next: after(cases, at, n),
+        words: s.words,
+        text: s.text,
+    }
+}
+
+// One case, its letter read. Another letter ends the cases.
+fn case_at(cases: &[u8], at: usize, words: &mut [u32], text: &mut [u8], s: Read) -> Read {
+    let kind = byte(cases, s.next);
+    match kind {
+        b'S' => store(cases, at, words, text),
+        b'W' => {
+            let place = half(cases, at) as usize;
+            changed_word(words, text, s, place, word(cases, after(cases, at, 2)));
+            further(cases, at, 6, s)
+        }
+        b'T' => {
+            let place = half(cases, at) as usize;
+            changed_byte(words, text, s, place, byte(cases, after(cases, at, 2)));
+            further(cases, at, 3, s)
+        }
+        b'N' => {
+            let n = word(cases, at) as usize;
+            let m = half(cases, after(cases, at, 4)) as usize;
+            ask(words, text, n, m, 0, 0);
+            further(cases, at, 6, s)
+        }
+        b'Q' => {
+            let k = byte(cases, after(cases, at, 4)) as usize;
+            lent::put_bytes(text, NAME, part(cases, after(cases, at, 5), k));
+            ask(words, text, s.words, s.text, k, word(cases, at) as usize);
+            further(cases, at, 5 + k, s)
+        }
+        _ => further(cases, s.next, 0, s),
+    }
+}
+
+// All cases.
+fn all(cases: &[u8], words: &mut [u32], text: &mut [u8]) {
+    let mut s = Read {
+        next: 0,
+        words: 0,
+        text: 0,
+    };
+    while s.next < cases.len() {
+        let at = s.next;
+        let r = case_at(cases, after(cases, at, 1), words, text, s);
+        if r.next <= at {
+            return;
+        }
+        s = r;
+    }
+}
+
+fn main() {
+    let mut space = io::large_buffer();
+    let n = io::read_full(STDIN_FILENO, &mut space);
+    let mut words = [0u32; WORDS];
+    let mut text = [0u8; TEXT];
+    all(part(&space, 0, n), &mut words, &mut text);
+}
