@@ -11,6 +11,7 @@ use std::hint::black_box;
 use std::panic::{AssertUnwindSafe, catch_unwind};
 use std::time::Instant;
 
+use oracle::random::Random;
 use oracle::vm::proto::Proto;
 use oracle::vm::undump::undump;
 use oracle::vm::value::Val;
@@ -208,23 +209,6 @@ fn same(chunk: &[u8], words: &mut [u32], text: &mut [u8], counts: &mut Counts) -
                 && undump(&chunk[..r.read - 1], NAME).is_err()
                 && tight(chunk, r, words, text)
         }
-    }
-}
-
-/// SplitMix64, from a fixed seed.
-struct Random(u64);
-
-impl Random {
-    fn next(&mut self) -> u64 {
-        self.0 = self.0.wrapping_add(0x9E37_79B9_7F4A_7C15);
-        let mut z = self.0;
-        z = (z ^ (z >> 30)).wrapping_mul(0xBF58_476D_1CE4_E5B9);
-        z = (z ^ (z >> 27)).wrapping_mul(0x94D0_49BB_1331_11EB);
-        z ^ (z >> 31)
-    }
-
-    fn below(&mut self, n: usize) -> usize {
-        (self.next() % n as u64) as usize
     }
 }
 

@@ -10,6 +10,7 @@ use std::fs::File;
 use std::io::{Result, Write};
 use std::path::PathBuf;
 
+use oracle::random::Random;
 use oracle::vm::instructions::{Instruction, NUM_OPCODES, OpArgMask, OpCode, OpMode};
 
 /// Where records go: standard output, or files of at most `MOST` bytes in a folder.
@@ -86,31 +87,6 @@ impl Out {
         record.extend(format!("{:<9}", op.name()).as_bytes());
         record.extend([mode, arg(op.b_mode()), arg(op.c_mode()), u8::from(op.is_test_mode()), u8::from(op.sets_register_a())]);
         self.put(&record)
-    }
-}
-
-/// SplitMix64, from a fixed seed.
-struct Random(u64);
-
-impl Random {
-    fn next(&mut self) -> u64 {
-        self.0 = self.0.wrapping_add(0x9E37_79B9_7F4A_7C15);
-        let mut z = self.0;
-        z = (z ^ (z >> 30)).wrapping_mul(0xBF58_476D_1CE4_E5B9);
-        z = (z ^ (z >> 27)).wrapping_mul(0x94D0_49BB_1331_11EB);
-        z ^ (z >> 31)
-    }
-
-    fn below(&mut self, n: usize) -> usize {
-        (self.next() % n as u64) as usize
-    }
-
-    fn byte(&mut self) -> u8 {
-        (self.next() >> 24) as u8
-    }
-
-    fn of<T: Copy>(&mut self, items: &[T]) -> T {
-        items[self.below(items.len())]
     }
 }
 
