@@ -12,13 +12,8 @@ use Rattle.format.specs.Tree.{Constant, Source, Local, Debug, Parts, Fun
 use Rattle.format.specs.Read.{Read, Reader, got, refused, _>>=_, return, loadByte as word, many, manyFunctions}
 use Rattle.format.specs.Store.{Piece, plain, word as wordPiece, _⊕_, string, pieces, list, ints, sourcePiece, constantPiece, localPiece, debugPiece, packed, functionPiece, functionPieces, wordsOf, textOf}
 use Rattle.format.specs.Valid.{depth, ValidParts, Valid, ValidAll, Holds}
-use Rattle.format.specs.Stored.{part, storedSource, storedConstant, storedName, storedLocal, storedDebug, storedFunction, holds?, heldBy, treeOf}
+use Rattle.format.specs.Stored.{part, Here, storedSource, storedConstant, storedName, storedLocal, storedDebug, storedFunction, holds?, heldBy, treeOf}
 use Rattle.format.proofs.RoundTrip.{Reads, pure, step, last, value-is, byte-law}
-
--- the list xs, from a place on, begins with s
-pub record Here (xs : List ℕ) (place : ℕ) (s : List ℕ) : Type 0 where
-  pub more : List ℕ
-  pub is : drop place xs ≡ s ++ more
 
 module _ {xs : List ℕ} where
   pub here-left : {place : ℕ} (s t : List ℕ) → Here xs place (s ++ t) → Here xs place s

@@ -3,7 +3,7 @@ use Prim.Native.Nat.{ℕ, zero, suc, _/_, _%_, _^_}
 use mathlib.Core.Path.{_≡_, refl}
 use mathlib.Core.Logic.{ite}
 use mathlib.Core.Option.{Option, none, some}
-use mathlib.Core.List.{List, [], _∷_}
+use mathlib.Core.List.{List, [], _∷_, _++_}
 use mathlib.Core.Bool.{Bool, true, false, cond, not, false≢true}
 use native.Mathlib.Omega.{arith}
 use native.Mathlib.Decide.{ℕ-discrete, decLe, decLt}
@@ -21,6 +21,11 @@ use Rattle.format.specs.Valid.{depth, most, Name, ValidSource, ValidCons
 -- a string of the text
 abbrev pub part : List ℕ → ℕ → ℕ → List ℕ
 part text place n = take n (drop place text)
+
+-- the list xs, from a place on, begins with s
+pub record Here (xs : List ℕ) (place : ℕ) (s : List ℕ) : Type 0 where
+  pub more : List ℕ
+  pub is : drop place xs ≡ s ++ more
 
 module _ (text : List ℕ) where
   abbrev pub storedSource : Reader Source

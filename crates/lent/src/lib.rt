@@ -16,7 +16,8 @@ pub fn further(at: usize, n: usize) -> usize
     if n <= FAR - at { at + n } else { FAR }
 }
 
-fn least(a: usize, b: usize) -> usize
+// The lesser of two numbers.
+pub fn least(a: usize, b: usize) -> usize
     ensures { λ r. ⌜ r ≡ min a b ⌝ }
 {
     if a <= b { a } else { b }

@@ -12,9 +12,9 @@ use Rattle.lent.specs.Memory.{Every, Word, Bytes}
 use Rattle.utf8.specs.Utf8.{isUtf8}
 use Rattle.utf8.specs.Laws.{utf8-bytes}
 use Rattle.format.specs.Store.{Piece, word, _⊕_, string, pieces, list, ints}
-use Rattle.format.specs.Stored.{part}
+use Rattle.format.specs.Stored.{part, Here}
 use Rattle.format.specs.Valid.{Name, ValidList}
-use Rattle.format.proofs.Stored.{Here, here-left, here-right, here-part}
+use Rattle.format.proofs.Stored.{here-left, here-right, here-part}
 use Rattle.proto.specs.declared.formed.Checked.{Checked}
 use Rattle.proto.specs.Walk.{Stands}
 use Rattle.proto.specs.Formed.{Passed, Check, Within, three, Three}

@@ -6,9 +6,9 @@ use native.Mathlib.Omega.{arith}
 use lib.ListN.{length, take, drop, getD, length-append, length-drop, take-append-drop, drop-of-length-le, List·getD-append}
 use lib.Seq.{drop-at, drop-drop, getD-drop, take-all, take-length, drop-length}
 use native.Mathlib.Decide.{decLe}
-use Rattle.format.specs.Stored.{part}
+use Rattle.format.specs.Stored.{part, Here}
 use Rattle.lent.proofs.Lists.{drop-more}
-use Rattle.format.proofs.Stored.{Here, here-left}
+use Rattle.format.proofs.Stored.{here-left}
 
 module _ {xs : List ℕ} {at : ℕ} where
   pub here-length : (l : List ℕ) → (h : Here xs at l) → length xs - at ≡ length l + length (h .more)

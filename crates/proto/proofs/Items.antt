@@ -12,9 +12,9 @@ use lib.Dec.{eqb}
 use Rattle.lent.specs.Memory.{far}
 use Rattle.format.specs.Tree.{Constant as Value, Source, Parts, Function, Functions, count, filled}
 use Rattle.format.specs.Store.{Piece, word, _⊕_, string, pieces, list, ints, sourcePiece, constantPiece, localPiece, debugPiece, packed, functionPiece, functionPieces}
-use Rattle.format.specs.Stored.{part}
+use Rattle.format.specs.Stored.{part, Here}
 use Rattle.format.specs.Valid.{ValidParts, Valid, ValidAll}
-use Rattle.format.proofs.Stored.{Here, here-left, here-right, here-part}
+use Rattle.format.proofs.Stored.{here-left, here-right, here-part}
 use Rattle.proto.specs.declared.walk.Next.{Next}
 use Rattle.proto.specs.Walk.{Stands, item, Skips, Past, totalAll, totalBefore, Passes, children, childrenPiece, toCode, toConstants, toFunctions, toChild, toLines, toLocals, toUpvalues}
 use Rattle.proto.specs.Head.{headOf}

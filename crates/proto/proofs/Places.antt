@@ -12,7 +12,8 @@ use borrow.Author.Tests.{eq-eqb, ne-eqb}
 use Rattle.format.specs.Tree.{Source, Debug, Parts, Function, Functions, count, filled}
 use Rattle.format.specs.Store.{sourcePiece, debugPiece, functionPiece, functionPieces}
 use Rattle.format.specs.Valid.{Valid, ValidAll}
-use Rattle.format.proofs.Stored.{Here, here-left, here-right}
+use Rattle.format.specs.Stored.{Here}
+use Rattle.format.proofs.Stored.{here-left, here-right}
 use Rattle.proto.specs.declared.place.Span.{Span}
 use Rattle.proto.specs.declared.place.Sought.{Sought}
 use Rattle.proto.specs.Walk.{Skips, Past, toFunctions, toLines, childrenPiece}

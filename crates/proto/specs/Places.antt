@@ -8,9 +8,8 @@ use lib.ListN.{length}
 use lib.Dec.{eqb}
 use Rattle.format.specs.Tree.{Source, Function, Functions, filled}
 use Rattle.format.specs.Store.{functionPiece}
-use Rattle.format.specs.Stored.{treeOf}
+use Rattle.format.specs.Stored.{treeOf, Here}
 use Rattle.format.specs.Undump.{nameOk}
-use Rattle.format.proofs.Stored.{Here}
 use Rattle.proto.specs.Walk.{toFunctions}
 use Rattle.proto.specs.declared.place.Span.{Span}
 use Rattle.proto.specs.declared.place.Sought.{Sought}

@@ -7,7 +7,7 @@ use lib.ListN.{length}
 use Rattle.lent.specs.Memory.{far}
 use Rattle.format.specs.Tree.{Parts, Function, Functions, count}
 use Rattle.format.specs.Store.{Piece, word, _⊕_, list, ints, sourcePiece, constantPiece, localPiece, packed, functionPieces}
-use Rattle.format.proofs.Stored.{Here}
+use Rattle.format.specs.Stored.{Here}
 use Rattle.proto.specs.declared.walk.Next.{Next}
 
 -- the piece stands in the words at a place, its text at a place of the text

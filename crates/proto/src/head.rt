@@ -3,7 +3,7 @@ use crate::walk::skip;
 use crate::walk::word_at;
 ghost use mathlib.Core.Path.{_≡_};
 ghost use Prim.Native.Nat.{ℕ};
-ghost use Rattle.format.proofs.Stored.{Here};
+ghost use Rattle.format.specs.Stored.{Here};
 ghost use Rattle.format.specs.Tree.{Parts};
 ghost use Rattle.format.specs.Valid.{ValidParts};
 ghost use Rattle.proto.specs.Head.{headOf};

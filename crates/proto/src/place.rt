@@ -12,7 +12,7 @@ ghost use Prim.Native.Nat.{ℕ};
 ghost use Rattle.format.specs.Tree.{Source, Function};
 ghost use Rattle.format.specs.Store.{sourcePiece};
 ghost use Rattle.format.specs.Valid.{depth, Valid};
-ghost use Rattle.format.proofs.Stored.{Here};
+ghost use Rattle.format.specs.Stored.{Here};
 ghost use Rattle.proto.specs.Places.{spanOf, Search, placeRefusal, noSource, sourceAnswer, sourcePart};
 
 // Where a source stands: in the text, or in the chunk name where in_text is 0.

@@ -1,7 +1,8 @@
 // Where the parts of a function stand. Past the end a word is 0, and no place goes on from there.
+use lent::least;
 ghost use mathlib.Core.List.{List};
 ghost use mathlib.Core.Path.{_≡_};
-ghost use Prim.Native.Nat.{ℕ, suc, _+_, _*_, _≤_, min};
+ghost use Prim.Native.Nat.{ℕ, suc, _+_, _*_, _≤_};
 ghost use lib.ListN.{getD};
 ghost use Rattle.format.specs.Tree.{Source, Debug, Parts, Functions, Function, count, filled};
 ghost use Rattle.format.specs.Store.{string, sourcePiece, debugPiece, functionPiece};
@@ -32,13 +33,6 @@ pub fn skip(words: &[u32], at: usize, n: usize) -> usize
         }
     }
     at
-}
-
-// The lesser of two numbers.
-fn least(a: usize, b: usize) -> usize
-    ensures { λ r. ⌜ r ≡ min a b ⌝ }
-{
-    if a <= b { a } else { b }
 }
 
 // The part of the text at a place, as far as the text goes.

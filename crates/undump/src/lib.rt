@@ -9,10 +9,10 @@ use cursor::remaining;
 use format::Undumped;
 use function::load_function;
 use header::load_header;
+use lent::least;
 use load::Load;
 ghost use mathlib.Core.Path.{_≡_};
 ghost use mathlib.Core.List.{[]};
-ghost use Prim.Native.Nat.{min};
 ghost use Rattle.format.specs.Undump.{nameOk, undumped, undumpRefused};
 ghost use Rattle.undump.specs.Step.{undumpLeft};
 
@@ -41,12 +41,6 @@ fn name_ok(name: &[u8]) -> bool
         return false;
     }
     name.len() <= MOST
-}
-
-fn least(a: usize, b: usize) -> usize
-    ensures { λ r. ⌜ r ≡ min a b ⌝ }
-{
-    if a <= b { a } else { b }
 }
 
 // Reads a chunk into lent memory: once with no space, to count and to find what refuses it, then, where all fits, to write.

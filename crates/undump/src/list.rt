@@ -12,10 +12,11 @@ use crate::load::copy_int;
 use crate::load::load_name;
 use crate::load::put;
 use crate::load::put_string;
+use lent::least;
 ghost use mathlib.Core.Path.{_≡_};
 ghost use mathlib.Core.Bool.{cond};
 ghost use mathlib.Core.List.{List, [], _∷_};
-ghost use Prim.Native.Nat.{ℕ, _+_, _-_, _*_, _≤_, min};
+ghost use Prim.Native.Nat.{ℕ, _+_, _-_, _*_, _≤_};
 ghost use lib.ListN.{length};
 ghost use lib.Seq.{sets};
 ghost use Rattle.lent.specs.Memory.{Puts};
@@ -24,12 +25,6 @@ ghost use Rattle.format.specs.Read.{loadConstant};
 ghost use Rattle.format.specs.Store.{ints, constantPiece, plain};
 ghost use Rattle.format.specs.Store.{list as listPiece};
 ghost use Rattle.undump.specs.Step.{fours, valueOf, Within, space, world, Does, Loads, repairedLocalPiece, repairedLocals, repairedNames};
-
-fn least(a: usize, b: usize) -> usize
-    ensures { λ r. ⌜ r ≡ min a b ⌝ }
-{
-    if a <= b { a } else { b }
-}
 
 // n integers, which fit, go from the chunk to the words.
 fn fill(chunk: &[u8], from: usize, n: usize, words: &mut [u32], at: usize)
