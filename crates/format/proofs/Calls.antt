@@ -1,11 +1,11 @@
 -- What undump and dump answer, case by case: when each refuses, and what a call that does not leaves.
-use Prim.Native.Nat.{ℕ, zero, suc, _-_, _≤_, _<_, min}
+use Prim.Native.Nat.{ℕ, _-_, _≤_, _<_, min}
 use mathlib.Core.Path.{_≡_, refl, sym, ap, _∙_}
 use mathlib.Core.Option.{Option, none, some}
-use mathlib.Core.List.{List, [], _∷_, _++_}
+use mathlib.Core.List.{List}
 use mathlib.Core.Bool.{Bool, true, false, cond}
 use native.Mathlib.Omega.{arith}
-use lib.ListN.{length, take, drop}
+use lib.ListN.{length}
 use lib.Seq.{take-at}
 use lib.Dec.{leb}
 use borrow.Author.Tests.{le-leb, lt-leb, leb-true, leb-false}
@@ -18,8 +18,7 @@ use Rattle.format.specs.Valid.{depth, most, Valid, Holds}
 use Rattle.format.specs.Stored.{treeOf}
 use Rattle.format.specs.Undump.{loadChunk, UndumpLeft, undumpRefused, nameOk, fits, over, storeLeft, undumpedBy, undumped}
 use Rattle.format.specs.Demand3.{UndumpCall, undumpLeft, wordsUsed, textUsed, Refuses}
-use Rattle.format.specs.Dump.{WriteLeft, writeRefused, written, dumpedBy, dumped}
-use Rattle.format.proofs.Stored.{tree-holds}
+use Rattle.format.specs.Dump.{WriteLeft, writeRefused, dumpedBy, dumped}
 use Rattle.format.proofs.Loaded.{loaded-valid, load-refuses}
 
 -- ---- undump

@@ -1,31 +1,30 @@
 -- The proof of demand 3. Reading a dump finds the tree that was written and ends where the dump ends, whatever stands behind it,
 -- so a call that is not refused moves on by the dump, one that is refused stays, and the dumps that are left are those that stand there.
-use Prim.Native.Nat.{ℕ, zero, suc, _+_, _-_, _≤_, _<_}
-use mathlib.Core.Path.{_≡_, refl, sym, ap, subst, _∙_}
+use Prim.Native.Nat.{ℕ, zero, suc, _+_, _-_, _<_}
+use mathlib.Core.Path.{_≡_, refl, sym, ap, _∙_}
 use mathlib.Core.Logic.{_⊎_, inl, inr}
 use mathlib.Core.Option.{Option, none, some}
 use mathlib.Core.List.{List, [], _∷_, _++_, map, append-assoc, append-nil, append-cancel-right}
 use mathlib.Core.Bool.{Bool, true, false, cond}
 use native.Mathlib.Omega.{arith}
-use lib.ListN.{length, take, drop, length-append}
+use lib.ListN.{length, drop, length-append}
 use lib.Seq.{take-at, drop-at, drop-drop}
 use lib.Dec.{leb, eqb}
 use borrow.Author.Tests.{leb-true, eqb-true, eqb-false}
 use Rattle.lent.specs.Memory.{Every}
 use Rattle.utf8.specs.Utf8.{isUtf8}
 use Rattle.utf8.specs.Rows.{both}
-use Rattle.format.specs.Tree.{Source, Parts, Function, Functions, rootSource, stripped, strippedAll, fill}
-use Rattle.format.specs.Read.{Read, got, refused}
+use Rattle.format.specs.Tree.{Function, Functions, rootSource, stripped, strippedAll, fill}
+use Rattle.format.specs.Read.{got, refused}
 use Rattle.format.specs.Write.{dumpChunk}
-use Rattle.format.specs.Store.{wordsOf, textOf}
-use Rattle.format.specs.Valid.{depth, most, Name, Valid, Holds, HoldOne}
+use Rattle.format.specs.Valid.{depth, most, Name, Holds, HoldOne}
 use Rattle.format.specs.Stored.{treeOf}
-use Rattle.format.specs.Undump.{loadChunk, UndumpLeft, undumpRefused, nameOk}
+use Rattle.format.specs.Undump.{loadChunk, UndumpLeft}
 use Rattle.format.specs.Dump.{WriteLeft}
-use Rattle.format.specs.Demand3.{DumpCall, dumpLeft, Accepted, bytesOf, dumpsOf, endToEnd, rootOf, dumpedSource, UndumpCall, undumpLeft, wordsUsed, textUsed, Refuses, FindsStripped, Takes, Step, dumpsLeft, Session, Demand3}
+use Rattle.format.specs.Demand3.{DumpCall, dumpLeft, Accepted, bytesOf, dumpsOf, endToEnd, dumpedSource, UndumpCall, undumpLeft, wordsUsed, textUsed, Refuses, FindsStripped, Takes, Step, dumpsLeft, Session, Demand3}
 use Rattle.format.proofs.RoundTrip.{Reads, readBack, chunk-law, found-valid, found-filled}
 use Rattle.format.proofs.Stored.{tree-holds}
-use Rattle.format.proofs.Calls.{Outcome, Stores, undump-outcome, undump-refused, refusal-is, stored-holds, DumpRefuses, DumpOutcome, Dumps, dump-outcome}
+use Rattle.format.proofs.Calls.{Outcome, Stores, undump-outcome, undump-refused, refusal-is, stored-holds, DumpRefuses, DumpOutcome, dump-outcome}
 
 got-both : {A : Type 0} {a b : A} {s t : List ℕ} → got a s ≡ got b t → (a ≡ b) × (s ≡ t)
 got-both e = (cc, cc)

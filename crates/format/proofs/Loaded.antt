@@ -1,8 +1,8 @@
 -- Whatever is read of bytes is a well-formed tree once its names are repaired, so the store that undump leaves is well formed.
-use Prim.Native.Nat.{ℕ, zero, suc, _+_, _*_, _≤_, _<_, _^_, min}
-use mathlib.Core.Path.{_≡_, refl, sym, ap, _∙_}
-use mathlib.Core.List.{List, [], _∷_, _++_, map}
-use mathlib.Core.Bool.{Bool, true, false, cond, _&&_, not}
+use Prim.Native.Nat.{ℕ, zero, suc, _≤_, _<_, _^_}
+use mathlib.Core.Path.{_≡_, refl, sym, ap}
+use mathlib.Core.List.{List, [], _∷_, map}
+use mathlib.Core.Bool.{Bool, true, false, cond, not}
 use native.Mathlib.Omega.{arith}
 use lib.ListN.{length, take, drop, length-map}
 use lib.Seq.{length-take-le}
@@ -12,9 +12,9 @@ use Rattle.lent.specs.Memory.{Every, Byte, Word, Bytes}
 use Rattle.lent.proofs.Lists.{every-take, every-drop}
 use Rattle.utf8.specs.Utf8.{repair}
 use Rattle.utf8.specs.Laws.{utf8-repair}
-use Rattle.format.specs.Tree.{Constant, Source, Local, Debug, Parts, Function, Functions, count, filled, with}
-use Rattle.format.specs.Read.{Read, Reader, got, refused, andThen, _>>=_, return, refuse, loadBlock, loadByte, littleEndian, loadNumber, loadInt, stringOf, loadString, loadText, limit, countOf, loadCount, many, loadList, loadBoolean, loadNum, loadStr, constantOf, loadConstant, manyFunctions, Constants, loadConstants, loadLocal, loadDebug, loadFunction, same, signature, format, loadExactly, loadHeader}
-use Rattle.format.specs.Valid.{depth, most, Name, ValidSource, ValidConstant, ValidLocal, ValidList, ValidDebug, ValidParts, Valid, ValidAll}
+use Rattle.format.specs.Tree.{Constant, Source, Function, Functions, count, filled}
+use Rattle.format.specs.Read.{Read, Reader, got, refused, andThen, _>>=_, return, refuse, loadBlock, loadByte, littleEndian, loadNumber, loadInt, stringOf, loadString, loadText, limit, countOf, loadCount, many, loadList, constantOf, loadConstant, manyFunctions, Constants, loadConstants, loadLocal, loadDebug, loadFunction, same, signature, format, loadExactly, loadHeader}
+use Rattle.format.specs.Valid.{depth, Name, ValidSource, ValidConstant, ValidLocal, ValidList, ValidDebug, Valid, ValidAll}
 use Rattle.format.specs.Undump.{repairedSource, repairedLocal, repairedDebug, repaired, repairedAll, loadChunk}
 
 -- of bytes, the reader r gives only values of which P holds, and leaves bytes; it refuses by 2 to 7 only

@@ -1,20 +1,20 @@
 -- Reading finds what was written, whatever stands behind: a law for each part, then for the tree and the chunk.
-use Prim.Native.Nat.{ℕ, zero, suc, _+_, _*_, _/_, _%_, _≤_, _<_, _^_}
-use mathlib.Core.Path.{_≡_, refl, sym, ap, _∙_}
+use Prim.Native.Nat.{ℕ, zero, suc, _+_, _/_, _≤_, _<_, _^_}
+use mathlib.Core.Path.{_≡_, refl, sym, ap}
 use mathlib.Core.List.{List, [], _∷_, _++_, map, append-assoc}
-use mathlib.Core.Bool.{Bool, true, false, cond, _&&_, false≢true}
+use mathlib.Core.Bool.{Bool, true, false, cond, false≢true}
 use native.Mathlib.Omega.{arith}
 use native.Mathlib.Numerals.{add-one}
-use lib.ListN.{length, take, drop, length-append}
+use lib.ListN.{length, length-append}
 use lib.Seq.{take-at, drop-at}
-use lib.Dec.{leb, eqb}
+use lib.Dec.{eqb}
 use borrow.Author.Tests.{le-leb, eqb-true}
 use Rattle.utf8.specs.Utf8.{repair}
 use Rattle.utf8.specs.Laws.{repair-utf8}
 use Rattle.utf8.specs.Rows.{both}
 use Rattle.lent.specs.Memory.{Every, Word}
 use Rattle.format.specs.Tree.{Constant, Source, Local, Debug, Parts, Function, Functions, count, filled, kept, noDebug, with, rootSource, fill, fillAll, stripped, strippedAll}
-use Rattle.format.specs.Read.{Read, Reader, got, _>>=_, return, loadBlock, loadByte, littleEndian, loadNumber, loadInt, loadSize, stringOf, loadString, loadText, limit, countOf, loadCount, many, loadList, constantOf, loadConstant, manyFunctions, Constants, loadConstants, loadLocal, loadDebug, loadFunction, same, signature, format, loadHeader}
+use Rattle.format.specs.Read.{Reader, got, _>>=_, return, loadBlock, loadByte, littleEndian, loadNumber, loadInt, stringOf, loadString, loadText, limit, countOf, loadCount, many, loadList, constantOf, loadConstant, manyFunctions, loadConstants, loadLocal, loadDebug, loadFunction, same, signature, format, loadHeader}
 use Rattle.format.specs.Write.{dumpNumber, dumpInt, dumpSize, dumpString, dumpText, each, dumpList, dumpConstant, dumpConstants, dumpLocal, dumpDebug, elided, dumpFunction, dumpFunctions, dumpHeader, dumpChunk}
 use Rattle.format.specs.Store.{Piece, pieces, constantPiece, localPiece, string, sourcePiece, functionPiece, functionPieces, textOf}
 use Rattle.format.specs.Valid.{depth, most, Name, ValidSource, ValidConstant, ValidLocal, ValidList, ValidDebug, ValidParts, Valid, ValidAll}

@@ -1,16 +1,16 @@
 -- The definitions evaluated on the scope's sample and on a tree of three levels, so that the theorems speak of something.
 use Prim.Native.Nat.{ℕ}
 use mathlib.Core.Path.{_≡_, refl}
-use mathlib.Core.Bool.{Bool, true, false}
-use mathlib.Core.Option.{Option, none, some}
+use mathlib.Core.Bool.{true, false}
+use mathlib.Core.Option.{none, some}
 use mathlib.Core.List.{List, [], _∷_, _++_}
 use native.Mathlib.Decide.{decLe, decLt, ℕ-discrete}
 use Rattle.lent.specs.Memory.{Every}
 use Rattle.utf8.specs.Utf8.{utf8UpTo, repairUpTo, firstStep, whole, begun, matched}
-use Rattle.format.specs.Tree.{Constant, Source, Local, Debug, Parts, Function, Functions, count, noDebug, stripped}
-use Rattle.format.specs.Read.{Read, got, refused, loadFunction, loadConstants, loadDebug, loadHeader, many, manyFunctions, littleEndian, same}
+use Rattle.format.specs.Tree.{Constant, Source, Debug, Function, Functions, count, noDebug}
+use Rattle.format.specs.Read.{got, loadFunction, loadConstants, loadDebug, loadHeader, many, manyFunctions, littleEndian, same}
 use Rattle.format.specs.Write.{dumpNumber, each, dumpFunction, dumpChunk}
-use Rattle.format.specs.Store.{functionPiece, pieces, wordsOf, textOf}
+use Rattle.format.specs.Store.{functionPiece, pieces}
 use Rattle.format.specs.Valid.{Valid}
 use Rattle.format.specs.Stored.{storedFunction, both?, as?, true?, every?, same?, valid?, treeOf}
 use Rattle.format.specs.Undump.{loadChunk, repaired}

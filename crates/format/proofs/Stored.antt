@@ -1,16 +1,16 @@
 -- A store holds one tree only, the one that its words say: treeOf finds it, and finds none where there is none.
-use Prim.Native.Nat.{ℕ, zero, suc, _+_, _*_, _/_, _%_}
+use Prim.Native.Nat.{ℕ, zero, suc, _+_, _/_, _%_}
 use mathlib.Core.Path.{_≡_, refl, sym, ap, _∙_}
 use mathlib.Core.Logic.{_↔_, ite}
-use mathlib.Core.Option.{Option, none, some}
+use mathlib.Core.Option.{none, some}
 use mathlib.Core.List.{List, [], _∷_, _++_, append-assoc, append-nil}
-use mathlib.Core.Bool.{Bool, true, false, cond}
+use mathlib.Core.Bool.{true, false}
 use native.Mathlib.Omega.{arith}
-use lib.ListN.{length, take, drop}
+use lib.ListN.{length}
 use lib.Seq.{take-at, drop-at, drop-drop}
 use Rattle.format.specs.Tree.{Constant, Source, Local, Debug, Parts, Function, Functions, count}
-use Rattle.format.specs.Read.{Read, Reader, got, refused, _>>=_, return, loadByte as word, many, manyFunctions}
-use Rattle.format.specs.Store.{Piece, plain, word as wordPiece, _⊕_, string, pieces, list, ints, sourcePiece, constantPiece, localPiece, debugPiece, packed, functionPiece, functionPieces, wordsOf, textOf}
+use Rattle.format.specs.Read.{Read, Reader, got, refused, _>>=_, loadByte as word, many, manyFunctions}
+use Rattle.format.specs.Store.{Piece, word as wordPiece, _⊕_, string, pieces, list, ints, sourcePiece, constantPiece, localPiece, debugPiece, packed, functionPiece, functionPieces, textOf}
 use Rattle.format.specs.Valid.{depth, ValidParts, Valid, ValidAll, Holds}
 use Rattle.format.specs.Stored.{part, Here, storedSource, storedConstant, storedName, storedLocal, storedDebug, storedFunction, holds?, heldBy, treeOf}
 use Rattle.format.proofs.RoundTrip.{Reads, pure, step, last, value-is, byte-law}

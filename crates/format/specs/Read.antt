@@ -4,7 +4,7 @@ use mathlib.Core.List.{List, [], _∷_}
 use mathlib.Core.Bool.{Bool, true, false, cond, not, _&&_}
 use lib.ListN.{length, take, drop}
 use lib.Dec.{leb, eqb}
-use Rattle.format.specs.Tree.{Constant, Source, Local, Debug, Parts, Function, Functions, filled}
+use Rattle.format.specs.Tree.{Constant, Source, Local, Debug, Function, Functions, filled}
 
 -- what a step of reading gives: a value with the bytes left, or a refusal
 pub data Read (A : Type 0) : Type 0 where

@@ -9,7 +9,7 @@ use native.Mathlib.Omega.{arith}
 use native.Mathlib.Decide.{ℕ-discrete, decLe, decLt}
 use lib.ListN.{length, take, drop}
 use lib.Dec.{eqb}
-use Rattle.lent.specs.Memory.{Every, Byte, Word, Bytes}
+use Rattle.lent.specs.Memory.{Every, Byte, Word}
 use Rattle.utf8.specs.Utf8.{isUtf8}
 use Rattle.format.specs.Tree.{Constant, Source, Local, Debug, Parts, Function, Functions, count}
 use Rattle.format.specs.Read.{Read, Reader, _>>=_, return, refuse, loadByte as word, many, manyFunctions, limit}

@@ -5,7 +5,7 @@ use mathlib.Core.Bool.{Bool, cond, _&&_}
 use lib.ListN.{length, drop}
 use lib.Dec.{leb}
 use Rattle.utf8.specs.Utf8.{isUtf8, repair}
-use Rattle.format.specs.Tree.{Source, Local, Debug, Parts, Function, Functions, with}
+use Rattle.format.specs.Tree.{Source, Local, Debug, Function, Functions, with}
 use Rattle.format.specs.Read.{Read, Reader, _>>=_, return, loadHeader, loadFunction}
 use Rattle.format.specs.Store.{wordsOf, textOf}
 use Rattle.format.specs.Valid.{depth, most}

@@ -4,7 +4,7 @@ use Prim.Native.Nat.{ℕ, zero, suc, _+_, _/_, _%_}
 use mathlib.Core.List.{List, [], _∷_, _++_}
 use mathlib.Core.Bool.{Bool, cond}
 use lib.ListN.{length}
-use Rattle.format.specs.Tree.{Constant, Source, Local, Debug, Parts, Function, Functions, count, filled, kept}
+use Rattle.format.specs.Tree.{Constant, Source, Local, Debug, Function, Functions, count, filled, kept}
 use Rattle.format.specs.Read.{same, signature, format}
 
 -- a number as so many bytes, low byte first

@@ -1,15 +1,13 @@
 -- What reading a byte or a number gives at a place of the chunk.
-use Prim.Native.Nat.{ℕ, zero, suc, _+_, _*_, _-_, _≤_, _<_}
-use mathlib.Core.Path.{_≡_, refl, sym, ap, _∙_}
-use mathlib.Core.List.{List, [], _∷_, _++_}
-use mathlib.Core.Bool.{true, false}
+use Prim.Native.Nat.{ℕ, _+_, _*_, _-_, _≤_, _<_}
+use mathlib.Core.Path.{_≡_}
+use mathlib.Core.List.{List, _∷_}
 use native.Mathlib.Omega.{arith}
 use native.Mathlib.Nat.{add-zero}
 use lib.ListN.{length, take, drop, getD, length-drop, drop-of-length-le}
-use lib.Dec.{leb}
 use borrow.Author.Tests.{le-leb, lt-leb}
 use Rattle.lent.proofs.Lists.{drop-more}
-use Rattle.format.specs.Read.{Read, got, refused, loadByte, loadBlock, loadInt, loadSize, littleEndian}
+use Rattle.format.specs.Read.{got, refused, loadByte, loadBlock, loadInt, loadSize, littleEndian}
 use Rattle.undump.specs.Step.{fourAt}
 
 pub byte-got : (bs : List ℕ) (at : ℕ) → at < length bs → loadByte (drop at bs) ≡ got (getD bs at 0) (drop (at + 1) bs)

@@ -1,8 +1,8 @@
 -- A whole chunk, counted and then written: what undump answers and leaves, at each of its returns.
-use Prim.Native.Nat.{ℕ, zero, suc, _+_, _-_, _≤_, _<_, min}
+use Prim.Native.Nat.{ℕ, _+_, _-_, _≤_, _<_, min}
 use mathlib.Core.Path.{_≡_, refl, sym, ap, _∙_}
-use mathlib.Core.List.{List, [], _∷_, _++_, append-nil}
-use mathlib.Core.Bool.{Bool, true, false, cond}
+use mathlib.Core.List.{List, [], _++_, append-nil}
+use mathlib.Core.Bool.{true, false}
 use native.Mathlib.Omega.{arith}
 use lib.ListN.{length, take, drop, length-drop, drop-of-length-le}
 use lib.Seq.{sets, sets-eq, length-take-le}
@@ -11,13 +11,13 @@ use lib.Dec.{leb}
 use Rattle.lent.specs.Memory.{far}
 use Rattle.utf8.specs.Utf8.{isUtf8}
 use Rattle.format.specs.Tree.{Function}
-use Rattle.format.specs.Read.{Read, got, refused, _>>=_, return, loadHeader, loadFunction}
+use Rattle.format.specs.Read.{Read, got, refused, loadHeader, loadFunction}
 use Rattle.format.specs.Store.{functionPiece, wordsOf, textOf}
 use Rattle.format.specs.Valid.{depth, most}
-use Rattle.format.specs.Undump.{repaired, loadChunk, UndumpLeft, undumpRefused, nameOk, over, storeLeft, undumpedBy, undumped}
+use Rattle.format.specs.Undump.{repaired, loadChunk, undumpRefused, nameOk, over, undumpedBy, undumped}
 use Rattle.undump.specs.declared.cursor.Cursor.{Cursor}
 use Rattle.undump.specs.declared.load.Load.{Load}
-use Rattle.undump.specs.Step.{Stands, Step, Space, space, Wrote, Does, world, Loads, repairedFunction, beginning}
+use Rattle.undump.specs.Step.{Stands, Step, space, Does, world, Loads, repairedFunction, beginning}
 use Rattle.undump.proofs.Steps.{bind, mapped}
 
 -- a state that nothing was stored from

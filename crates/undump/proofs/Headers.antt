@@ -1,13 +1,13 @@
 -- The header: bytes that are there, or are not, or are others.
-use Prim.Native.Nat.{ℕ, zero, suc, _+_, _-_, _≤_, _<_}
-use mathlib.Core.Path.{_≡_, refl, sym, _∙_}
+use Prim.Native.Nat.{ℕ, _+_, _-_, _≤_, _<_}
+use mathlib.Core.Path.{_≡_, refl, sym}
 use mathlib.Core.List.{List, [], _∷_}
 use mathlib.Core.Bool.{Bool, true, false}
 use native.Mathlib.Omega.{arith}
 use lib.ListN.{length, take, drop, length-drop}
 use lib.Seq.{drop-drop}
 use borrow.Author.Tests.{eq-eqb}
-use Rattle.format.specs.Read.{Read, got, loadExactly, same, signature, format, loadHeader}
+use Rattle.format.specs.Read.{loadExactly, same, signature, format, loadHeader}
 use Rattle.format.proofs.RoundTrip.{same-true}
 use Rattle.undump.specs.declared.cursor.Cursor.{Cursor}
 use Rattle.undump.specs.Step.{Step}

@@ -1,18 +1,17 @@
 -- Integers in a row: what reading them gives, and what storing them leaves.
 use Prim.Native.Nat.{ℕ, zero, suc, _+_, _-_, _*_, _≤_, _<_, min}
-use mathlib.Core.Path.{_≡_, refl, sym, ap, _∙_}
-use mathlib.Core.List.{List, [], _∷_, _++_}
+use mathlib.Core.Path.{_≡_, refl, ap}
+use mathlib.Core.List.{List, [], _∷_}
 use native.Mathlib.Omega.{arith}
 use native.Mathlib.Decide.{decLe}
 use lib.ListN.{length, take, drop, getD}
 use lib.Seq.{sets}
 use Rattle.lent.specs.Memory.{far, Puts}
 use Rattle.lent.proofs.Writes.{sets-suc, put-lost, put-part, put-none}
-use Rattle.format.specs.Read.{Read, got, refused, andThen, _>>=_, return, loadInt, many, loadCount, loadList}
-use Rattle.format.specs.Store.{plain, word, _⊕_, ints}
-use Rattle.undump.specs.declared.cursor.Cursor.{Cursor}
+use Rattle.format.specs.Read.{got, refused, loadInt, many, loadCount, loadList}
+use Rattle.format.specs.Store.{plain, word, ints}
 use Rattle.undump.specs.declared.load.Load.{Load}
-use Rattle.undump.specs.Step.{Step, fourAt, fours, Space, space, Does, world, Loads}
+use Rattle.undump.specs.Step.{Step, fourAt, fours, space, Does, world, Loads}
 use Rattle.undump.proofs.Bytes.{int-got, int-none}
 use Rattle.undump.proofs.Steps.{passed, takes, stops, bind}
 use Rattle.undump.proofs.Stores.{join}

@@ -1,16 +1,14 @@
 -- Lists read item by item.
-use Prim.Native.Nat.{ℕ, zero, suc, _+_, _-_, _≤_, _<_}
-use mathlib.Core.Path.{_≡_, refl, sym, ap, _∙_}
+use Prim.Native.Nat.{ℕ, suc, _+_, _-_, _≤_, _<_}
+use mathlib.Core.Path.{_≡_, refl, ap, _∙_}
 use mathlib.Core.List.{List, [], _∷_, map}
 use native.Mathlib.Omega.{arith}
 use lib.ListN.{length}
-use Rattle.format.specs.Tree.{Function, Functions, count}
-use Rattle.format.specs.Read.{Read, Reader, got, andThen, _>>=_, return, many, manyFunctions, loadFunction, loadText, loadInt, loadLocal}
+use Rattle.format.specs.Tree.{Functions, count}
+use Rattle.format.specs.Read.{Reader, _>>=_, return, many, manyFunctions, loadFunction, loadText, loadInt, loadLocal}
 use Rattle.format.specs.Store.{Piece, plain, word, _⊕_, pieces, functionPieces}
 use Rattle.format.specs.Undump.{repairedAll}
-use Rattle.undump.specs.declared.cursor.Cursor.{Cursor}
-use Rattle.undump.specs.declared.load.Load.{Load}
-use Rattle.undump.specs.Step.{Step, Space, spaceOf, Does, World, Loads, repairedName, repairedLocalPiece, repairedFunction}
+use Rattle.undump.specs.Step.{Step, spaceOf, Does, World, Loads, repairedName, repairedLocalPiece, repairedFunction}
 use Rattle.undump.proofs.Steps.{weaken, bind, done, stays-then}
 use Rattle.undump.proofs.Stores.{nothing, join}
 

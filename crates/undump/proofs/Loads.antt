@@ -1,22 +1,21 @@
 -- What is read, stored: one thing, and things one after the other.
-use Prim.Native.Nat.{ℕ, zero, suc, _+_, _-_, _≤_, _<_, min}
-use mathlib.Core.Path.{_≡_, refl, sym, ap, _∙_}
-use mathlib.Core.List.{List, [], _∷_, _++_}
-use mathlib.Core.Bool.{Bool, true, false, cond}
+use Prim.Native.Nat.{ℕ, _+_, _-_}
+use mathlib.Core.Path.{_≡_, _∙_}
+use mathlib.Core.List.{List}
+use mathlib.Core.Bool.{true, false}
 use native.Mathlib.Omega.{arith}
-use lib.ListN.{length, take, drop}
+use lib.ListN.{take, drop}
 use Rattle.lent.specs.Memory.{Puts}
 use Rattle.utf8.specs.Utf8.{repair}
-use Rattle.format.specs.Tree.{Source, filled}
 use Rattle.format.specs.Tree.{Constant as Value}
-use Rattle.format.specs.Read.{Read, Reader, _>>=_, return, loadString, loadText, loadConstant}
-use Rattle.format.specs.Store.{Piece, plain, word, _⊕_, string, constantPiece}
+use Rattle.format.specs.Read.{Reader, loadString, loadText, loadConstant}
+use Rattle.format.specs.Store.{Piece, word, string, constantPiece}
 use Rattle.format.specs.Stored.{part}
 use Rattle.undump.specs.declared.cursor.Cursor.{Cursor}
 use Rattle.undump.specs.declared.cursor.Span.{Span}
 use Rattle.undump.specs.declared.load.Load.{Load}
-use Rattle.undump.specs.Step.{Step, spanned, Strings, Space, space, Does, world, moved, Loads, repairedName, repairedSourcePiece}
-use Rattle.undump.proofs.Steps.{weaken, mapped}
+use Rattle.undump.specs.Step.{Step, Strings, Space, space, Does, world, moved, Loads, repairedName, repairedSourcePiece}
+use Rattle.undump.proofs.Steps.{weaken}
 use Rattle.undump.proofs.Stores.{join}
 use Rattle.undump.proofs.Strings.{text-of}
 

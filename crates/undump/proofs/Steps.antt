@@ -1,11 +1,10 @@
 -- Steps of the reader, one after the other.
-use Prim.Native.Nat.{ℕ, zero, suc, _+_, _-_, _*_, _≤_, _<_, min}
-use mathlib.Core.Path.{_≡_, refl, sym, ap, _∙_}
-use mathlib.Core.List.{List, [], _∷_, _++_}
+use Prim.Native.Nat.{ℕ, _+_, _-_, _*_, _≤_, _<_}
+use mathlib.Core.Path.{_≡_, refl, sym, _∙_}
+use mathlib.Core.List.{List}
 use native.Mathlib.Omega.{arith}
-use lib.Dec.{leb}
 use borrow.Author.Tests.{le-leb, lt-leb}
-use lib.ListN.{length, take, drop, getD, length-append, length-drop}
+use lib.ListN.{length, drop, getD}
 use Rattle.format.specs.Read.{Read, Reader, got, refused, andThen, _>>=_, return, loadByte, loadInt, loadSize, limit, countOf, loadCount}
 use Rattle.undump.specs.declared.cursor.Cursor.{Cursor}
 use Rattle.undump.specs.Step.{Stands, Step, fourAt}
@@ -30,14 +29,6 @@ module _ {A : Type 0} {bs : List ℕ} {R : Reader A} {P : A → Type 0} {s r : C
       by : (x : Read A) → Stands bs x P r → Stands bs x Q r
       by (got a rest) t = (t .0, t .1, k a (t .2))
       by (refused n) t = t
-
-  -- what holds of any value read
-  pub step-fact : {Q : Type 0} → Step bs R P s r → s .refusal ≤ 0 → r .refusal ≤ 0 → ((a : A) → P a → Q) → Q
-  step-fact {Q} h z y k = by (R (drop (s .next) bs)) (h .goes (omega arith))
-    where
-      by : (x : Read A) → Stands bs x P r → Q
-      by (got a rest) t = k a (t .2)
-      by (refused n) t = absurd (omega arith)
 
 -- a step, and what follows it
 pub bind : {A B : Type 0} {bs : List ℕ} {R : Reader A} {P : A → Type 0} {Q : B → Type 0} {s m r : Cursor} (f : A → Reader B)

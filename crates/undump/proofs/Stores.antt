@@ -1,13 +1,12 @@
 -- Pieces stored one after the other.
-use Prim.Native.Nat.{ℕ, zero, suc, _+_, _-_, _≤_, _<_, min}
-use mathlib.Core.Path.{_≡_, refl, sym, ap, _∙_}
+use Prim.Native.Nat.{ℕ, _+_, _-_, _<_, min}
+use mathlib.Core.Path.{_≡_, refl, ap, _∙_}
 use mathlib.Core.List.{List, [], _∷_, _++_, append-assoc}
 use native.Mathlib.Omega.{arith}
 use lib.ListN.{length, length-append}
 use Rattle.lent.specs.Memory.{far, Puts}
 use Rattle.lent.proofs.Writes.{put-none, put-then, put-length}
 use Rattle.format.specs.Store.{Piece, plain, word, _⊕_, string}
-use Rattle.format.specs.Valid.{most}
 use Rattle.undump.specs.Step.{Space, Wrote, Does}
 
 pub nothing : {σ : Space} → Does (plain []) σ σ

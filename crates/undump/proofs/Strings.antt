@@ -1,23 +1,23 @@
 -- What reading a string gives at a place of the chunk, and a constant by its tag.
-use Prim.Native.Nat.{ℕ, zero, suc, _+_, _-_, _*_, _≤_, _<_}
+use Prim.Native.Nat.{ℕ, zero, suc, _+_, _-_, _≤_, _<_}
 use mathlib.Core.Path.{_≡_, refl, sym, ap, _∙_}
-use mathlib.Core.List.{List, [], _∷_, _++_}
+use mathlib.Core.List.{List, []}
 use mathlib.Core.Bool.{Bool, true, false, cond, not}
 use native.Mathlib.Omega.{arith}
 use native.Mathlib.Decide.{decLe}
-use lib.ListN.{length, take, drop, length-drop}
+use lib.ListN.{length, drop, length-drop}
 use lib.Seq.{drop-drop}
 use lib.Dec.{eqb}
-use borrow.Author.Tests.{eq-eqb, ne-eqb}
+use borrow.Author.Tests.{ne-eqb}
 use Rattle.format.specs.Tree.{Source, filled}
 use Rattle.format.specs.Tree.{Constant as Value}
-use Rattle.format.specs.Read.{Read, Reader, got, refused, loadByte, loadInt, loadSize, stringOf, loadString, loadText, constantOf, loadConstant}
+use Rattle.format.specs.Read.{got, refused, loadByte, loadInt, loadSize, stringOf, loadText, constantOf, loadConstant}
 use Rattle.format.specs.Stored.{part}
 use Rattle.undump.specs.declared.cursor.Cursor.{Cursor}
 use Rattle.undump.specs.declared.cursor.Span.{Span}
-use Rattle.undump.specs.Step.{Stands, Step, spanned, NoString, Strings}
+use Rattle.undump.specs.Step.{Step, spanned, NoString, Strings}
 use Rattle.undump.proofs.Bytes.{byte-got, byte-none, block-got, block-none}
-use Rattle.undump.proofs.Steps.{passed, takes, stops, bind, done, mapped, stays-then}
+use Rattle.undump.proofs.Steps.{passed, takes, stops, bind, mapped, stays-then}
 
 pub string-got : (bs : List ℕ) (at n : ℕ) → n < length bs - at → stringOf (suc n) (drop at bs) ≡ got (Source.own (part bs at n)) (drop (at + suc n) bs)
 string-got bs at n h =

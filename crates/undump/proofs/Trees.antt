@@ -1,15 +1,15 @@
 -- A function put together from its parts, as the definition reads it.
-use Prim.Native.Nat.{ℕ, zero, suc, _+_, _*_, _≤_, _<_}
-use mathlib.Core.Path.{_≡_, refl, sym, ap, _∙_}
-use mathlib.Core.List.{List, []}
+use Prim.Native.Nat.{ℕ, suc, _+_, _*_, _≤_}
+use mathlib.Core.Path.{_≡_, refl, _∙_}
+use mathlib.Core.List.{List}
 use native.Mathlib.Omega.{arith}
-use Rattle.format.specs.Tree.{Functions, count}
-use Rattle.format.specs.Read.{Reader, _>>=_, return, loadByte, loadInt, loadString, loadText, loadList, loadLocal, loadCount, loadConstant, manyFunctions, loadCode, loadConstants, loadDebug, loadFunction}
-use Rattle.format.specs.Store.{Piece, word, _⊕_, list, ints, constantPiece, sourcePiece, packed, functionPiece, functionPieces, debugPiece}
-use Rattle.format.specs.Undump.{repaired, repairedAll, repairedSource, repairedDebug}
+use Rattle.format.specs.Tree.{count}
+use Rattle.format.specs.Read.{loadByte, loadInt, loadString, loadText, loadList, loadLocal, loadCount, loadConstant, manyFunctions, loadCode, loadConstants, loadDebug, loadFunction}
+use Rattle.format.specs.Store.{word, list, ints, constantPiece, functionPiece, functionPieces}
+use Rattle.format.specs.Undump.{repaired, repairedAll}
 use Rattle.undump.specs.declared.cursor.Cursor.{Cursor}
 use Rattle.undump.specs.declared.load.Load.{Load}
-use Rattle.undump.specs.Step.{Step, Space, space, Does, World, spaceOf, moved, Loads, functionsPiece, repairedSourcePiece, repairedLocals, repairedNames, repairedDebugPiece, repairedConstants, repairedFunction}
+use Rattle.undump.specs.Step.{Step, space, Does, World, spaceOf, moved, Loads, functionsPiece, repairedSourcePiece, repairedLocals, repairedNames, repairedDebugPiece, repairedConstants, repairedFunction}
 use Rattle.undump.proofs.Steps.{stops, bind, done, stays-then}
 use Rattle.undump.proofs.Stores.{join, regroup}
 use Rattle.undump.proofs.Lists.{LoadsAll, listed}

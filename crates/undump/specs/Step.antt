@@ -1,7 +1,7 @@
 -- What a step of the reader does, against what reading gives (Read) and what a store holds (Store).
 use Prim.Native.Nat.{ℕ, zero, suc, _+_, _*_, _≤_, _<_, min}
 use mathlib.Core.Path.{_≡_}
-use mathlib.Core.Bool.{Bool, true, false, cond}
+use mathlib.Core.Bool.{false, cond}
 use mathlib.Core.List.{List, [], _∷_, map}
 use lib.ListN.{length, drop, getD}
 use Rattle.lent.specs.Memory.{far, Puts}

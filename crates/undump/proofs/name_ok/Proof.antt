@@ -1,6 +1,5 @@
 -- Both tests of the definition, in its order.
 use borrow.Author.Needs.{needs}
-use native.Mathlib.Omega.{arith}
 use mathlib.Core.Path.{sym, _∙_}
 use borrow.Author.Tests.{not-true, not-false}
 use Rattle.undump.proofs.Calls.{name-bad, name-good}

@@ -1,7 +1,7 @@
 -- The run without space finds what refuses the chunk and counts; the run over the space leaves the tree's store.
 use borrow.Author.Needs.{needs}
 use native.Mathlib.Omega.{arith}
-use mathlib.Core.Path.{refl, sym, ap, _∙_}
+use mathlib.Core.Path.{sym, _∙_}
 use lib.Seq.{length-take-le}
 use borrow.Author.Tests.{not-true, not-false}
 use Rattle.undump.proofs.Calls.{unnamed, refused-reading, refused-words, refused-text, stored}

@@ -1,7 +1,6 @@
 -- By the tag that was read, what the definition reads for it.
 use borrow.Author.Needs.{needs}
 use native.Mathlib.Omega.{arith}
-use mathlib.Core.Path.{refl}
 use Rattle.undump.proofs.Strings.{constant-refused, constant-nil, constant-bool, constant-num, constant-str, constant-bad}
 use Rattle.undump.proofs.cursor.load_constant.Statement.{statement}
 use Rattle.undump.proofs.cursor.load_constant.Tie as tie

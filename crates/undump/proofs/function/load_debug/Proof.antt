@@ -1,6 +1,5 @@
 -- Three lists, one after the other.
 use borrow.Author.Needs.{needs}
-use native.Mathlib.Omega.{arith}
 use Rattle.undump.proofs.Trees.{debug-loaded}
 use Rattle.undump.proofs.function.load_debug.Statement.{statement}
 use Rattle.undump.proofs.function.load_debug.Tie as tie

@@ -1,6 +1,5 @@
 -- The signature, then the other eight bytes.
 use borrow.Author.Needs.{needs}
-use native.Mathlib.Omega.{arith}
 use Rattle.undump.proofs.Headers.{header-loaded}
 use Rattle.undump.proofs.header.load_header.Statement.{statement}
 use Rattle.undump.proofs.header.load_header.Tie as tie

@@ -1,7 +1,5 @@
 -- The constant that was read is the one that is stored.
 use borrow.Author.Needs.{needs}
-use native.Mathlib.Omega.{arith}
-use mathlib.Core.Path.{_∙_, ap}
 use Rattle.undump.proofs.Loads.{constant-loaded}
 use Rattle.undump.proofs.list.copy_constant.Statement.{statement}
 use Rattle.undump.proofs.list.copy_constant.Tie as tie

@@ -1,7 +1,5 @@
 -- A name and two integers, as the definition reads a local.
 use borrow.Author.Needs.{needs}
-use native.Mathlib.Omega.{arith}
-use mathlib.Core.Path.{refl}
 use Rattle.undump.proofs.Lists.{local-loaded}
 use Rattle.undump.proofs.list.load_local.Statement.{statement}
 use Rattle.undump.proofs.list.load_local.Tie as tie

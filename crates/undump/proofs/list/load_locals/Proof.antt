@@ -6,11 +6,10 @@ use mathlib.Core.Path.{_≡_, refl, _∙_}
 use mathlib.Core.List.{map}
 use lib.ListN.{length}
 use Rattle.format.specs.Read.{many, loadLocal}
-use Rattle.format.specs.Store.{pieces, string, constantPiece, localPiece}
-use Rattle.utf8.specs.Utf8.{repair}
+use Rattle.format.specs.Store.{pieces, localPiece}
 use Rattle.format.specs.Undump.{repairedLocal}
 use Rattle.undump.specs.Step.{world}
-use Rattle.undump.proofs.Lists.{Loop, items, plain-items, loop-start, loop-stop, loop-turn, loop-end, listed}
+use Rattle.undump.proofs.Lists.{Loop, items, loop-start, loop-stop, loop-turn, loop-end, listed}
 use Rattle.undump.proofs.list.load_locals.Statement.{statement}
 use Rattle.undump.proofs.list.load_locals.Tie as tie
 

@@ -3,14 +3,11 @@ use borrow.Author.Needs.{needs}
 use native.Mathlib.Omega.{arith}
 use Prim.Native.Nat.{_≤_, _-_}
 use mathlib.Core.Path.{_≡_, refl, _∙_}
-use mathlib.Core.List.{map}
 use lib.ListN.{length}
 use Rattle.format.specs.Read.{many, loadConstant}
-use Rattle.format.specs.Store.{pieces, string, constantPiece, localPiece}
-use Rattle.utf8.specs.Utf8.{repair}
-use Rattle.format.specs.Undump.{repairedLocal}
+use Rattle.format.specs.Store.{pieces, constantPiece}
 use Rattle.undump.specs.Step.{world}
-use Rattle.undump.proofs.Lists.{Loop, items, plain-items, loop-start, loop-stop, loop-turn, loop-end, listed}
+use Rattle.undump.proofs.Lists.{Loop, plain-items, loop-start, loop-stop, loop-turn, loop-end, listed}
 use Rattle.undump.proofs.list.load_pool.Statement.{statement}
 use Rattle.undump.proofs.list.load_pool.Tie as tie
 

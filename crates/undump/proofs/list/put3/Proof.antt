@@ -1,6 +1,5 @@
 -- Three words, one after the other.
 use borrow.Author.Needs.{needs}
-use native.Mathlib.Omega.{arith}
 use mathlib.Core.Path.{_∙_}
 use Rattle.undump.proofs.Stores.{join}
 use Rattle.undump.proofs.list.put3.Statement.{statement}

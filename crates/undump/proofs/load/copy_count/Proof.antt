@@ -1,6 +1,5 @@
 -- The count that was read is the word that is stored, and is answered.
 use borrow.Author.Needs.{needs}
-use native.Mathlib.Omega.{arith}
 use Rattle.undump.proofs.Loads.{copied}
 use Rattle.undump.proofs.load.copy_count.Statement.{statement}
 use Rattle.undump.proofs.load.copy_count.Tie as tie

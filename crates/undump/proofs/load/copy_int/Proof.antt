@@ -1,6 +1,5 @@
 -- The integer that was read is the word that is stored.
 use borrow.Author.Needs.{needs}
-use native.Mathlib.Omega.{arith}
 use Rattle.undump.proofs.Steps.{weaken}
 use Rattle.undump.proofs.Loads.{copied}
 use Rattle.undump.proofs.load.copy_int.Statement.{statement}

@@ -1,6 +1,5 @@
 -- Three zeros where there is no source; else 1, and the string as a name's.
 use borrow.Author.Needs.{needs}
-use native.Mathlib.Omega.{arith}
 use borrow.Author.Tests.{not-true, not-false}
 use mathlib.Core.Path.{_∙_}
 use Rattle.undump.proofs.Loads.{source-none, source-own}

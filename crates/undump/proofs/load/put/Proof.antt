@@ -1,6 +1,5 @@
 -- The word is written at the words' place, and the text stays.
 use borrow.Author.Needs.{needs}
-use native.Mathlib.Omega.{arith}
 use mathlib.Core.Path.{refl}
 use Rattle.undump.proofs.Stores.{word-does}
 use Rattle.undump.proofs.load.put.Statement.{statement}

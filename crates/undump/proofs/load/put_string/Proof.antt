@@ -1,7 +1,7 @@
 -- Two words: the text's place before the bytes, and how far it moved.
 use borrow.Author.Needs.{needs}
 use native.Mathlib.Omega.{arith}
-use mathlib.Core.Path.{refl, _∙_}
+use mathlib.Core.Path.{_∙_}
 use Rattle.undump.proofs.Stores.{string-does}
 use Rattle.undump.proofs.load.put_string.Statement.{statement}
 use Rattle.undump.proofs.load.put_string.Tie as tie
