@@ -15,10 +15,12 @@ use Rattle.format.specs.Read.{Read, got, refused, loadHeader, loadFunction}
 use Rattle.format.specs.Store.{functionPiece, wordsOf, textOf}
 use Rattle.format.specs.Valid.{depth, most}
 use Rattle.format.specs.Undump.{repaired, loadChunk, undumpRefused, nameOk, over, undumpedBy, undumped}
-use Rattle.undump.specs.declared.cursor.Cursor.{Cursor}
-use Rattle.undump.specs.declared.load.Load.{Load}
-use Rattle.undump.specs.Step.{Stands, Step, space, Does, world, Loads, repairedFunction, beginning}
-use Rattle.undump.proofs.Steps.{bind, mapped}
+use Rattle.load.specs.declared.cursor.Cursor.{Cursor}
+use Rattle.load.specs.declared.Load.{Load}
+use Rattle.load.specs.Step.{Stands, Step, space, Does, world, Loads}
+use Rattle.load_function.specs.Repaired.{repairedFunction}
+use Rattle.undump.specs.Undump.{beginning}
+use Rattle.load.proofs.Steps.{bind, mapped}
 
 -- a state that nothing was stored from
 abbrev pub fresh : Cursor → Load

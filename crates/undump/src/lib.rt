@@ -1,20 +1,16 @@
 // Reading a chunk into lent memory (lundump.c; in the Rust, undump.rs).
-pub mod cursor;
-pub mod function;
 pub mod header;
-pub mod list;
-pub mod load;
 
-use cursor::remaining;
 use format::Undumped;
-use function::load_function;
 use header::load_header;
 use lent::least;
 use load::Load;
+use load::cursor::remaining;
+use load_function::load_function;
 ghost use mathlib.Core.Path.{_≡_};
 ghost use mathlib.Core.List.{[]};
 ghost use Rattle.format.specs.Undump.{nameOk, undumped, undumpRefused};
-ghost use Rattle.undump.specs.Step.{undumpLeft};
+ghost use Rattle.undump.specs.Undump.{undumpLeft};
 
 // The most words, and the most text bytes.
 const MOST: usize = 16777216;
