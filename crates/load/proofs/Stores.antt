@@ -26,7 +26,7 @@ join {p} {q} {σ} {m} {σ′} d e =
             stored = a .stored ++ b .stored;
             many = simp length-append (rw (a .many, b .many));
             exact = λ k. rw (a .exact (omega arith), b .exact (omega arith));
-            words = put-then (a .words) (b .words);
+            words = put-then {b = b .stored} (a .words) (b .words);
             text = put-then (a .text) (b .text);
           };
     }

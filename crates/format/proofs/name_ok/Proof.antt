@@ -1,7 +1,7 @@
 -- The test of UTF-8 first, then that of the length.
 use borrow.Author.Needs.{needs}
-use Rattle.proto.proofs.formed.name_ok.Statement.{statement}
-use Rattle.proto.proofs.formed.name_ok.Tie as tie
+use Rattle.format.proofs.name_ok.Statement.{statement}
+use Rattle.format.proofs.name_ok.Tie as tie
 
 is-utf8-requires : tie.Need-is-utf8-requires
 is-utf8-requires c κs = search needs
