@@ -1,6 +1,5 @@
 // The answers of the calls that read and write chunks: the refusal, 0 where there is none, then numbers, all 0 on refusal.
-// What the calls answer and leave in lent memory is defined in specs/. The only code here is the test that all calls with a chunk
-// name share.
+// What the calls answer and leave in lent memory is defined in specs/. Code here is the test of a chunk name alone, which the calls share.
 ghost use mathlib.Core.Path.{_≡_};
 ghost use Rattle.format.specs.Undump.{nameOk};
 
@@ -20,8 +19,8 @@ pub struct Written {
     pub len: usize,
 }
 
-// The most bytes of a chunk name.
-const MOST: usize = 16777216;
+// The most words, the most text bytes, and the most bytes of a chunk name.
+pub const MOST: usize = 16777216;
 
 // Whether a chunk name is UTF-8 and not too long: refusal 1 where it is not.
 pub fn name_ok(name: &[u8]) -> bool

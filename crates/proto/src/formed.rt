@@ -1,6 +1,7 @@
 // Whether a store is well formed: one walk over its words, and over its text beside them.
 use crate::walk::part;
 use crate::walk::word_at;
+use format::MOST;
 pub use format::name_ok;
 ghost use mathlib.Core.Path.{_≡_};
 ghost use mathlib.Core.Bool.{false};
@@ -22,9 +23,6 @@ const LIMIT: u32 = 65535;
 
 // The most functions nested, the root being 1.
 pub const DEPTH: u32 = 200;
-
-// The most words, and the most text bytes.
-const MOST: usize = 16777216;
 
 // Whether a store is well formed so far, and the places reached in the words and in the text.
 pub struct Checked {

@@ -1,6 +1,7 @@
 // Reading a chunk into lent memory (lundump.c; in the Rust, undump.rs).
 pub mod header;
 
+use format::MOST;
 use format::Undumped;
 use format::name_ok;
 use header::load_header;
@@ -12,9 +13,6 @@ ghost use mathlib.Core.Path.{_≡_};
 ghost use mathlib.Core.List.{[]};
 ghost use Rattle.format.specs.Undump.{undumped, undumpRefused};
 ghost use Rattle.undump.specs.Undump.{undumpLeft};
-
-// The most words, and the most text bytes.
-const MOST: usize = 16777216;
 
 // The most functions nested.
 const DEPTH: u32 = 200;
