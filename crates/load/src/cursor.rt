@@ -91,7 +91,7 @@ pub fn joined(a: u8, b: u8, c: u8, d: u8) -> u32
 }
 
 // The number that four bytes from a place on stand for.
-pub fn four_at(chunk: &[u8], at: usize) -> u32
+pub(crate) fn four_at(chunk: &[u8], at: usize) -> u32
     requires { ⌜ at + 4 ≤ length (now chunk) ⌝ }
     ensures { λ r. ⌜ r ≡ fourAt (now (chunk .entry)) at ⌝ }
 {
