@@ -2,7 +2,7 @@
 use format::Undumped;
 ghost use mathlib.Core.Path.{_≡_};
 ghost use Rattle.format.specs.Undump.{undumped};
-ghost use Rattle.undump.specs.Step.{undumpLeft};
+ghost use Rattle.undump.specs.Undump.{undumpLeft};
 
 // Reads a chunk into lent memory: undump.
 #[no_mangle]

@@ -9,10 +9,10 @@ use lib.Seq.{drop-drop}
 use borrow.Author.Tests.{eq-eqb}
 use Rattle.format.specs.Read.{loadExactly, same, signature, format, loadHeader}
 use Rattle.format.proofs.RoundTrip.{same-true}
-use Rattle.undump.specs.declared.cursor.Cursor.{Cursor}
-use Rattle.undump.specs.Step.{Step}
-use Rattle.undump.proofs.Bytes.{block-got, block-none}
-use Rattle.undump.proofs.Steps.{takes, stops, bind}
+use Rattle.load.specs.declared.cursor.Cursor.{Cursor}
+use Rattle.load.specs.Step.{Step}
+use Rattle.load.proofs.Bytes.{block-got, block-none}
+use Rattle.load.proofs.Steps.{takes, stops, bind}
 
 same-self : (s : List ℕ) → same s s ≡ true
 unfolding same
