@@ -9,7 +9,7 @@ use function::dump_function;
 use list::DumpState;
 use proto::formed::DEPTH;
 use proto::formed::check_store;
-use proto::formed::name_ok;
+use format::name_ok;
 ghost use mathlib.Core.Path.{_≡_};
 ghost use mathlib.Core.List.{[]};
 ghost use Rattle.lent.specs.Memory.{Puts};
