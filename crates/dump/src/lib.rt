@@ -5,11 +5,11 @@ pub mod list;
 
 use block::dump_block;
 use format::Written;
+use format::name_ok;
 use function::dump_function;
 use list::DumpState;
 use proto::formed::DEPTH;
 use proto::formed::check_store;
-use format::name_ok;
 ghost use mathlib.Core.Path.{_≡_};
 ghost use mathlib.Core.List.{[]};
 ghost use Rattle.lent.specs.Memory.{Puts};
