@@ -6,7 +6,7 @@ use native.Mathlib.Omega.{arith}
 use native.Mathlib.Nat.{mul-suc}
 use native.Mathlib.Numerals.{add-one}
 use lib.ListN.{length, take, drop, getD, set, length-append, drop-of-length-le}
-use lib.Seq.{sets, take-suc, length-take-le}
+use lib.Seq.{sets, take-suc, take-length, length-take-le}
 use Rattle.lent.specs.Memory.{far, Puts}
 use Rattle.lent.proofs.Lists.{drop-more}
 use Rattle.lent.proofs.Writes.{sets-append, put-stored, put-lost, put-then}
@@ -54,8 +54,38 @@ size-ints n =
     let e : n / 256 / 256 / 256 / 256 ≡ high = d .1 ∙ omega arith in
     rw (a .0, b .0, c .0, d .0, e)
 
+-- ---- a string
+
 pub string-puts : {at a b r : ℕ} {out out₁ out₂ out′ : List ℕ} (s : List ℕ) → Puts (dumpSize (length s + 1)) at out a out₁ → Puts s a out₁ b out₂ → Puts (0 ∷ []) b out₂ r out′ → Puts (dumpText s) at out r out′
 string-puts s p q t = put-then (put-then p q) t
+
+size-length : (n : ℕ) → length (dumpSize n) ≡ 8
+size-length n = rw (size-ints n) (length-append (dumpInt (n % 4294967296)) _ ∙ rw (int-length (n % 4294967296), int-length (n / 4294967296)))
+
+string-length : (s : List ℕ) → length (dumpText s) ≡ length s + 9
+string-length s =
+    let a : length (dumpSize (length s + 1) ++ s) ≡ 8 + length s = length-append (dumpSize (length s + 1)) s ∙ rw (size-length (length s + 1)) in
+    length-append (dumpSize (length s + 1) ++ s) (0 ∷ []) ∙ omega (arith, a)
+
+-- b is stored behind a
+stored-then : {l m : List ℕ} (a b out : List ℕ) (at k : ℕ) → length a ≡ k → l ≡ sets out at a → m ≡ sets l (at + k) b → m ≡ sets out at (a ++ b)
+stored-then a b out at k n e f = f ∙ rw (e, ← n) (sets-append a out b at)
+
+pub string-stored : {out₁ out₂ out₃ : List ℕ} (out s : List ℕ) (at : ℕ) → out₁ ≡ sets out at (dumpInt ((length s + 1) % 4294967296)) → out₂ ≡ sets out₁ (at + 4) (dumpInt ((length s + 1) / 4294967296))
+    → out₃ ≡ sets out₂ (at + 8) (take (length s) s) → set out₃ (at + 8 + length s) 0 ≡ sets out at (dumpText s)
+string-stored {out₂ = out₂} {out₃ = out₃} out s at e f g =
+    let size = length s + 1 in
+    let a : out₂ ≡ sets out at (dumpSize size) = rw (size-ints size) (stored-then (dumpInt (size % 4294967296)) (dumpInt (size / 4294967296)) out at 4 (int-length (size % 4294967296)) e f) in
+    let b : out₃ ≡ sets out at (dumpSize size ++ s) = stored-then (dumpSize size) s out at 8 (size-length size) a (g ∙ rw (take-length s)) in
+    let n : length (dumpSize size ++ s) ≡ 8 + length s = length-append (dumpSize size) s ∙ rw (size-length size) in
+    let i : at + 8 + length s ≡ at + (8 + length s) = omega arith in
+    stored-then (dumpSize size ++ s) (0 ∷ []) out at (8 + length s) n b (rw i)
+
+pub string-fits : {at : ℕ} {out out′ : List ℕ} (s : List ℕ) → at + (length s + 9) ≤ far → out′ ≡ sets out at (dumpText s) → Puts (dumpText s) at out (at + length s + 9) out′
+string-fits s h e = put-stored (omega (arith, string-length s)) e
+
+pub string-lost : {at a r : ℕ} {out : List ℕ} (s : List ℕ) → length out ≤ at → a ≡ min (at + length s) far → r ≡ min (a + 9) far → Puts (dumpText s) at out r out
+string-lost s h p q = put-lost (omega (arith, string-length s)) h refl
 
 -- ---- a list
 

@@ -1,5 +1,5 @@
 -- Steps of the writer: one behind the other, and in a loop.
-use Prim.Native.Nat.{ℕ, suc, _+_, _/_, _%_}
+use Prim.Native.Nat.{ℕ, suc, _+_, _*_, _/_, _%_}
 use mathlib.Core.Path.{_≡_, refl, sym, ap, _∙_}
 use mathlib.Core.List.{List, [], _∷_, _++_, append-nil}
 use mathlib.Core.Bool.{Bool, true, false}
@@ -7,7 +7,7 @@ use mir.Val.{boolByte}
 use native.Mathlib.Omega.{arith}
 use native.Mathlib.Nat.{add-zero, add-assoc}
 use lib.ListN.{length, getD, length-append}
-use Rattle.lent.specs.Memory.{Every, Puts}
+use Rattle.lent.specs.Memory.{Every, Byte, Puts}
 use Rattle.lent.proofs.Writes.{put-none, put-then}
 use Rattle.format.specs.Tree.{Constant as Value}
 use Rattle.format.specs.Tree.{Local, Debug, Parts, noDebug, kept}
@@ -20,6 +20,7 @@ use Rattle.format.proofs.Stored.{here-left, here-right}
 use Rattle.proto.proofs.Walks.{past-word, past-words}
 use Rattle.proto.proofs.Pieces.{Same, same-sym, same-assoc, stands-same, stands-left, stands-right, constant-words}
 use Rattle.dump.specs.Step.{Reached, Dumps}
+use Rattle.dump.proofs.Blocks.{int-bytes}
 
 module _ {words text : List ℕ} where
   -- the same piece and the same bytes by other names
@@ -63,22 +64,28 @@ unpacked : (p : Parts) → ValidParts p
     → (packed p / 16777216 ≡ p .numUpvalues) × (packed p / 65536 % 256 ≡ p .numParams) × (packed p / 256 % 256 ≡ p .isVararg) × (packed p % 256 ≡ p .maxStackSize)
 unpacked p v = omega arith
 
+four-bytes : (a b c d : ℕ) → Byte a → Byte b → Byte c → Byte d → dumpInt (((a * 256 + b) * 256 + c) * 256 + d) ≡ d ∷ c ∷ b ∷ a ∷ []
+four-bytes a b c d ha hb hc hd =
+    let w = ((a * 256 + b) * 256 + c) * 256 + d in
+    let e : (w / 16777216 ≡ a) × (w / 65536 % 256 ≡ b) × (w / 256 % 256 ≡ c) × (w % 256 ≡ d) = omega arith in
+    let f : w / 16777216 % 256 ≡ a = omega (arith, e .0) in
+    int-bytes w ∙ rw (e .1, e .2, e .3, f)
+
 module _ {words : List ℕ} {at a len n : ℕ} {out out′ : List ℕ} where
   pub word-dumped : {x : ℕ} → x ≡ getD words at 0 → Skips words 1 at a → Puts (dumpInt x) len out n out′
       → (v : ℕ) (t : List ℕ) → Dumps words t (word v) (dumpInt v) (record { at = at; len = len; out = out }) (record { at = a; len = n; out = out′ })
   word-dumped e s p v t = dumps-past (past-word v s) (λ to h. rw (e ∙ here-get v [] (h .in-words)) at p)
 
-  -- four bytes in a word, the most significant first
-  pub packed-dumped : {x i j k : ℕ} {out₁ out₂ out₃ : List ℕ} → x ≡ getD words at 0 → Skips words 1 at a → Puts (x / 16777216 ∷ []) len out i out₁ → Puts (x / 65536 % 256 ∷ []) i out₁ j out₂
-      → Puts (x / 256 % 256 ∷ []) j out₂ k out₃ → Puts (x % 256 ∷ []) k out₃ n out′
+  -- four bytes in a word, the most significant first: those of the word turned around
+  pub packed-dumped : {x : ℕ} → x ≡ getD words at 0 → Skips words 1 at a → Puts (dumpInt (((x % 256 * 256 + x / 256 % 256) * 256 + x / 65536 % 256) * 256 + x / 16777216)) len out n out′
       → (p : Parts) (t : List ℕ) → ValidParts p
       → Dumps words t (word (packed p)) (p .numUpvalues ∷ p .numParams ∷ p .isVararg ∷ p .maxStackSize ∷ []) (record { at = at; len = len; out = out }) (record { at = a; len = n; out = out′ })
-  packed-dumped {x} e s p₁ p₂ p₃ p₄ p t v =
+  packed-dumped {x} e s q p t v =
       dumps-past (past-word (packed p) s)
       (λ to h.
       let g : x ≡ packed p = e ∙ here-get (packed p) [] (h .in-words) in
       let u = unpacked p v in
-      rw (g, u .0, u .1, u .2, u .3) at (put-then (put-then (put-then p₁ p₂) p₃) p₄))
+      rw (g, u .0, u .1, u .2, u .3, four-bytes (p .maxStackSize) (p .isVararg) (p .numParams) (p .numUpvalues) (v .maxStackSize) (v .isVararg) (v .numParams) (v .numUpvalues)) at q)
 
   -- a list of words: its count, and its items
   pub ints-dumped : {x b m : ℕ} {items out₁ : List ℕ} → x ≡ getD words at 0 → ((l t : List ℕ) (to : ℕ) → Stands words t at to (ints l) → items ≡ l) → Skips words 1 at b → Skips words (length items) b a

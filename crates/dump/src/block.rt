@@ -1,4 +1,5 @@
 // The bytes, integers and strings of a chunk, written to lent memory. Each call answers the place behind what it wrote.
+use lent::copy;
 use lent::further;
 use lent::put_byte;
 use lent::put_bytes;
@@ -39,11 +40,12 @@ fn store_int(out: &mut [u8], at: usize, n: u32)
 pub fn dump_int(out: &mut [u8], at: usize, n: u32) -> usize
     ensures { λ r. ⌜ Puts (dumpInt n) at (now (out .entry)) r (now (out .exit)) ⌝ }
 {
-    if at < out.len() {
-        if 4 <= out.len() - at {
-            store_int(out, at, n);
-            return at + 4;
-        }
+    if out.len() <= at {
+        return further(at, 4);
+    }
+    if 4 <= out.len() - at {
+        store_int(out, at, n);
+        return at + 4;
     }
     let mut bytes = [0u8; 4];
     store_int(&mut bytes, 0, n);
@@ -58,13 +60,44 @@ pub fn dump_size(out: &mut [u8], at: usize, n: u64) -> usize
     dump_int(out, low, (n / 4294967296) as u32)
 }
 
-// A string: its length and one, its bytes, a zero.
-pub fn dump_string(out: &mut [u8], at: usize, s: &[u8]) -> usize
+// A string that fits.
+fn store_string(out: &mut [u8], at: usize, s: &[u8])
+    requires { ⌜ at + (length (now s) + 9) ≤ length (now out) ⌝ }
+    ensures { λ r. ⌜ now (out .exit) ≡ sets (now (out .entry)) at (dumpText (now (s .entry))) ⌝ }
+{
+    let n = s.len();
+    let size = n as u64 + 1;
+    store_int(out, at, (size % 4294967296) as u32);
+    store_int(out, at + 4, (size / 4294967296) as u32);
+    copy(out, at + 8, s, n);
+    out[at + 8 + n] = 0;
+}
+
+// A string part by part, where not all of it fits.
+fn put_string(out: &mut [u8], at: usize, s: &[u8]) -> usize
     ensures { λ r. ⌜ Puts (dumpText (now (s .entry))) at (now (out .entry)) r (now (out .exit)) ⌝ }
 {
     let size = dump_size(out, at, s.len() as u64 + 1);
     let bytes = dump_block(out, size, s);
     dump_byte(out, bytes, 0)
+}
+
+// A string: its length and one, its bytes, a zero.
+pub fn dump_string(out: &mut [u8], at: usize, s: &[u8]) -> usize
+    ensures { λ r. ⌜ Puts (dumpText (now (s .entry))) at (now (out .entry)) r (now (out .exit)) ⌝ }
+{
+    let n = s.len();
+    if out.len() <= at {
+        return further(further(at, n), 9);
+    }
+    let room = out.len() - at;
+    if n < room {
+        if 9 <= room - n {
+            store_string(out, at, s);
+            return at + n + 9;
+        }
+    }
+    put_string(out, at, s)
 }
 
 // Integers that fit.

@@ -45,10 +45,8 @@ pub fn dump_packed(words: &[u32], out: &mut [u8], s: DumpState) -> DumpState
     ensures { λ r. ⌜ ((p : Parts) (t : List ℕ) → ValidParts p → Dumps (now (words .entry)) t (wordPiece (packed p)) (p .numUpvalues ∷ p .numParams ∷ p .isVararg ∷ p .maxStackSize ∷ []) (reached s (now (out .entry))) (reached r (now (out .exit)))) ⌝ }
 {
     let w = word_at(words, s.at);
-    let upvalues = dump_byte(out, s.len, (w / 16777216) as u8);
-    let params = dump_byte(out, upvalues, (w / 65536 % 256) as u8);
-    let vararg = dump_byte(out, params, (w / 256 % 256) as u8);
-    let len = dump_byte(out, vararg, (w % 256) as u8);
+    let turned = ((w % 256 * 256 + w / 256 % 256) * 256 + w / 65536 % 256) * 256 + w / 16777216;
+    let len = dump_int(out, s.len, turned);
     DumpState {
         at: skip(words, s.at, 1),
         len,

@@ -1,41 +1,64 @@
 use borrow.Author.Needs.{needs}
 use native.Mathlib.Omega.{arith}
-use Rattle.dump.proofs.Blocks.{string-puts}
+use Rattle.dump.proofs.Blocks.{string-fits, string-lost}
 use Rattle.dump.proofs.block.dump_string.Statement.{statement}
 use Rattle.dump.proofs.block.dump_string.Tie as tie
 
--- Three writes one behind the other.
+-- Nothing, or all of it where it fits, or part by part.
 
-add-dump-size : tie.Need-add-dump-size
-add-dump-size c = search needs
+further-requires : tie.Need-further-requires
+further-requires c κs = search needs
 
-dump-size-requires : tie.Need-dump-size-requires
-dump-size-requires c κs = search needs
+further-requires-2 : tie.Need-further-requires-2
+further-requires-2 c κs = search needs
 
-dump-block-requires : tie.Need-dump-block-requires
-dump-block-requires c κs = search needs
+returns : tie.Need-returns
+returns c = string-lost (c .before .before .before .before .before .args .s .now) (omega arith) (c .before .further .ensures) (c .further2 .ensures)
 
-dump-byte-requires : tie.Need-dump-byte-requires
-dump-byte-requires c κs = search needs
+sub-room : tie.Need-sub-room
+sub-room c = search needs
+
+sub-if3 : tie.Need-sub-if3
+sub-if3 c = search needs
+
+store-string-requires : tie.Need-store-string-requires
+store-string-requires c κs = search needs
+
+add-result : tie.Need-add-result
+add-result c = search needs
+
+add-result-2 : tie.Need-add-result-2
+add-result-2 c = search needs
 
 same-length : tie.Need-same-length
 same-length c = search needs
 
-returns : tie.Need-returns
-returns c =
-    let c₁ = c .before .before in
-    let c₂ = c₁ .before .before .before .before in
-    let c₃ = c₂ .before .before .before .before in
-    let c₄ = c₃ .before .before .before .before in
-    string-puts (c₄ .args .s .now) (c₃ .dump-size .ensures) (c₂ .dump-block .ensures) (c₁ .dump-byte .ensures)
+returns-2 : tie.Need-returns-2
+returns-2 c = string-fits (c .before .before .before .before .before .before .before .before .before .args .s .now) (omega (arith, c .before .before .before .before .before .before .before .before .before .good)) (c .before .before .store-string .ensures)
+
+put-string-requires : tie.Need-put-string-requires
+put-string-requires c κs = search needs
+
+same-length-2 : tie.Need-same-length-2
+same-length-2 c = search needs
+
+returns-3 : tie.Need-returns-3
+returns-3 c = search needs
 
 pub dump-string-spec : {M : Type 1} → statement M
 dump-string-spec =
     tie.close
     (tie.spec
-    add-dump-size
-    dump-size-requires
-    dump-block-requires
-    dump-byte-requires
+    further-requires
+    further-requires-2
+    returns
+    sub-room
+    sub-if3
+    store-string-requires
+    add-result
+    add-result-2
     same-length
-    returns)
+    returns-2
+    put-string-requires
+    same-length-2
+    returns-3)
