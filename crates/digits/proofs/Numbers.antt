@@ -1,8 +1,8 @@
 -- Laws of digits: how many there are, and storing them from the last to the first.
 use Prim.Native.Nat.{ℕ, zero, suc, _+_, _-_, _/_, _%_, _^_, _≤_, _<_}
-use mathlib.Core.Path.{_≡_, refl, sym, ap, _∙_}
+use mathlib.Core.Path.{_≡_, refl, ap, _∙_}
 use mathlib.Core.Bool.{cond}
-use mathlib.Core.List.{List, [], _∷_, _++_}
+use mathlib.Core.List.{List, [], _∷_}
 use native.Mathlib.Omega.{arith}
 use lib.ListN.{length, set, length-append}
 use lib.Seq.{sets, set-comm}
@@ -42,7 +42,7 @@ sets-set [] l i j v h = refl
 sets-set (x ∷ a) l i j v h = rw (← set-comm l i j x v (λ e. omega arith)) (sets-set a (set l i x) (suc i) j v (omega arith))
 
 -- the last digit is stored, then those in front of it
-pub last-digit : (base k n at : ℕ) (out : List ℕ) → sets (set out (at + k) (digit (n % base))) at (digits base k (n / base)) ≡ sets out at (digits base (suc k) n)
+last-digit : (base k n at : ℕ) (out : List ℕ) → sets (set out (at + k) (digit (n % base))) at (digits base k (n / base)) ≡ sets out at (digits base (suc k) n)
 unfolding digits
 last-digit base k n at out =
     let l : length (digits base k (n / base)) ≡ k = length-digits base k (n / base) in

@@ -1,15 +1,13 @@
 -- The digits are stored where their place is within the slice, and past the end nothing is.
 use borrow.Author.Needs.{needs}
 use mathlib.Core.Logic.{⊎-elim}
-use mathlib.Core.Path.{ap, sym, _∙_}
+use mathlib.Core.Path.{ap, _∙_}
 use native.Mathlib.Omega.{arith}
 use lib.ListN.{length}
 use Rattle.lent.proofs.Writes.{put-stored, put-lost}
 use Rattle.digits.proofs.Numbers.{length-digits}
 use Rattle.digits.proofs.put_digits.Statement.{statement}
 use Rattle.digits.proofs.put_digits.Tie as tie
-use Rattle.digits.proofs.put_digits.Reads as reads
-use Rattle.digits.proofs.put_digits.Lts as lts
 
 store-digits-requires : tie.Need-store-digits-requires
 store-digits-requires c κs = search needs

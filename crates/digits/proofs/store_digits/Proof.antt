@@ -10,9 +10,6 @@ use Rattle.digits.specs.Digits.{digits}
 use Rattle.digits.proofs.Numbers.{store-last}
 use Rattle.digits.proofs.store_digits.Statement.{statement}
 use Rattle.digits.proofs.store_digits.Tie as tie
-use Rattle.digits.proofs.store_digits.Reads as reads
-use Rattle.digits.proofs.store_digits.Lts as lts
-use Rattle.digits.proofs.digit.Reads as digit-reads
 
 abbrev Inv-loop : tie.InvT-loop
 Inv-loop out₀ at n k base room left₀ i₀ out left i = (length out ≡ length out₀) × (sets out at (digits base i left) ≡ sets out₀ at (digits base k n))
