@@ -1,0 +1,1 @@
+// One instruction's line of a listing, and the constants that it names.
