@@ -1,7 +1,7 @@
 -- A constant in a listing, and the line of an instruction: format_constant, format_constant_raw, and the body of format_code's loop in
 -- listing.rs, in its order. Where the scope decides: an address is # and the function's number, a number constant its bits.
 use Prim.Native.Nat.{ℕ, _+_, _-_}
-use mathlib.Core.Bool.{Bool, false, cond, _||_}
+use mathlib.Core.Bool.{Bool, true, false, cond, _||_}
 use mathlib.Core.List.{List, [], _∷_, _++_}
 use mathlib.Core.Option.{Option, none, some}
 use lib.Dec.{eqb, ltb}
@@ -54,6 +54,10 @@ address n = ascii "#" ++ decimal n
 abbrev pub difference : ℕ → ℕ → List ℕ
 difference a b = cond (ltb a b) (negative (b - a)) (decimal (a - b))
 
+-- an index between tabs
+abbrev pub index : ℕ → List ℕ
+index n = ascii "\t" ++ decimal n ++ ascii "\t"
+
 -- the line of an instruction, where it has one
 abbrev pub formatLine : Option ℕ → List ℕ
 formatLine none = ascii "[-]"
@@ -65,19 +69,27 @@ formatLine (some l) = ascii "[" ++ decimal l ++ ascii "]"
 abbrev pub formatRK : ℕ → List ℕ
 formatRK x = cond (ISK x) (negative (1 + INDEXK x)) (decimal x)
 
+-- b_mode or c_mode is N
+abbrev pub isN : OpArgMask → Bool
+isN N = true
+isN U = false
+isN R = false
+isN K = false
+
+-- b_mode is K
+abbrev pub isK : OpArgMask → Bool
+isK N = false
+isK U = false
+isK R = false
+isK K = true
+
 -- B or C of iABC, nothing where the opcode has none
 abbrev pub formatArg : OpArgMask → ℕ → List ℕ
-formatArg N x = []
-formatArg U x = ascii " " ++ formatRK x
-formatArg R x = ascii " " ++ formatRK x
-formatArg K x = ascii " " ++ formatRK x
+formatArg m x = cond (isN m) [] (ascii " " ++ formatRK x)
 
 -- Bx, a constant's index as -1 - index
 abbrev pub formatBx : OpArgMask → ℕ → List ℕ
-formatBx N bx = decimal bx
-formatBx U bx = decimal bx
-formatBx R bx = decimal bx
-formatBx K bx = negative (1 + bx)
+formatBx m bx = cond (isK m) (negative (1 + bx)) (decimal bx)
 
 -- sBx
 abbrev pub formatSBx : ℕ → List ℕ
@@ -104,6 +116,13 @@ when b t = cond b t []
 abbrev pub among : ℕ → List ℕ → Bool
 among op [] = false
 among op (o ∷ l) = eqb op o || among op l
+
+-- those with two operands that may be constants
+abbrev pub operandOps : List ℕ
+operandOps = OP-SETTABLE ∷ OP-ADD ∷ OP-SUB ∷ OP-MUL ∷ OP-DIV ∷ OP-MOD ∷ OP-POW ∷ OP-EQ ∷ OP-LT ∷ OP-LE ∷ []
+
+abbrev pub jumpOps : List ℕ
+jumpOps = OP-JMP ∷ OP-FORLOOP ∷ OP-FORPREP ∷ []
 
 abbrev pub upvalueText : Option (List ℕ) → List ℕ
 upvalueText none = ascii "-"
@@ -136,9 +155,9 @@ formatComment op p fs number pc i =
     (cond (among op (OP-GETUPVAL ∷ OP-SETUPVAL ∷ [])) (comment (upvalueText (item (p .debug .upvalues) (GETARG-B i))))
     (cond (among op (OP-GETGLOBAL ∷ OP-SETGLOBAL ∷ [])) (comment (formatConstantRaw (p .constants) (GETARG-Bx i)))
     (cond (among op (OP-GETTABLE ∷ OP-SELF ∷ [])) (when (ISK (GETARG-C i)) (comment (formatConstant (p .constants) (INDEXK (GETARG-C i)))))
-    (cond (among op (OP-SETTABLE ∷ OP-ADD ∷ OP-SUB ∷ OP-MUL ∷ OP-DIV ∷ OP-MOD ∷ OP-POW ∷ OP-EQ ∷ OP-LT ∷ OP-LE ∷ []))
+    (cond (among op operandOps)
     (when (ISK (GETARG-B i) || ISK (GETARG-C i)) (comment (operandConstant (p .constants) (GETARG-B i) ++ ascii " " ++ operandConstant (p .constants) (GETARG-C i))))
-    (cond (among op (OP-JMP ∷ OP-FORLOOP ∷ OP-FORPREP ∷ [])) (comment (ascii "to " ++ jumpTarget pc i))
+    (cond (among op jumpOps) (comment (ascii "to " ++ jumpTarget pc i))
     (cond (eqb op OP-CLOSURE) (when (ltb (GETARG-Bx i) (count fs)) (comment (address (childNumber number fs (GETARG-Bx i)))))
     (cond (eqb op OP-SETLIST) (formatSetList (p .code) pc (GETARG-C i))
     (cond (eqb op OP-VARARG) (comment (ascii "is_vararg"))
@@ -149,7 +168,7 @@ formatComment op p fs number pc i =
 -- index, line, opcode padded to 9, operands, comment
 unfoldable pub formatInstruction : Parts → Functions → ℕ → ℕ → ℕ → List ℕ
 formatInstruction p fs number pc i =
-    ascii "\t" ++ decimal (pc + 1) ++ ascii "\t"
+    index (pc + 1)
     ++ formatLine (item (p .debug .lines) pc) ++ ascii "\t"
     ++ padded (opName (opcode i)) ++ ascii "\t"
     ++ formatOperands (opcode i) i

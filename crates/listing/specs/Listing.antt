@@ -13,7 +13,7 @@ use Rattle.format.specs.Stored.{treeOf}
 use Rattle.format.specs.Undump.{nameOk}
 use Rattle.format.specs.Dump.{WriteLeft, writeRefused, written}
 use Rattle.proto.specs.Walk.{total}
-use Rattle.lines.specs.Line.{constantText, address, formatInstruction}
+use Rattle.lines.specs.Line.{constantText, address, index, formatInstruction}
 
 -- the items of a list from index i on, each written by e with its index
 unfoldable pub enumerated : {A : Type 0} → (ℕ → A → List ℕ) → ℕ → List A → List ℕ
@@ -77,7 +77,7 @@ abbrev pub title : String → ℕ → ℕ → List ℕ
 title s n number = ascii s ++ ascii " (" ++ decimal n ++ ascii ") for " ++ address number ++ ascii ":\n"
 
 abbrev pub formatConstantAt : ℕ → Constant → List ℕ
-formatConstantAt i k = ascii "\t" ++ decimal (i + 1) ++ ascii "\t" ++ constantText (some k) ++ ascii "\n"
+formatConstantAt i k = index (i + 1) ++ constantText (some k) ++ ascii "\n"
 
 -- format_constants
 abbrev pub formatConstants : List Constant → ℕ → List ℕ
@@ -89,7 +89,7 @@ raised pc = (pc + 1) % 2 ^ 32
 
 abbrev pub formatLocalAt : ℕ → Local → List ℕ
 formatLocalAt i v =
-    ascii "\t" ++ decimal i ++ ascii "\t" ++ v .name
+    index i ++ v .name
     ++ ascii "\t" ++ decimal (raised (v .start))
     ++ ascii "\t" ++ decimal (raised (v .end)) ++ ascii "\n"
 
@@ -98,7 +98,7 @@ abbrev pub formatLocals : List Local → ℕ → List ℕ
 formatLocals locals number = title "locals" (length locals) number ++ enumerated formatLocalAt 0 locals
 
 abbrev pub formatUpvalueAt : ℕ → List ℕ → List ℕ
-formatUpvalueAt i name = ascii "\t" ++ decimal i ++ ascii "\t" ++ name ++ ascii "\n"
+formatUpvalueAt i name = index i ++ name ++ ascii "\n"
 
 -- format_upvalues
 abbrev pub formatUpvalues : List (List ℕ) → ℕ → List ℕ
