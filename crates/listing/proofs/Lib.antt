@@ -1,1 +1,4 @@
 pub mod Samples
+pub mod Headers
+pub mod Enumerates
+pub mod Locals

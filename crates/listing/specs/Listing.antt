@@ -27,39 +27,51 @@ abbrev pub displaySource : List ℕ → List ℕ
 displaySource [] = []
 displaySource (c ∷ s) = cond (eqb c 64) s (c ∷ s)
 
--- a noun, with s but for one
-abbrev pub noun : String → ℕ → List ℕ
-noun s n = ascii s ++ cond (eqb n 1) [] (ascii "s")
+-- s but for one
+abbrev pub plural : ℕ → List ℕ
+plural n = cond (eqb n 1) [] (ascii "s")
 
 -- n of what a noun names
 abbrev pub amount : ℕ → String → List ℕ
-amount n s = decimal n ++ noun s n
+amount n noun = decimal n ++ (ascii noun ++ plural n)
+
+-- behind other amounts
+abbrev pub andAmount : ℕ → String → List ℕ
+andAmount n noun = ascii ", " ++ amount n noun
 
 -- + where is_vararg has the bit worth 2
 abbrev pub vararg : ℕ → List ℕ
 vararg v = cond (eqb (v / 2 % 2) 1) (ascii "+") []
 
--- kind, source, defined lines, code words, bytes, number
-unfoldable pub headerKind : Parts → List ℕ → ℕ → List ℕ
-headerKind p source number =
-    cond (eqb (p .lineDefined) 0) (ascii "main") (ascii "function")
-    ++ ascii " <" ++ displaySource source
-    ++ ascii ":" ++ decimal (p .lineDefined)
-    ++ ascii "," ++ decimal (p .lastLineDefined)
-    ++ ascii "> (" ++ amount (length (p .code)) " instruction"
-    ++ ascii ", " ++ decimal (length (p .code) * 4)
-    ++ ascii " bytes at " ++ address number
-    ++ ascii ")\n"
+-- main is defined at line 0
+abbrev pub kindOf : ℕ → List ℕ
+kindOf lineDefined = cond (eqb lineDefined 0) (ascii "main") (ascii "function")
 
--- params, slots, upvalues, locals, constants, functions
+-- source, defined lines
+abbrev pub sourceLines : List ℕ → ℕ → ℕ → List ℕ
+sourceLines source start end = ascii " <" ++ displaySource source ++ ascii ":" ++ decimal start ++ ascii "," ++ decimal end ++ ascii ">"
+
+-- code words, bytes, number
+abbrev pub codeSize : ℕ → ℕ → List ℕ
+codeSize n number = ascii " (" ++ amount n " instruction" ++ ascii ", " ++ decimal (n * 4) ++ ascii " bytes at " ++ address number ++ ascii ")\n"
+
+-- params, with + for vararg
+abbrev pub formatParams : ℕ → ℕ → List ℕ
+formatParams n v = decimal n ++ vararg v ++ (ascii " param" ++ plural n)
+
+-- line one
+unfoldable pub headerKind : Parts → List ℕ → ℕ → List ℕ
+headerKind p source number = kindOf (p .lineDefined) ++ sourceLines source (p .lineDefined) (p .lastLineDefined) ++ codeSize (length (p .code)) number
+
+-- line two: six counts
 unfoldable pub headerCounts : Parts → Functions → List ℕ
 headerCounts p fs =
-    decimal (p .numParams) ++ vararg (p .isVararg) ++ noun " param" (p .numParams)
-    ++ ascii ", " ++ amount (p .maxStackSize) " slot"
-    ++ ascii ", " ++ amount (p .numUpvalues) " upvalue"
-    ++ ascii ", " ++ amount (length (p .debug .locals)) " local"
-    ++ ascii ", " ++ amount (length (p .constants)) " constant"
-    ++ ascii ", " ++ amount (count fs) " function"
+    formatParams (p .numParams) (p .isVararg)
+    ++ andAmount (p .maxStackSize) " slot"
+    ++ andAmount (p .numUpvalues) " upvalue"
+    ++ andAmount (length (p .debug .locals)) " local"
+    ++ andAmount (length (p .constants)) " constant"
+    ++ andAmount (count fs) " function"
     ++ ascii "\n"
 
 -- format_header
@@ -73,36 +85,36 @@ abbrev pub formatCode : Parts → Functions → ℕ → List ℕ
 formatCode p fs number = enumerated (formatInstruction p fs number) 0 (p .code)
 
 -- what a list holds, how many, and whose it is
-abbrev pub title : String → ℕ → ℕ → List ℕ
-title s n number = ascii s ++ ascii " (" ++ decimal n ++ ascii ") for " ++ address number ++ ascii ":\n"
+abbrev pub title : List ℕ → ℕ → ℕ → List ℕ
+title what n number = what ++ ascii " (" ++ decimal n ++ ascii ") for " ++ address number ++ ascii ":\n"
 
 abbrev pub formatConstantAt : ℕ → Constant → List ℕ
 formatConstantAt i k = index (i + 1) ++ constantText (some k) ++ ascii "\n"
 
 -- format_constants
 abbrev pub formatConstants : List Constant → ℕ → List ℕ
-formatConstants constants number = title "constants" (length constants) number ++ enumerated formatConstantAt 0 constants
+formatConstants constants number = title (ascii "constants") (length constants) number ++ enumerated formatConstantAt 0 constants
 
 -- a pc raised by one, which wraps
 abbrev pub raised : ℕ → ℕ
 raised pc = (pc + 1) % 2 ^ 32
 
+abbrev pub tabbed : ℕ → List ℕ
+tabbed n = ascii "\t" ++ decimal n
+
 abbrev pub formatLocalAt : ℕ → Local → List ℕ
-formatLocalAt i v =
-    index i ++ v .name
-    ++ ascii "\t" ++ decimal (raised (v .start))
-    ++ ascii "\t" ++ decimal (raised (v .end)) ++ ascii "\n"
+formatLocalAt i v = index i ++ v .name ++ tabbed (raised (v .start)) ++ tabbed (raised (v .end)) ++ ascii "\n"
 
 -- format_locals
 abbrev pub formatLocals : List Local → ℕ → List ℕ
-formatLocals locals number = title "locals" (length locals) number ++ enumerated formatLocalAt 0 locals
+formatLocals locals number = title (ascii "locals") (length locals) number ++ enumerated formatLocalAt 0 locals
 
 abbrev pub formatUpvalueAt : ℕ → List ℕ → List ℕ
 formatUpvalueAt i name = index i ++ name ++ ascii "\n"
 
 -- format_upvalues
 abbrev pub formatUpvalues : List (List ℕ) → ℕ → List ℕ
-formatUpvalues upvalues number = title "upvalues" (length upvalues) number ++ enumerated formatUpvalueAt 0 upvalues
+formatUpvalues upvalues number = title (ascii "upvalues") (length upvalues) number ++ enumerated formatUpvalueAt 0 upvalues
 
 -- what a full listing adds
 abbrev pub formatLists : Bool → Parts → ℕ → List ℕ

@@ -1,1 +1,3 @@
 // The listing of a store (listing.rs).
+pub mod header;
+pub mod list;
