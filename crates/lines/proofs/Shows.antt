@@ -59,7 +59,7 @@ unfolding pieces
 word-text [] = refl
 word-text (a ∷ l) = word-text l
 
-ints-list : (l : List ℕ) → Same (ints l) (list word l)
+pub ints-list : (l : List ℕ) → Same (ints l) (list word l)
 ints-list l = record { words = λ to. ap (λ (m : List ℕ). length l ∷ m) (sym (word-pieces l (to + 0))); text = sym (word-text l) }
 
 module _ {A : Type 0} {words text : List ℕ} {place at at′ : ℕ} {out out′ : List ℕ} where

@@ -2,3 +2,5 @@ pub mod Samples
 pub mod Headers
 pub mod Enumerates
 pub mod Locals
+pub mod Kepts
+pub mod Codes

@@ -123,19 +123,19 @@ formatLists full p number =
 
 -- ==== functions
 
+-- a function without those in it
+abbrev pub formatFunction : Parts → Functions → Bool → List ℕ → ℕ → List ℕ
+formatFunction p fs full source number = formatHeader p fs source number ++ formatCode p fs number ++ formatLists full p number
+
 -- list_function_recursive: outer is the source that an inherited one stands for; numbers count functions in preorder
 unfoldable mutual
   pub listFunctionRecursive : Function → Bool → List ℕ → ℕ → List ℕ
   listFunctionRecursive (Function.function p fs) full outer number =
-      formatHeader p fs (filled outer (p .source)) number
-      ++ formatCode p fs number
-      ++ formatLists full p number
-      ++ listFunctions fs full (filled outer (p .source)) (number + 1)
+      formatFunction p fs full (filled outer (p .source)) number ++ listFunctions fs full (filled outer (p .source)) (number + 1)
 
   pub listFunctions : Functions → Bool → List ℕ → ℕ → List ℕ
   listFunctions Functions.none full source number = []
-  listFunctions (Functions.more f fs) full source number =
-      ascii "\n" ++ listFunctionRecursive f full source number ++ listFunctions fs full source (number + total f)
+  listFunctions (Functions.more f fs) full source number = ascii "\n" ++ listFunctionRecursive f full source number ++ listFunctions fs full source (number + total f)
 
 -- the listing of a tree, an inherited root source standing for name; the root is number 1
 abbrev pub listFunction : Function → Bool → List ℕ → List ℕ
