@@ -4,3 +4,4 @@ pub mod Enumerates
 pub mod Locals
 pub mod Kepts
 pub mod Codes
+pub mod Listers

@@ -1,4 +1,12 @@
-use Prim.Native.Nat.{ℕ, _<_}
+use borrow.Author.Needs.{needs}
+use native.Mathlib.Omega.{arith}
+use Prim.Native.Nat.{ℕ, suc, _-_, _<_}
+use mathlib.Core.Path.{_≡_, refl, _∙_}
+use lib.ListN.{length}
+use Rattle.proto.proofs.Loops.{Loop, loop-start, loop-turn, loop-end}
+use Rattle.proto.proofs.Walks.{none-deep}
+use Rattle.listing.specs.Lister.{reached}
+use Rattle.listing.proofs.Listers.{ListsAll, lists-none, lists-more, lists-function}
 use borrow.Fn.Kinds.{In}
 use borrow.Fn.PlainCycle.{Measures, is, falls, and}
 use Rattle.listing.proofs.function.list_function_recursive.Reads as list-function-recursive
@@ -16,7 +24,7 @@ use Rattle.listing.proofs.function.+list_function_recursive.{statement}
 use Rattle.listing.proofs.function.+list_function_recursive.Tie.{close}
 
 abbrev μ-list-function-recursive : Measures 3 list-function-recursive-kinds.ps ℕ
-μ-list-function-recursive κs a = ?
+μ-list-function-recursive κs a = a .1 .1 .1 .1 .1 .1 .0
 
 abbrev list-function-recursive-at : ℕ → In 3 list-function-recursive-kinds.ps
 list-function-recursive-at t =
@@ -34,536 +42,75 @@ list-function-recursive-below t =
     (falls 3 list-function-recursive-kinds.ps _<_ μ-list-function-recursive t)
     list-function-recursive.Pre
 
+abbrev list-function-recursive-calls : ℕ → list-function-recursive-lts.Claims
+list-function-recursive-calls t = (own-source-reads.Asked, own-source-reads.Learnt, format-function-reads.Asked, format-function-reads.Learnt, functions-at-reads.Asked, functions-at-reads.Learnt, word-at-reads.Asked, word-at-reads.Learnt, skip-reads.Asked, skip-reads.Learnt, further-reads.Asked, further-reads.Learnt, put-byte-reads.Asked, put-byte-reads.Learnt, list-function-recursive-below t, list-function-recursive.Post, after-debug-reads.Asked, after-debug-reads.Learnt)
+
 abbrev list-function-recursive-Inv-loop : list-function-recursive-lts.InvT-loop
-list-function-recursive-Inv-loop words text outer full out₀ allowance source own list n r₀ i₀ out r i =
-    ?
+list-function-recursive-Inv-loop words text outer full out₀ allowance source own list n r₀ i₀ out r i = (length out ≡ length out₀) × Loop (ListsAll words text full source (allowance - 1)) n (reached r₀ out₀) i (reached r out)
 
 abbrev list-function-recursive-μ-loop : list-function-recursive-lts.MeasureT-loop
-list-function-recursive-μ-loop words text outer full out₀ allowance source own list n r₀ i₀ out r i =
-    ?
+list-function-recursive-μ-loop words text outer full out₀ allowance source own list n r₀ i₀ out r i = n - i
 
--- src/function.rt:88:9
-list-function-recursive-returns : (t : ℕ) → list-function-recursive-lts.Need-returns (
-  own-source-reads.Asked,
-  own-source-reads.Learnt,
-  format-function-reads.Asked,
-  format-function-reads.Learnt,
-  functions-at-reads.Asked,
-  functions-at-reads.Learnt,
-  word-at-reads.Asked,
-  word-at-reads.Learnt,
-  skip-reads.Asked,
-  skip-reads.Learnt,
-  further-reads.Asked,
-  further-reads.Learnt,
-  put-byte-reads.Asked,
-  put-byte-reads.Learnt,
-  list-function-recursive-below t,
-  list-function-recursive.Post,
-  after-debug-reads.Asked,
-  after-debug-reads.Learnt,
-)
-    (list-function-recursive-at t)
-    list-function-recursive.Post
-    list-function-recursive-Inv-loop
-    list-function-recursive-μ-loop
-list-function-recursive-returns t c = ?
+list-function-recursive-returns : (t : ℕ) → list-function-recursive-lts.Need-returns (list-function-recursive-calls t) (list-function-recursive-at t) list-function-recursive.Post list-function-recursive-Inv-loop list-function-recursive-μ-loop
+list-function-recursive-returns t c = λ f v. absurd (none-deep (c .if1 .taken) f v)
 
--- src/function.rt:90:9
-list-function-recursive-own-source-requires :
-    (t : ℕ) → list-function-recursive-lts.Need-own-source-requires (
-      own-source-reads.Asked,
-      own-source-reads.Learnt,
-      format-function-reads.Asked,
-      format-function-reads.Learnt,
-      functions-at-reads.Asked,
-      functions-at-reads.Learnt,
-      word-at-reads.Asked,
-      word-at-reads.Learnt,
-      skip-reads.Asked,
-      skip-reads.Learnt,
-      further-reads.Asked,
-      further-reads.Learnt,
-      put-byte-reads.Asked,
-      put-byte-reads.Learnt,
-      list-function-recursive-below t,
-      list-function-recursive.Post,
-      after-debug-reads.Asked,
-      after-debug-reads.Learnt,
-    )
-    (list-function-recursive-at t)
-    list-function-recursive.Post
-    list-function-recursive-Inv-loop
-    list-function-recursive-μ-loop
-list-function-recursive-own-source-requires t c κs = ?
+list-function-recursive-own-source-requires : (t : ℕ) → list-function-recursive-lts.Need-own-source-requires (list-function-recursive-calls t) (list-function-recursive-at t) list-function-recursive.Post list-function-recursive-Inv-loop list-function-recursive-μ-loop
+list-function-recursive-own-source-requires t c κs = search needs
 
--- src/function.rt:91:66
-list-function-recursive-sub-format-function :
-    (t : ℕ) → list-function-recursive-lts.Need-sub-format-function (
-      own-source-reads.Asked,
-      own-source-reads.Learnt,
-      format-function-reads.Asked,
-      format-function-reads.Learnt,
-      functions-at-reads.Asked,
-      functions-at-reads.Learnt,
-      word-at-reads.Asked,
-      word-at-reads.Learnt,
-      skip-reads.Asked,
-      skip-reads.Learnt,
-      further-reads.Asked,
-      further-reads.Learnt,
-      put-byte-reads.Asked,
-      put-byte-reads.Learnt,
-      list-function-recursive-below t,
-      list-function-recursive.Post,
-      after-debug-reads.Asked,
-      after-debug-reads.Learnt,
-    )
-    (list-function-recursive-at t)
-    list-function-recursive.Post
-    list-function-recursive-Inv-loop
-    list-function-recursive-μ-loop
-list-function-recursive-sub-format-function t c = ?
+list-function-recursive-sub-format-function : (t : ℕ) → list-function-recursive-lts.Need-sub-format-function (list-function-recursive-calls t) (list-function-recursive-at t) list-function-recursive.Post list-function-recursive-Inv-loop list-function-recursive-μ-loop
+list-function-recursive-sub-format-function t c = omega (arith, c .before .before .if1 .left)
 
--- src/function.rt:91:9
-list-function-recursive-format-function-requires :
-    (t : ℕ) → list-function-recursive-lts.Need-format-function-requires (
-      own-source-reads.Asked,
-      own-source-reads.Learnt,
-      format-function-reads.Asked,
-      format-function-reads.Learnt,
-      functions-at-reads.Asked,
-      functions-at-reads.Learnt,
-      word-at-reads.Asked,
-      word-at-reads.Learnt,
-      skip-reads.Asked,
-      skip-reads.Learnt,
-      further-reads.Asked,
-      further-reads.Learnt,
-      put-byte-reads.Asked,
-      put-byte-reads.Learnt,
-      list-function-recursive-below t,
-      list-function-recursive.Post,
-      after-debug-reads.Asked,
-      after-debug-reads.Learnt,
-    )
-    (list-function-recursive-at t)
-    list-function-recursive.Post
-    list-function-recursive-Inv-loop
-    list-function-recursive-μ-loop
-list-function-recursive-format-function-requires t c κs = ?
+list-function-recursive-format-function-requires : (t : ℕ) → list-function-recursive-lts.Need-format-function-requires (list-function-recursive-calls t) (list-function-recursive-at t) list-function-recursive.Post list-function-recursive-Inv-loop list-function-recursive-μ-loop
+list-function-recursive-format-function-requires t c κs = search needs
 
--- src/function.rt:92:9
-list-function-recursive-functions-at-requires :
-    (t : ℕ) → list-function-recursive-lts.Need-functions-at-requires (
-      own-source-reads.Asked,
-      own-source-reads.Learnt,
-      format-function-reads.Asked,
-      format-function-reads.Learnt,
-      functions-at-reads.Asked,
-      functions-at-reads.Learnt,
-      word-at-reads.Asked,
-      word-at-reads.Learnt,
-      skip-reads.Asked,
-      skip-reads.Learnt,
-      further-reads.Asked,
-      further-reads.Learnt,
-      put-byte-reads.Asked,
-      put-byte-reads.Learnt,
-      list-function-recursive-below t,
-      list-function-recursive.Post,
-      after-debug-reads.Asked,
-      after-debug-reads.Learnt,
-    )
-    (list-function-recursive-at t)
-    list-function-recursive.Post
-    list-function-recursive-Inv-loop
-    list-function-recursive-μ-loop
-list-function-recursive-functions-at-requires t c κs = ?
+list-function-recursive-functions-at-requires : (t : ℕ) → list-function-recursive-lts.Need-functions-at-requires (list-function-recursive-calls t) (list-function-recursive-at t) list-function-recursive.Post list-function-recursive-Inv-loop list-function-recursive-μ-loop
+list-function-recursive-functions-at-requires t c κs = search needs
 
--- src/function.rt:93:9
-list-function-recursive-word-at-requires :
-    (t : ℕ) → list-function-recursive-lts.Need-word-at-requires (
-      own-source-reads.Asked,
-      own-source-reads.Learnt,
-      format-function-reads.Asked,
-      format-function-reads.Learnt,
-      functions-at-reads.Asked,
-      functions-at-reads.Learnt,
-      word-at-reads.Asked,
-      word-at-reads.Learnt,
-      skip-reads.Asked,
-      skip-reads.Learnt,
-      further-reads.Asked,
-      further-reads.Learnt,
-      put-byte-reads.Asked,
-      put-byte-reads.Learnt,
-      list-function-recursive-below t,
-      list-function-recursive.Post,
-      after-debug-reads.Asked,
-      after-debug-reads.Learnt,
-    )
-    (list-function-recursive-at t)
-    list-function-recursive.Post
-    list-function-recursive-Inv-loop
-    list-function-recursive-μ-loop
-list-function-recursive-word-at-requires t c κs = ?
+list-function-recursive-word-at-requires : (t : ℕ) → list-function-recursive-lts.Need-word-at-requires (list-function-recursive-calls t) (list-function-recursive-at t) list-function-recursive.Post list-function-recursive-Inv-loop list-function-recursive-μ-loop
+list-function-recursive-word-at-requires t c κs = search needs
 
--- src/function.rt:95:13
-list-function-recursive-skip-requires : (t : ℕ) → list-function-recursive-lts.Need-skip-requires (
-  own-source-reads.Asked,
-  own-source-reads.Learnt,
-  format-function-reads.Asked,
-  format-function-reads.Learnt,
-  functions-at-reads.Asked,
-  functions-at-reads.Learnt,
-  word-at-reads.Asked,
-  word-at-reads.Learnt,
-  skip-reads.Asked,
-  skip-reads.Learnt,
-  further-reads.Asked,
-  further-reads.Learnt,
-  put-byte-reads.Asked,
-  put-byte-reads.Learnt,
-  list-function-recursive-below t,
-  list-function-recursive.Post,
-  after-debug-reads.Asked,
-  after-debug-reads.Learnt,
-)
-    (list-function-recursive-at t)
-    list-function-recursive.Post
-    list-function-recursive-Inv-loop
-    list-function-recursive-μ-loop
-list-function-recursive-skip-requires t c κs = ?
+list-function-recursive-skip-requires : (t : ℕ) → list-function-recursive-lts.Need-skip-requires (list-function-recursive-calls t) (list-function-recursive-at t) list-function-recursive.Post list-function-recursive-Inv-loop list-function-recursive-μ-loop
+list-function-recursive-skip-requires t c κs = search needs
 
--- src/function.rt:96:17
-list-function-recursive-further-requires :
-    (t : ℕ) → list-function-recursive-lts.Need-further-requires (
-      own-source-reads.Asked,
-      own-source-reads.Learnt,
-      format-function-reads.Asked,
-      format-function-reads.Learnt,
-      functions-at-reads.Asked,
-      functions-at-reads.Learnt,
-      word-at-reads.Asked,
-      word-at-reads.Learnt,
-      skip-reads.Asked,
-      skip-reads.Learnt,
-      further-reads.Asked,
-      further-reads.Learnt,
-      put-byte-reads.Asked,
-      put-byte-reads.Learnt,
-      list-function-recursive-below t,
-      list-function-recursive.Post,
-      after-debug-reads.Asked,
-      after-debug-reads.Learnt,
-    )
-    (list-function-recursive-at t)
-    list-function-recursive.Post
-    list-function-recursive-Inv-loop
-    list-function-recursive-μ-loop
-list-function-recursive-further-requires t c κs = ?
+list-function-recursive-further-requires : (t : ℕ) → list-function-recursive-lts.Need-further-requires (list-function-recursive-calls t) (list-function-recursive-at t) list-function-recursive.Post list-function-recursive-Inv-loop list-function-recursive-μ-loop
+list-function-recursive-further-requires t c κs = search needs
 
--- src/function.rt:100:5
-list-function-recursive-loop-holds : (t : ℕ) → list-function-recursive-lts.Need-loop-holds (
-  own-source-reads.Asked,
-  own-source-reads.Learnt,
-  format-function-reads.Asked,
-  format-function-reads.Learnt,
-  functions-at-reads.Asked,
-  functions-at-reads.Learnt,
-  word-at-reads.Asked,
-  word-at-reads.Learnt,
-  skip-reads.Asked,
-  skip-reads.Learnt,
-  further-reads.Asked,
-  further-reads.Learnt,
-  put-byte-reads.Asked,
-  put-byte-reads.Learnt,
-  list-function-recursive-below t,
-  list-function-recursive.Post,
-  after-debug-reads.Asked,
-  after-debug-reads.Learnt,
-)
-    (list-function-recursive-at t)
-    list-function-recursive.Post
-    list-function-recursive-Inv-loop
-    list-function-recursive-μ-loop
-list-function-recursive-loop-holds t c = ?
+list-function-recursive-loop-holds : (t : ℕ) → list-function-recursive-lts.Need-loop-holds (list-function-recursive-calls t) (list-function-recursive-at t) list-function-recursive.Post list-function-recursive-Inv-loop list-function-recursive-μ-loop
+list-function-recursive-loop-holds t c = (refl, loop-start)
 
--- src/function.rt:101:13
-list-function-recursive-put-byte-requires :
-    (t : ℕ) → list-function-recursive-lts.Need-put-byte-requires (
-      own-source-reads.Asked,
-      own-source-reads.Learnt,
-      format-function-reads.Asked,
-      format-function-reads.Learnt,
-      functions-at-reads.Asked,
-      functions-at-reads.Learnt,
-      word-at-reads.Asked,
-      word-at-reads.Learnt,
-      skip-reads.Asked,
-      skip-reads.Learnt,
-      further-reads.Asked,
-      further-reads.Learnt,
-      put-byte-reads.Asked,
-      put-byte-reads.Learnt,
-      list-function-recursive-below t,
-      list-function-recursive.Post,
-      after-debug-reads.Asked,
-      after-debug-reads.Learnt,
-    )
-    (list-function-recursive-at t)
-    list-function-recursive.Post
-    list-function-recursive-Inv-loop
-    list-function-recursive-μ-loop
-list-function-recursive-put-byte-requires t c κs = ?
+list-function-recursive-put-byte-requires : (t : ℕ) → list-function-recursive-lts.Need-put-byte-requires (list-function-recursive-calls t) (list-function-recursive-at t) list-function-recursive.Post list-function-recursive-Inv-loop list-function-recursive-μ-loop
+list-function-recursive-put-byte-requires t c κs = search needs
 
--- src/function.rt:107:75
-list-function-recursive-sub-list-function-recursive :
-    (t : ℕ) → list-function-recursive-lts.Need-sub-list-function-recursive (
-      own-source-reads.Asked,
-      own-source-reads.Learnt,
-      format-function-reads.Asked,
-      format-function-reads.Learnt,
-      functions-at-reads.Asked,
-      functions-at-reads.Learnt,
-      word-at-reads.Asked,
-      word-at-reads.Learnt,
-      skip-reads.Asked,
-      skip-reads.Learnt,
-      further-reads.Asked,
-      further-reads.Learnt,
-      put-byte-reads.Asked,
-      put-byte-reads.Learnt,
-      list-function-recursive-below t,
-      list-function-recursive.Post,
-      after-debug-reads.Asked,
-      after-debug-reads.Learnt,
-    )
-    (list-function-recursive-at t)
-    list-function-recursive.Post
-    list-function-recursive-Inv-loop
-    list-function-recursive-μ-loop
-list-function-recursive-sub-list-function-recursive t c = ?
+list-function-recursive-sub-list-function-recursive : (t : ℕ) → list-function-recursive-lts.Need-sub-list-function-recursive (list-function-recursive-calls t) (list-function-recursive-at t) list-function-recursive.Post list-function-recursive-Inv-loop list-function-recursive-μ-loop
+list-function-recursive-sub-list-function-recursive t c = omega (arith, c .before .before .before .before .before .before .before .before .before .before .before .before .before .before .before .before .if1 .left)
 
--- src/function.rt:107:9
-list-function-recursive-list-function-recursive-requires :
-    (t : ℕ) → list-function-recursive-lts.Need-list-function-recursive-requires (
-      own-source-reads.Asked,
-      own-source-reads.Learnt,
-      format-function-reads.Asked,
-      format-function-reads.Learnt,
-      functions-at-reads.Asked,
-      functions-at-reads.Learnt,
-      word-at-reads.Asked,
-      word-at-reads.Learnt,
-      skip-reads.Asked,
-      skip-reads.Learnt,
-      further-reads.Asked,
-      further-reads.Learnt,
-      put-byte-reads.Asked,
-      put-byte-reads.Learnt,
-      list-function-recursive-below t,
-      list-function-recursive.Post,
-      after-debug-reads.Asked,
-      after-debug-reads.Learnt,
-    )
-    (list-function-recursive-at t)
-    list-function-recursive.Post
-    list-function-recursive-Inv-loop
-    list-function-recursive-μ-loop
-list-function-recursive-list-function-recursive-requires t c κs = ?
+list-function-recursive-list-function-recursive-requires : (t : ℕ) → list-function-recursive-lts.Need-list-function-recursive-requires (list-function-recursive-calls t) (list-function-recursive-at t) list-function-recursive.Post list-function-recursive-Inv-loop list-function-recursive-μ-loop
+list-function-recursive-list-function-recursive-requires t c κs = (omega (arith, c .before .before .before .before .before .before .before .before .before .before .before .before .before .before .before .before .before .before .before .before .before .pre .0, c .before .before .before .before .before .before .before .before .before .before .before .before .before .before .before .before .if1 .left), tt)
 
--- src/function.rt:108:9
-list-function-recursive-add-i : (t : ℕ) → list-function-recursive-lts.Need-add-i (
-  own-source-reads.Asked,
-  own-source-reads.Learnt,
-  format-function-reads.Asked,
-  format-function-reads.Learnt,
-  functions-at-reads.Asked,
-  functions-at-reads.Learnt,
-  word-at-reads.Asked,
-  word-at-reads.Learnt,
-  skip-reads.Asked,
-  skip-reads.Learnt,
-  further-reads.Asked,
-  further-reads.Learnt,
-  put-byte-reads.Asked,
-  put-byte-reads.Learnt,
-  list-function-recursive-below t,
-  list-function-recursive.Post,
-  after-debug-reads.Asked,
-  after-debug-reads.Learnt,
-)
-    (list-function-recursive-at t)
-    list-function-recursive.Post
-    list-function-recursive-Inv-loop
-    list-function-recursive-μ-loop
-list-function-recursive-add-i t c = ?
+list-function-recursive-add-i : (t : ℕ) → list-function-recursive-lts.Need-add-i (list-function-recursive-calls t) (list-function-recursive-at t) list-function-recursive.Post list-function-recursive-Inv-loop list-function-recursive-μ-loop
+list-function-recursive-add-i t c = omega arith
 
--- src/function.rt:100:5
-list-function-recursive-loop-less : (t : ℕ) → list-function-recursive-lts.Need-loop-less (
-  own-source-reads.Asked,
-  own-source-reads.Learnt,
-  format-function-reads.Asked,
-  format-function-reads.Learnt,
-  functions-at-reads.Asked,
-  functions-at-reads.Learnt,
-  word-at-reads.Asked,
-  word-at-reads.Learnt,
-  skip-reads.Asked,
-  skip-reads.Learnt,
-  further-reads.Asked,
-  further-reads.Learnt,
-  put-byte-reads.Asked,
-  put-byte-reads.Learnt,
-  list-function-recursive-below t,
-  list-function-recursive.Post,
-  after-debug-reads.Asked,
-  after-debug-reads.Learnt,
-)
-    (list-function-recursive-at t)
-    list-function-recursive.Post
-    list-function-recursive-Inv-loop
-    list-function-recursive-μ-loop
-list-function-recursive-loop-less t c = ?
+list-function-recursive-loop-less : (t : ℕ) → list-function-recursive-lts.Need-loop-less (list-function-recursive-calls t) (list-function-recursive-at t) list-function-recursive.Post list-function-recursive-Inv-loop list-function-recursive-μ-loop
+list-function-recursive-loop-less t c = omega arith
 
--- src/function.rt:100:5
-list-function-recursive-loop-again : (t : ℕ) → list-function-recursive-lts.Need-loop-again (
-  own-source-reads.Asked,
-  own-source-reads.Learnt,
-  format-function-reads.Asked,
-  format-function-reads.Learnt,
-  functions-at-reads.Asked,
-  functions-at-reads.Learnt,
-  word-at-reads.Asked,
-  word-at-reads.Learnt,
-  skip-reads.Asked,
-  skip-reads.Learnt,
-  further-reads.Asked,
-  further-reads.Learnt,
-  put-byte-reads.Asked,
-  put-byte-reads.Learnt,
-  list-function-recursive-below t,
-  list-function-recursive.Post,
-  after-debug-reads.Asked,
-  after-debug-reads.Learnt,
-)
-    (list-function-recursive-at t)
-    list-function-recursive.Post
-    list-function-recursive-Inv-loop
-    list-function-recursive-μ-loop
-list-function-recursive-loop-again t c = ?
+list-function-recursive-loop-again : (t : ℕ) → list-function-recursive-lts.Need-loop-again (list-function-recursive-calls t) (list-function-recursive-at t) list-function-recursive.Post list-function-recursive-Inv-loop list-function-recursive-μ-loop
+list-function-recursive-loop-again t c = (c .before .before .list-function-recursive .kept .1 .1 .1 .1 .0 ∙ c .before .before .before .before .before .before .put-byte .kept .0 ∙ c .before .before .before .before .before .before .before .before .before .loop .inv .0, loop-turn (omega arith) (c .before .before .before .before .before .before .before .before .before .loop .inv .1) (lists-more (c .before .before .before .before .before .before .put-byte .ensures) (c .before .before .list-function-recursive .ensures)))
 
--- src/function.rt:111:13
-list-function-recursive-after-debug-requires :
-    (t : ℕ) → list-function-recursive-lts.Need-after-debug-requires (
-      own-source-reads.Asked,
-      own-source-reads.Learnt,
-      format-function-reads.Asked,
-      format-function-reads.Learnt,
-      functions-at-reads.Asked,
-      functions-at-reads.Learnt,
-      word-at-reads.Asked,
-      word-at-reads.Learnt,
-      skip-reads.Asked,
-      skip-reads.Learnt,
-      further-reads.Asked,
-      further-reads.Learnt,
-      put-byte-reads.Asked,
-      put-byte-reads.Learnt,
-      list-function-recursive-below t,
-      list-function-recursive.Post,
-      after-debug-reads.Asked,
-      after-debug-reads.Learnt,
-    )
-    (list-function-recursive-at t)
-    list-function-recursive.Post
-    list-function-recursive-Inv-loop
-    list-function-recursive-μ-loop
-list-function-recursive-after-debug-requires t c κs = ?
+list-function-recursive-after-debug-requires : (t : ℕ) → list-function-recursive-lts.Need-after-debug-requires (list-function-recursive-calls t) (list-function-recursive-at t) list-function-recursive.Post list-function-recursive-Inv-loop list-function-recursive-μ-loop
+list-function-recursive-after-debug-requires t c κs = search needs
 
--- src/function.rt:76:1
-list-function-recursive-same-length : (t : ℕ) → list-function-recursive-lts.Need-same-length (
-  own-source-reads.Asked,
-  own-source-reads.Learnt,
-  format-function-reads.Asked,
-  format-function-reads.Learnt,
-  functions-at-reads.Asked,
-  functions-at-reads.Learnt,
-  word-at-reads.Asked,
-  word-at-reads.Learnt,
-  skip-reads.Asked,
-  skip-reads.Learnt,
-  further-reads.Asked,
-  further-reads.Learnt,
-  put-byte-reads.Asked,
-  put-byte-reads.Learnt,
-  list-function-recursive-below t,
-  list-function-recursive.Post,
-  after-debug-reads.Asked,
-  after-debug-reads.Learnt,
-)
-    (list-function-recursive-at t)
-    list-function-recursive.Post
-    list-function-recursive-Inv-loop
-    list-function-recursive-μ-loop
-list-function-recursive-same-length t c = ?
+list-function-recursive-same-length : (t : ℕ) → list-function-recursive-lts.Need-same-length (list-function-recursive-calls t) (list-function-recursive-at t) list-function-recursive.Post list-function-recursive-Inv-loop list-function-recursive-μ-loop
+list-function-recursive-same-length t c = c .before .before .loop .inv .0 ∙ c .before .before .before .before .before .before .before .before .before .format-function .kept .1 .1 .1 .1 .0
 
--- src/function.rt:76:1
-list-function-recursive-returns-2 : (t : ℕ) → list-function-recursive-lts.Need-returns-2 (
-  own-source-reads.Asked,
-  own-source-reads.Learnt,
-  format-function-reads.Asked,
-  format-function-reads.Learnt,
-  functions-at-reads.Asked,
-  functions-at-reads.Learnt,
-  word-at-reads.Asked,
-  word-at-reads.Learnt,
-  skip-reads.Asked,
-  skip-reads.Learnt,
-  further-reads.Asked,
-  further-reads.Learnt,
-  put-byte-reads.Asked,
-  put-byte-reads.Learnt,
-  list-function-recursive-below t,
-  list-function-recursive.Post,
-  after-debug-reads.Asked,
-  after-debug-reads.Learnt,
-)
-    (list-function-recursive-at t)
-    list-function-recursive.Post
-    list-function-recursive-Inv-loop
-    list-function-recursive-μ-loop
-list-function-recursive-returns-2 t c = ?
+list-function-recursive-returns-2 : (t : ℕ) → list-function-recursive-lts.Need-returns-2 (list-function-recursive-calls t) (list-function-recursive-at t) list-function-recursive.Post list-function-recursive-Inv-loop list-function-recursive-μ-loop
+list-function-recursive-returns-2 t c =
+    let n = c .before .before .before .before .before .before .before .before .before .before .before .before .before .before .before .before .before .args .allowance - 1 in
+    let e : c .before .before .before .before .before .before .before .before .before .before .before .before .before .before .before .before .before .args .allowance ≡ suc n = omega (arith, c .before .before .before .before .before .before .before .before .before .before .before .before .if1 .left) in
+    rw e (lists-function n (c .before .before .before .before .before .before .before .before .before .before .before .own-source .ensures) (c .before .before .before .before .before .before .before .before .before .format-function .ensures) (c .before .before .before .before .before .before .functions-at .ensures) (c .before .before .before .before .before .word-at .ensures) (c .before .before .before .before .skip .ensures) (c .before .before .before .further .ensures) (loop-end (omega arith) (c .before .before .loop .inv .1) lists-none) (c .after-debug .ensures))
 
 pub +list-function-recursive-spec : {M : Type 1} → statement M
 +list-function-recursive-spec =
-    close μ-list-function-recursive λ t. list-function-recursive-lts.spec (
-      own-source-reads.Asked,
-      own-source-reads.Learnt,
-      format-function-reads.Asked,
-      format-function-reads.Learnt,
-      functions-at-reads.Asked,
-      functions-at-reads.Learnt,
-      word-at-reads.Asked,
-      word-at-reads.Learnt,
-      skip-reads.Asked,
-      skip-reads.Learnt,
-      further-reads.Asked,
-      further-reads.Learnt,
-      put-byte-reads.Asked,
-      put-byte-reads.Learnt,
-      list-function-recursive-below t,
-      list-function-recursive.Post,
-      after-debug-reads.Asked,
-      after-debug-reads.Learnt,
-    )
-    (list-function-recursive-at t)
-    list-function-recursive.Post
-    list-function-recursive-Inv-loop
-    list-function-recursive-μ-loop
+    close μ-list-function-recursive λ t. list-function-recursive-lts.spec (list-function-recursive-calls t) (list-function-recursive-at t) list-function-recursive.Post list-function-recursive-Inv-loop list-function-recursive-μ-loop
     (list-function-recursive-returns t)
     (list-function-recursive-own-source-requires t)
     (list-function-recursive-sub-format-function t)

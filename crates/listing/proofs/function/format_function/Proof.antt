@@ -1,41 +1,33 @@
 use borrow.Author.Needs.{needs}
+use native.Mathlib.Omega.{arith}
+use mathlib.Core.Path.{_∙_}
+use Rattle.lent.proofs.Writes.{put-then}
+use Rattle.listing.proofs.Listers.{head-stands}
 use Rattle.listing.proofs.function.format_function.Statement.{statement}
 use Rattle.listing.proofs.function.format_function.Tie as tie
-use Rattle.listing.proofs.function.format_function.Reads as reads
-use Rattle.listing.proofs.function.format_function.Lts as lts
-use Rattle.listing.proofs.code.format_code.Reads as format-code-reads
-use Rattle.listing.proofs.code.lists_at.Reads as lists-at-reads
-use Rattle.listing.proofs.function.format_lists.Reads as format-lists-reads
-use Rattle.listing.proofs.header.format_header.Reads as format-header-reads
-use Rattle.proto.proofs.head.head_at.Reads as head-at-reads
 
--- src/function.rt:68:9
 lists-at-requires : tie.Need-lists-at-requires
 lists-at-requires c κs = search needs
 
--- src/function.rt:69:9
 head-at-requires : tie.Need-head-at-requires
 head-at-requires c κs = search needs
 
--- src/function.rt:70:9
 format-header-requires : tie.Need-format-header-requires
 format-header-requires c κs = search needs
 
--- src/function.rt:71:9
 format-code-requires : tie.Need-format-code-requires
 format-code-requires c κs = search needs
 
--- src/function.rt:72:5
 format-lists-requires : tie.Need-format-lists-requires
 format-lists-requires c κs = search needs
 
--- src/function.rt:57:1
 same-length : tie.Need-same-length
-same-length c = search needs
+same-length c = c .before .before .format-lists .kept .1 .1 .1 .1 .1 .0 ∙ c .before .before .before .before .before .before .format-code .kept .1 .1 .1 .1 .1 .0 ∙ c .before .before .before .before .before .before .before .before .before .before .format-header .kept .1 .1 .1 .1 .1 .0
 
--- src/function.rt:57:1
 returns : tie.Need-returns
-returns c = ?
+returns c = λ p fs vp v s small.
+    let l = c .before .before .before .before .before .before .before .before .before .before .before .before .before .lists-at .ensures p fs (c .before .before .before .before .before .before .before .before .before .before .before .before .before .before .before .before .before .before .args .text .now) v s in
+    put-then (put-then (c .before .before .before .before .before .before .before .before .before .before .format-header .ensures p fs (c .before .before .before .before .before .before .before .before .before .before .before .before .before .before .before .before .before .before .args .text .now) (c .before .before .before .before .before .before .before .before .before .before .before .before .head-at .ensures p (s .to) vp (head-stands p fs (s .stands) .in-words)) l) (c .before .before .before .before .before .before .format-code .ensures p fs l v small)) (c .before .before .format-lists .ensures p fs l)
 
 pub format-function-spec : {M : Type 1} → statement M
 format-function-spec =

@@ -1,35 +1,27 @@
 use borrow.Author.Needs.{needs}
+use native.Mathlib.Omega.{arith}
+use mathlib.Core.Path.{_∙_}
+use Rattle.lent.proofs.Writes.{put-then, put-none}
 use Rattle.listing.proofs.function.format_lists.Statement.{statement}
 use Rattle.listing.proofs.function.format_lists.Tie as tie
-use Rattle.listing.proofs.function.format_lists.Reads as reads
-use Rattle.listing.proofs.function.format_lists.Lts as lts
-use Rattle.listing.proofs.list.format_constants.Reads as format-constants-reads
-use Rattle.listing.proofs.list.format_locals.Reads as format-locals-reads
-use Rattle.listing.proofs.list.format_upvalues.Reads as format-upvalues-reads
 
--- src/function.rt:49:13
 format-constants-requires : tie.Need-format-constants-requires
 format-constants-requires c κs = search needs
 
--- src/function.rt:50:13
 format-locals-requires : tie.Need-format-locals-requires
 format-locals-requires c κs = search needs
 
--- src/function.rt:51:9
 format-upvalues-requires : tie.Need-format-upvalues-requires
 format-upvalues-requires c κs = search needs
 
--- src/function.rt:51:9
 same-length : tie.Need-same-length
-same-length c = search needs
+same-length c = c .before .before .format-upvalues .kept .1 .1 .1 .1 .0 ∙ c .before .before .before .before .before .before .format-locals .kept .1 .1 .1 .1 .0 ∙ c .before .before .before .before .before .before .before .before .before .before .format-constants .kept .1 .1 .1 .1 .0
 
--- src/function.rt:51:9
 returns : tie.Need-returns
-returns c = ?
+returns c = λ p fs l. rw (c .before .before .before .before .before .before .before .before .before .before .before .before .if1 .taken) (put-then (put-then (c .before .before .before .before .before .before .before .before .before .before .format-constants .ensures .shows (p .constants) (l .constants)) (c .before .before .before .before .before .before .format-locals .ensures .shows (p .debug .locals) (l .locals))) (c .before .before .format-upvalues .ensures .shows (p .debug .upvalues) (l .upvalues)))
 
--- src/function.rt:37:1
 returns-2 : tie.Need-returns-2
-returns-2 c = ?
+returns-2 c = λ p fs l. rw (c .if1 .left) put-none
 
 pub format-lists-spec : {M : Type 1} → statement M
 format-lists-spec =
