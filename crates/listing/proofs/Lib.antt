@@ -5,3 +5,4 @@ pub mod Locals
 pub mod Kepts
 pub mod Codes
 pub mod Listers
+pub mod Calls

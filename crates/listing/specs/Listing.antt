@@ -3,16 +3,16 @@ use Prim.Native.Nat.{ℕ, suc, _+_, _*_, _/_, _%_, _^_}
 use Prim.Native.String.{String}
 use mathlib.Core.Bool.{Bool, cond}
 use mathlib.Core.List.{List, [], _∷_, _++_}
-use mathlib.Core.Option.{Option, none, some}
+use mathlib.Core.Option.{some}
 use lib.ListN.{length}
 use lib.Dec.{eqb}
 use Rattle.digits.specs.Digits.{decimal}
 use Rattle.instructions.specs.OpCodes.{ascii}
 use Rattle.format.specs.Tree.{Constant, Local, Parts, Function, Functions, count, filled}
 use Rattle.format.specs.Stored.{treeOf}
-use Rattle.format.specs.Undump.{nameOk}
 use Rattle.format.specs.Dump.{WriteLeft, writeRefused, written}
 use Rattle.proto.specs.Walk.{total}
+use Rattle.proto.specs.Places.{underName, onTree}
 use Rattle.lines.specs.Line.{constantText, address, index, formatInstruction}
 
 -- the items of a list from index i on, each written by e with its index
@@ -143,11 +143,10 @@ listFunction f full name = listFunctionRecursive f full name 1
 
 -- ==== the call
 
--- by the tree that the store holds: 10 where it holds none
-abbrev pub listedBy : Option Function → List ℕ → Bool → List ℕ → WriteLeft
-listedBy none name full out = writeRefused 10 out
-listedBy (some f) name full out = written (listFunction f full name) out
+-- a call that writes what bytes gives of the tree that a store holds
+abbrev pub onStore : (Function → List ℕ) → List ℕ → List ℕ → List ℕ → List ℕ → WriteLeft
+onStore bytes words text name out = underName (λ n. writeRefused n out) name (onTree (λ n. writeRefused n out) (λ f. written (bytes f) out) (treeOf words text))
 
--- list_function(words, text, name, full, out)
+-- list_function(words, text, name, full, out): refused by 1, 10, 11; else the listing, then what stood there
 unfoldable pub listed : List ℕ → List ℕ → List ℕ → Bool → List ℕ → WriteLeft
-listed words text name full out = cond (nameOk name) (listedBy (treeOf words text) name full out) (writeRefused 1 out)
+listed words text name full out = onStore (λ f. listFunction f full name) words text name out
