@@ -1,0 +1,73 @@
+//! This library's calls, linked from its archive: each takes slices as a pointer and a count.
+
+#[repr(C)]
+#[derive(Debug, Clone, Copy, PartialEq)]
+pub struct Undumped {
+    pub refusal: u32,
+    pub words: usize,
+    pub text: usize,
+    pub read: usize,
+}
+
+#[repr(C)]
+#[derive(Debug, Clone, Copy, PartialEq)]
+pub struct Written {
+    pub refusal: u32,
+    pub len: usize,
+}
+
+unsafe extern "C" {
+    fn lua_chunk_undump(
+        chunk: *const u8,
+        chunk_len: usize,
+        name: *const u8,
+        name_len: usize,
+        words: *mut u32,
+        words_len: usize,
+        text: *mut u8,
+        text_len: usize,
+    ) -> Undumped;
+
+    fn lua_chunk_dump(
+        words: *const u32,
+        words_len: usize,
+        text: *const u8,
+        text_len: usize,
+        name: *const u8,
+        name_len: usize,
+        strip: bool,
+        out: *mut u8,
+        out_len: usize,
+    ) -> Written;
+}
+
+pub fn undump(chunk: &[u8], name: &[u8], words: &mut [u32], text: &mut [u8]) -> Undumped {
+    unsafe {
+        lua_chunk_undump(
+            chunk.as_ptr(),
+            chunk.len(),
+            name.as_ptr(),
+            name.len(),
+            words.as_mut_ptr(),
+            words.len(),
+            text.as_mut_ptr(),
+            text.len(),
+        )
+    }
+}
+
+pub fn dump(words: &[u32], text: &[u8], name: &[u8], strip: bool, out: &mut [u8]) -> Written {
+    unsafe {
+        lua_chunk_dump(
+            words.as_ptr(),
+            words.len(),
+            text.as_ptr(),
+            text.len(),
+            name.as_ptr(),
+            name.len(),
+            strip,
+            out.as_mut_ptr(),
+            out.len(),
+        )
+    }
+}
