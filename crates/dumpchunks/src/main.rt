@@ -1,17 +1,15 @@
 // Dumps trees end to end into one buffer, and reads them back: takes cases from standard input, at most 65,536 bytes. A case is a
 // letter and what follows it, all numbers low byte first, a name being 1 byte length and its bytes:
-//   T  name, 2 bytes length, a chunk: its tree, as undump gives it, stands in the store from here on
+//   T  name, 2 bytes words lent, 2 bytes text bytes lent, 2 bytes length, a chunk: undump of it into the store, which has this tree from
+//      here on
 //   W  2 bytes place, 4 bytes word: the store has this word there from here on
 //   D  name, 1 byte strip, 2 bytes n: the store dumped, with n bytes of the buffer lent, from where the dump before it ended
 //   U  name, 2 bytes words lent, 2 bytes text bytes lent: undump of the buffer, from where the undump before it left off
-// T, D and U write a line of text: the letter; the refusal and the other numbers of the answer, in decimal; then in hexadecimal the
-// words and the text that T found, all bytes lent to D, all words and all text bytes lent to U. 7 is what stands there before.
+// T, D and U write a line of text: the letter; the refusal and the other numbers of the answer, in decimal; then in hexadecimal all
+// words and text bytes, or all bytes, that were lent. In the buffer and in what is lent to U, 7 is what stands there before.
 use format::Undumped;
 use libc::STDIN_FILENO;
 use libc::STDOUT_FILENO;
-use output::all_text;
-use output::all_words;
-use output::number;
 use records::after;
 use records::byte;
 use records::half;
@@ -43,24 +41,27 @@ fn first(words: &[u32], n: usize) -> &[u32] {
     &words[0..end]
 }
 
-// The line of an undump.
-fn tell(letter: &[u8], u: Undumped, words: &[u32], text: &[u8]) {
+// A tree read into the space lent, and its line.
+fn read(letter: &[u8], chunk: &[u8], name: &[u8], words: &mut [u32], text: &mut [u8]) -> Undumped {
+    let u = undump::undump(chunk, name, words, text);
     io::write_all(STDOUT_FILENO, letter);
-    number(u.refusal as usize);
-    number(u.words);
-    number(u.text);
-    number(u.read);
-    io::write_all(STDOUT_FILENO, b":");
-    all_words(words);
-    io::write_all(STDOUT_FILENO, b" :");
-    all_text(text);
-    io::write_all(STDOUT_FILENO, b"\n");
+    output::undumped(u, words, text);
+    u
 }
 
-// The tree of a chunk, read into the store.
-fn tree(chunk: &[u8], name: &[u8], words: &mut [u32], text: &mut [u8], s: State) -> State {
-    let u = undump::undump(chunk, name, words, text);
-    tell(b"T ", u, first(words, u.words), part(text, 0, u.text));
+// The tree of a chunk, read into the store with n words and m text bytes lent.
+fn tree(
+    chunk: &[u8],
+    name: &[u8],
+    words: &mut [u32],
+    text: &mut [u8],
+    n: usize,
+    m: usize,
+    s: State,
+) -> State {
+    let w = within(n, words.len());
+    let t = within(m, text.len());
+    let u = read(b"T ", chunk, name, &mut words[0..w], &mut text[0..t]);
     State {
         next: s.next,
         words: u.words,
@@ -81,11 +82,7 @@ fn put(words: &mut [u32], at: usize, w: u32) {
 fn write<'a>(words: &[u32], text: &'a [u8], name: &'a [u8], strip: bool, out: &mut [u8]) -> usize {
     let w = dump::dump(words, text, name, strip, out);
     io::write_all(STDOUT_FILENO, b"D ");
-    number(w.refusal as usize);
-    number(w.len);
-    io::write_all(STDOUT_FILENO, b":");
-    all_text(out);
-    io::write_all(STDOUT_FILENO, b"\n");
+    output::written(w, out);
     w.len
 }
 
@@ -111,26 +108,20 @@ fn append<'a>(
     }
 }
 
-// A tree read back into the space lent, and its line. Answers the bytes read.
-fn back(dumps: &[u8], name: &[u8], words: &mut [u32], text: &mut [u8]) -> usize {
-    let u = undump::undump(dumps, name, words, text);
-    tell(b"U ", u, words, text);
-    u.read
-}
-
-// The same with n words and m text bytes lent.
-fn lend(dumps: &[u8], name: &[u8], n: usize, m: usize) -> usize {
+// The tree at the start of the dumps, read back with n words and m text bytes lent. Answers the bytes read.
+fn back(dumps: &[u8], name: &[u8], n: usize, m: usize) -> usize {
     let mut words = [UNTOUCHED as u32; ROOM];
     let mut text = [UNTOUCHED; ROOM];
     let w = within(n, ROOM);
     let t = within(m, ROOM);
-    back(dumps, name, &mut words[0..w], &mut text[0..t])
+    let u = read(b"U ", dumps, name, &mut words[0..w], &mut text[0..t]);
+    u.read
 }
 
 // The next tree of the buffer, read back.
 fn next_back(buffer: &[u8], name: &[u8], n: usize, m: usize, s: State) -> State {
     let from = after(buffer, s.read, 0);
-    let read = lend(&buffer[from..], name, n, m);
+    let read = back(&buffer[from..], name, n, m);
     State {
         next: s.next,
         words: s.words,
@@ -167,8 +158,13 @@ fn case_at(
     match kind {
         b'T' => {
             let n = half(cases, rest) as usize;
-            let chunk = part(cases, after(cases, rest, 2), n);
-            going(tree(chunk, name, words, text, s), after(cases, rest, 2 + n))
+            let m = half(cases, after(cases, rest, 2)) as usize;
+            let l = half(cases, after(cases, rest, 4)) as usize;
+            let chunk = part(cases, after(cases, rest, 6), l);
+            going(
+                tree(chunk, name, words, text, n, m, s),
+                after(cases, rest, 6 + l),
+            )
         }
         b'W' => {
             put(

@@ -1,4 +1,6 @@
-// Writing to standard output: numbers, words and bytes, for the programs' lines.
+// Writing to standard output: numbers, words and bytes, and the lines that the programs write for an answer.
+use format::Undumped;
+use format::Written;
 use libc::STDOUT_FILENO;
 
 // A number in decimal, and a blank.
@@ -33,4 +35,26 @@ pub fn all_text(text: &[u8]) {
         letter(text[i]);
         i += 1;
     }
+}
+
+// What undump answered and left: its numbers, all words lent, all text bytes lent.
+pub fn undumped(u: Undumped, words: &[u32], text: &[u8]) {
+    number(u.refusal as usize);
+    number(u.words);
+    number(u.text);
+    number(u.read);
+    io::write_all(STDOUT_FILENO, b":");
+    all_words(words);
+    io::write_all(STDOUT_FILENO, b" :");
+    all_text(text);
+    io::write_all(STDOUT_FILENO, b"\n");
+}
+
+// What a call that writes answered and left: its numbers, all bytes lent.
+pub fn written(w: Written, out: &[u8]) {
+    number(w.refusal as usize);
+    number(w.len);
+    io::write_all(STDOUT_FILENO, b":");
+    all_text(out);
+    io::write_all(STDOUT_FILENO, b"\n");
 }

@@ -3,10 +3,6 @@
 // stands there before. A case is, all numbers low byte first:
 //   2 bytes length, the chunk, 1 byte length, the chunk name, 2 bytes words lent, 2 bytes text bytes lent
 use libc::STDIN_FILENO;
-use libc::STDOUT_FILENO;
-use output::all_text;
-use output::all_words;
-use output::number;
 use records::after;
 use records::byte;
 use records::half;
@@ -21,15 +17,7 @@ const UNTOUCHED: u8 = 7;
 // Reads a chunk into the space lent, and writes what was found.
 fn read(chunk: &[u8], name: &[u8], words: &mut [u32], text: &mut [u8]) {
     let u = undump::undump(chunk, name, words, text);
-    number(u.refusal as usize);
-    number(u.words);
-    number(u.text);
-    number(u.read);
-    io::write_all(STDOUT_FILENO, b":");
-    all_words(words);
-    io::write_all(STDOUT_FILENO, b" :");
-    all_text(text);
-    io::write_all(STDOUT_FILENO, b"\n");
+    output::undumped(u, words, text);
 }
 
 // The same, with so many words and text bytes lent.
