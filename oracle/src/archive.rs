@@ -30,6 +30,17 @@ unsafe extern "C" {
         text_len: usize,
     ) -> Undumped;
 
+    fn lua_chunk_dump(
+        words: *const u32,
+        words_len: usize,
+        text: *const u8,
+        text_len: usize,
+        name: *const u8,
+        name_len: usize,
+        strip: bool,
+        out: *mut u8,
+        out_len: usize,
+    ) -> Written;
     fn lua_chunk_list_function(
         words: *const u32,
         words_len: usize,
@@ -54,6 +65,22 @@ pub fn undump(chunk: &[u8], name: &[u8], words: &mut [u32], text: &mut [u8]) -> 
             words.len(),
             text.as_mut_ptr(),
             text.len(),
+        )
+    }
+}
+
+pub fn dump(words: &[u32], text: &[u8], name: &[u8], strip: bool, out: &mut [u8]) -> Written {
+    unsafe {
+        lua_chunk_dump(
+            words.as_ptr(),
+            words.len(),
+            text.as_ptr(),
+            text.len(),
+            name.as_ptr(),
+            name.len(),
+            strip,
+            out.as_mut_ptr(),
+            out.len(),
         )
     }
 }

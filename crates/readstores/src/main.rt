@@ -8,6 +8,8 @@
 //   Q  4 bytes place, 1 byte length, the chunk name: the question of that place
 use libc::STDIN_FILENO;
 use libc::STDOUT_FILENO;
+use output::all_text;
+use output::number;
 use proto::place::source;
 use proto::place::source_at;
 use proto::walk::word_at;
@@ -15,8 +17,8 @@ use records::after;
 use records::byte;
 use records::half;
 use records::part;
+use records::within;
 use records::word;
-ghost use Prim.Native.Nat.{_≤_};
 
 // The most words and text bytes of a store.
 const WORDS: usize = 65600;
@@ -31,31 +33,6 @@ struct Read {
     next: usize,
     words: usize,
     text: usize,
-}
-
-// A number, no more than the most.
-fn within(n: usize, most: usize) -> usize
-    ensures { λ r. ⌜ r ≤ most ⌝ }
-{
-    if n < most { n } else { most }
-}
-
-fn number(n: usize) {
-    io::print_decimal(STDOUT_FILENO, n as u64);
-    io::write_all(STDOUT_FILENO, b" ");
-}
-
-fn letter(b: u8) {
-    io::write_all(STDOUT_FILENO, b" ");
-    io::print_hex(STDOUT_FILENO, b as u64, 2);
-}
-
-fn all_text(text: &[u8]) {
-    let mut i = 0;
-    while i < text.len() {
-        letter(text[i]);
-        i += 1;
-    }
 }
 
 // The first n words, as many as there are.

@@ -2,8 +2,8 @@
 use Prim.Native.Nat.{_≤_, _-_}
 use lib.ListN.{length}
 use borrow.Author.Needs.{needs}
-use Rattle.readstores.proofs.all_text.Statement.{statement}
-use Rattle.readstores.proofs.all_text.Tie as tie
+use Rattle.output.proofs.all_text.Statement.{statement}
+use Rattle.output.proofs.all_text.Tie as tie
 
 abbrev Inv-loop : tie.InvT-loop
 Inv-loop text i₀ i = i ≤ length text

@@ -2,8 +2,8 @@
 use Prim.Native.Nat.{_≤_, _-_}
 use lib.ListN.{length}
 use borrow.Author.Needs.{needs}
-use Rattle.readchunks.proofs.all_words.Statement.{statement}
-use Rattle.readchunks.proofs.all_words.Tie as tie
+use Rattle.output.proofs.all_words.Statement.{statement}
+use Rattle.output.proofs.all_words.Tie as tie
 
 abbrev Inv-loop : tie.InvT-loop
 Inv-loop words i₀ i = i ≤ length words
