@@ -1,7 +1,7 @@
 -- Listings by evaluation: the sample's, plain and full, and a tree with each kind of line.
 use Prim.Native.Nat.{ℕ}
 use mathlib.Core.Path.{_≡_, refl}
-use mathlib.Core.Bool.{Bool, true, false}
+use mathlib.Core.Bool.{Bool, false}
 use mathlib.Core.List.{List, [], _∷_, _++_}
 use native.Mathlib.Decide.{decLe, decLt, ℕ-discrete}
 use lib.ListN.{replicate}
@@ -15,8 +15,11 @@ use Rattle.format.specs.Store.{functionPiece, pieces}
 use Rattle.format.specs.Valid.{Valid}
 use Rattle.format.specs.Stored.{treeOf, storedFunction, both?, as?, true?, every?, same?, valid?}
 use Rattle.proto.specs.Walk.{item, total, totalBefore}
-use Rattle.lines.specs.Line.{formatOperands, formatComment, formatInstruction}
-use Rattle.listing.specs.Listing.{enumerated, headerKind, headerCounts, listFunctionRecursive, listed}
+use Rattle.operands.specs.Operands.{formatOperands}
+use Rattle.lines.specs.Line.{formatComment, formatInstruction}
+use Rattle.headers.specs.Header.{headerKind, headerCounts}
+use Rattle.headers.specs.Tables.{enumerated}
+use Rattle.listing.specs.Listing.{listFunctionRecursive, listed}
 
 -- the refusal and the length, then what stands in the output, of which so many bytes are lent
 abbrev listing : List ℕ → List ℕ → Bool → ℕ → List ℕ

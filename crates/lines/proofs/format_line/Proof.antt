@@ -5,7 +5,7 @@ use mathlib.Core.Option.{some}
 use Rattle.format.specs.Store.{word}
 use Rattle.lent.proofs.Writes.{put-then}
 use Rattle.lines.specs.Line.{formatLine}
-use Rattle.lines.proofs.Shows.{shows-ints, shows-past, shows-item, word-shown}
+use Rattle.operands.proofs.Shows.{shows-ints, shows-past, shows-item, word-shown}
 use Rattle.lines.proofs.format_line.Statement.{statement}
 use Rattle.lines.proofs.format_line.Tie as tie
 

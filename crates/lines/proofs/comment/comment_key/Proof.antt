@@ -2,7 +2,7 @@ use borrow.Author.Needs.{needs}
 use native.Mathlib.Omega.{arith}
 use mathlib.Core.Path.{sym, _∙_}
 use Rattle.lent.proofs.Writes.{put-none}
-use Rattle.lines.proofs.Shows.{shows-put, shows-is}
+use Rattle.operands.proofs.Shows.{shows-put, shows-is}
 use Rattle.lines.proofs.comment.comment_key.Statement.{statement}
 use Rattle.lines.proofs.comment.comment_key.Tie as tie
 

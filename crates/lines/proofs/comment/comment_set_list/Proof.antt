@@ -7,7 +7,7 @@ use Rattle.lent.proofs.Writes.{put-none}
 use borrow.Author.Tests.{eq-eqb, ne-eqb}
 use Prim.Native.Nat.{_+_}
 use Rattle.lines.specs.Line.{extraText}
-use Rattle.lines.proofs.Shows.{shows-put, shows-is, shows-ints, shows-past, shows-item, word-shown}
+use Rattle.operands.proofs.Shows.{shows-put, shows-is, shows-ints, shows-past, shows-item, word-shown}
 use Rattle.lines.proofs.comment.comment_set_list.Statement.{statement}
 use Rattle.lines.proofs.comment.comment_set_list.Tie as tie
 

@@ -3,7 +3,7 @@ use native.Mathlib.Omega.{arith}
 use mathlib.Core.Path.{refl}
 use Rattle.format.specs.Store.{string}
 use Rattle.lines.specs.Line.{upvalueText}
-use Rattle.lines.proofs.Shows.{shows-put, shows-then, shows-past, shows-item, string-shown}
+use Rattle.operands.proofs.Shows.{shows-put, shows-then, shows-past, shows-item, string-shown}
 use Rattle.lines.proofs.comment.comment_upvalue.Statement.{statement}
 use Rattle.lines.proofs.comment.comment_upvalue.Tie as tie
 

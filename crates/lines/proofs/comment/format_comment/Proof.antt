@@ -4,7 +4,7 @@ use mathlib.Core.Path.{sym, _∙_}
 use Rattle.lent.proofs.Writes.{put-none}
 use borrow.Author.Tests.{eq-eqb, ne-eqb}
 use Rattle.lines.specs.Line.{formatComment}
-use Rattle.lines.proofs.Shows.{closure-shown}
+use Rattle.lines.proofs.Comments.{closure-shown}
 use Rattle.lines.proofs.comment.format_comment.Statement.{statement}
 use Rattle.lines.proofs.comment.format_comment.Tie as tie
 

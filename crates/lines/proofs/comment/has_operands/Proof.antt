@@ -2,7 +2,7 @@ use borrow.Author.Needs.{needs}
 use native.Mathlib.Omega.{arith}
 use mathlib.Core.Path.{sym, _∙_}
 use mathlib.Core.List.{[], _∷_}
-use Rattle.lines.proofs.Shows.{among-one, among-rest}
+use Rattle.lines.proofs.Comments.{among-one, among-rest}
 use Rattle.lines.proofs.comment.has_operands.Statement.{statement}
 use Rattle.lines.proofs.comment.has_operands.Tie as tie
 

@@ -1,7 +1,7 @@
 use borrow.Author.Needs.{needs}
 use native.Mathlib.Omega.{arith}
 use mathlib.Core.Path.{sym, _∙_}
-use Rattle.lines.proofs.Shows.{shows-put, shows-is}
+use Rattle.operands.proofs.Shows.{shows-put, shows-is}
 use Rattle.lines.proofs.comment.operand_constant.Statement.{statement}
 use Rattle.lines.proofs.comment.operand_constant.Tie as tie
 
