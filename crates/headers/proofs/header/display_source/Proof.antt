@@ -1,3 +1,4 @@
+-- The first byte tells whether there is an @.
 use borrow.Author.Needs.{needs}
 use native.Mathlib.Omega.{arith}
 use Rattle.headers.proofs.Headers.{display-cut, display-whole}

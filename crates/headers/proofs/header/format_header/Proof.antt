@@ -1,5 +1,5 @@
+-- Line one, then line two.
 use borrow.Author.Needs.{needs}
-use native.Mathlib.Omega.{arith}
 use Rattle.lent.proofs.Writes.{put-then}
 use Rattle.headers.proofs.header.format_header.Statement.{statement}
 use Rattle.headers.proofs.header.format_header.Tie as tie

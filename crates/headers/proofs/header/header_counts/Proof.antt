@@ -1,6 +1,6 @@
+-- Six counts, three of the head and three that stand before lists, then a newline.
 use borrow.Author.Needs.{needs}
-use native.Mathlib.Omega.{arith}
-use mathlib.Core.Path.{sym, ap, _∙_}
+use mathlib.Core.Path.{ap, _∙_}
 use Rattle.format.specs.Tree.{count}
 use Rattle.format.specs.Store.{constantPiece, localPiece}
 use Rattle.proto.specs.declared.head.Head.{Head}
@@ -57,16 +57,35 @@ put-byte-requires : tie.Need-put-byte-requires
 put-byte-requires c κs = search needs
 
 same-length : tie.Need-same-length
-same-length c = c .before .before .put-byte .kept .0 ∙ c .before .before .before .before .before .before .put-and-amount5 .kept .1 .1 .0 ∙ c .before .before .before .before .before .before .before .before .before .before .before .before .put-and-amount4 .kept .1 .1 .0 ∙ c .before .before .before .before .before .before .before .before .before .before .before .before .before .before .before .before .before .before .put-and-amount3 .kept .1 .1 .0 ∙ c .before .before .before .before .before .before .before .before .before .before .before .before .before .before .before .before .before .before .before .before .before .before .before .before .put-and-amount2 .kept .1 .1 .0 ∙ c .before .before .before .before .before .before .before .before .before .before .before .before .before .before .before .before .before .before .before .before .before .before .before .before .before .before .before .before .before .put-and-amount .kept .1 .1 .0 ∙ c .before .before .before .before .before .before .before .before .before .before .before .before .before .before .before .before .before .before .before .before .before .before .before .before .before .before .before .before .before .before .before .before .before .before .put-params .kept .1 .1 .0
+same-length c =
+    let c₁ = c .before .before in
+    let c₂ = c₁ .before .before .before .before in
+    let c₃ = c₂ .before .before .before .before .before .before in
+    let c₄ = c₃ .before .before .before .before .before .before in
+    let c₅ = c₄ .before .before .before .before .before .before in
+    let c₆ = c₅ .before .before .before .before .before in
+    let c₇ = c₆ .before .before .before .before .before in
+    c₁ .put-byte .kept .0 ∙ c₂ .put-and-amount5 .kept .1 .1 .0 ∙ c₃ .put-and-amount4 .kept .1 .1 .0 ∙ c₄ .put-and-amount3 .kept .1 .1 .0 ∙ c₅ .put-and-amount2 .kept .1 .1 .0 ∙ c₆ .put-and-amount .kept .1 .1 .0 ∙ c₇ .put-params .kept .1 .1 .0
 
 returns : tie.Need-returns
 unfolding headerCounts
-returns c = λ p fs t e l.
-    let locals = c .before .before .before .before .before .before .before .before .before .before .before .before .before .before .before .before .before .before .before .before .before .word-at .ensures ∙ list-count localPiece (p .debug .locals) (l .locals .stands) in
-    let constants = c .before .before .before .before .before .before .before .before .before .before .before .before .before .before .before .word-at2 .ensures ∙ list-count constantPiece (p .constants) (l .constants .stands) in
-    let functions = c .before .before .before .before .before .before .before .before .before .word-at3 .ensures ∙ here-get (count fs) _ (l .functions .stands .in-words) in
+returns c =
+    let c₁ = c .before .before in
+    let c₂ = c₁ .before .before .before .before in
+    let c₃ = c₂ .before .before .before in
+    let c₄ = c₃ .before .before .before in
+    let c₅ = c₄ .before .before .before in
+    let c₆ = c₅ .before .before .before in
+    let c₇ = c₆ .before .before .before in
+    let c₈ = c₇ .before .before .before in
+    let c₉ = c₈ .before .before .before .before .before in
+    let c₁₀ = c₉ .before .before .before .before .before in
+    λ p fs t e l.
+    let locals = c₇ .word-at .ensures ∙ list-count localPiece (p .debug .locals) (l .locals .stands) in
+    let constants = c₅ .word-at2 .ensures ∙ list-count constantPiece (p .constants) (l .constants .stands) in
+    let functions = c₃ .word-at3 .ensures ∙ here-get (count fs) _ (l .functions .stands .in-words) in
     rw (← ap (λ (h : Head). h .«num_params») e, ← ap (λ (h : Head). h .«is_vararg») e, ← ap (λ (h : Head). h .«max_stack_size») e, ← ap (λ (h : Head). h .«num_upvalues») e, ← locals, ← constants, ← functions)
-    (put-then (put-then (put-then (put-then (put-then (put-then (c .before .before .before .before .before .before .before .before .before .before .before .before .before .before .before .before .before .before .before .before .before .before .before .before .before .before .before .before .before .before .before .before .before .before .put-params .ensures) (c .before .before .before .before .before .before .before .before .before .before .before .before .before .before .before .before .before .before .before .before .before .before .before .before .before .before .before .before .before .put-and-amount .ensures)) (c .before .before .before .before .before .before .before .before .before .before .before .before .before .before .before .before .before .before .before .before .before .before .before .before .put-and-amount2 .ensures)) (c .before .before .before .before .before .before .before .before .before .before .before .before .before .before .before .before .before .before .put-and-amount3 .ensures)) (c .before .before .before .before .before .before .before .before .before .before .before .before .put-and-amount4 .ensures)) (c .before .before .before .before .before .before .put-and-amount5 .ensures)) (c .before .before .put-byte .ensures))
+    (put-then (put-then (put-then (put-then (put-then (put-then (c₁₀ .put-params .ensures) (c₉ .put-and-amount .ensures)) (c₈ .put-and-amount2 .ensures)) (c₆ .put-and-amount3 .ensures)) (c₄ .put-and-amount4 .ensures)) (c₂ .put-and-amount5 .ensures)) (c₁ .put-byte .ensures))
 
 pub header-counts-spec : {M : Type 1} → statement M
 header-counts-spec =

@@ -1,6 +1,6 @@
+-- The numbers are those of the head, and the count of the code stands before it.
 use borrow.Author.Needs.{needs}
-use native.Mathlib.Omega.{arith}
-use mathlib.Core.Path.{sym, ap, _∙_}
+use mathlib.Core.Path.{ap, _∙_}
 use Rattle.proto.specs.declared.head.Head.{Head}
 use Rattle.proto.proofs.Items.{ints-count}
 use Rattle.lent.proofs.Writes.{put-then}
@@ -25,7 +25,12 @@ same-length c = search needs
 
 returns : tie.Need-returns
 unfolding headerKind
-returns c = λ p fs t e l. rw (← ap (λ (h : Head). h .«line_defined») e, ← ap (λ (h : Head). h .«last_line_defined») e, ← (c .before .before .before .before .word-at .ensures ∙ ints-count (p .code) (l .code .stands))) (put-then (put-then (c .before .before .before .before .before .before .before .before .before .before .before .put-kind .ensures) (c .before .before .before .before .before .before .before .put-source-lines .ensures)) (c .before .before .put-code-size .ensures))
+returns c =
+    let c₁ = c .before .before in
+    let c₂ = c₁ .before .before in
+    let c₃ = c₂ .before .before .before in
+    let c₄ = c₃ .before .before .before .before in
+    λ p fs t e l. rw (← ap (λ (h : Head). h .«line_defined») e, ← ap (λ (h : Head). h .«last_line_defined») e, ← (c₂ .word-at .ensures ∙ ints-count (p .code) (l .code .stands))) (put-then (put-then (c₄ .put-kind .ensures) (c₃ .put-source-lines .ensures)) (c₁ .put-code-size .ensures))
 
 pub header-kind-spec : {M : Type 1} → statement M
 header-kind-spec =

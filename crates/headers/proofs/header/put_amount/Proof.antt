@@ -1,5 +1,5 @@
+-- The number, then the noun.
 use borrow.Author.Needs.{needs}
-use native.Mathlib.Omega.{arith}
 use Rattle.lent.proofs.Writes.{put-then}
 use Rattle.headers.proofs.header.put_amount.Statement.{statement}
 use Rattle.headers.proofs.header.put_amount.Tie as tie

@@ -1,5 +1,5 @@
+-- A comma and a space, then the amount.
 use borrow.Author.Needs.{needs}
-use native.Mathlib.Omega.{arith}
 use Rattle.lent.proofs.Writes.{put-then}
 use Rattle.headers.proofs.header.put_and_amount.Statement.{statement}
 use Rattle.headers.proofs.header.put_and_amount.Tie as tie

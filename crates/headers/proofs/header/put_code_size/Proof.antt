@@ -1,5 +1,5 @@
+-- The parts one after the other.
 use borrow.Author.Needs.{needs}
-use native.Mathlib.Omega.{arith}
 use Rattle.lent.proofs.Writes.{put-then}
 use Rattle.headers.proofs.header.put_code_size.Statement.{statement}
 use Rattle.headers.proofs.header.put_code_size.Tie as tie
@@ -47,7 +47,15 @@ same-length : tie.Need-same-length
 same-length c = search needs
 
 returns : tie.Need-returns
-returns c = put-then (put-then (put-then (put-then (put-then (put-then (c .before .before .before .before .before .before .before .before .before .before .before .before .before .before .before .before .before .before .before .before .before .before .before .before .before .before .before .before .before .before .put-bytes .ensures) (c .before .before .before .before .before .before .before .before .before .before .before .before .before .before .before .before .before .before .before .before .before .before .before .before .before .put-amount .ensures)) (c .before .before .before .before .before .before .before .before .before .before .before .before .before .before .before .before .before .before .before .before .put-bytes2 .ensures)) (c .before .before .before .before .before .before .before .before .before .before .before .before .before .before .before .before .put-decimal .ensures)) (c .before .before .before .before .before .before .before .before .before .before .before .put-bytes3 .ensures)) (c .before .before .before .before .before .before .before .put-address .ensures)) (c .before .before .put-bytes4 .ensures)
+returns c =
+    let c₁ = c .before .before in
+    let c₂ = c₁ .before .before .before .before .before in
+    let c₃ = c₂ .before .before .before .before in
+    let c₄ = c₃ .before .before .before .before .before in
+    let c₅ = c₄ .before .before .before .before in
+    let c₆ = c₅ .before .before .before .before .before in
+    let c₇ = c₆ .before .before .before .before .before in
+    put-then (put-then (put-then (put-then (put-then (put-then (c₇ .put-bytes .ensures) (c₆ .put-amount .ensures)) (c₅ .put-bytes2 .ensures)) (c₄ .put-decimal .ensures)) (c₃ .put-bytes3 .ensures)) (c₂ .put-address .ensures)) (c₁ .put-bytes4 .ensures)
 
 pub put-code-size-spec : {M : Type 1} → statement M
 put-code-size-spec =

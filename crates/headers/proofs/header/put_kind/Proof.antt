@@ -1,5 +1,5 @@
+-- Line 0 is main's.
 use borrow.Author.Needs.{needs}
-use native.Mathlib.Omega.{arith}
 use borrow.Author.Tests.{eq-eqb, ne-eqb}
 use Rattle.headers.proofs.header.put_kind.Statement.{statement}
 use Rattle.headers.proofs.header.put_kind.Tie as tie

@@ -1,5 +1,5 @@
+-- One has no s, any other number has.
 use borrow.Author.Needs.{needs}
-use native.Mathlib.Omega.{arith}
 use Rattle.lent.proofs.Writes.{put-then, put-none}
 use borrow.Author.Tests.{eq-eqb, ne-eqb}
 use Rattle.headers.proofs.header.put_noun.Statement.{statement}
@@ -21,7 +21,11 @@ same-length-2 : tie.Need-same-length-2
 same-length-2 c = search needs
 
 returns-2 : tie.Need-returns-2
-returns-2 c = rw (ne-eqb _ _ (c .before .before .before .before .if1 .left)) (put-then (c .before .before .before .before .before .before .before .put-bytes .ensures) (c .before .before .put-byte .ensures))
+returns-2 c =
+    let c₁ = c .before .before in
+    let c₂ = c₁ .before .before in
+    let c₃ = c₂ .before .before .before in
+    rw (ne-eqb _ _ (c₂ .if1 .left)) (put-then (c₃ .put-bytes .ensures) (c₁ .put-byte .ensures))
 
 pub put-noun-spec : {M : Type 1} → statement M
 put-noun-spec =

@@ -1,5 +1,5 @@
+-- The parts one after the other.
 use borrow.Author.Needs.{needs}
-use native.Mathlib.Omega.{arith}
 use Rattle.lent.proofs.Writes.{put-then}
 use Rattle.headers.proofs.header.put_params.Statement.{statement}
 use Rattle.headers.proofs.header.put_params.Tie as tie
@@ -20,7 +20,11 @@ same-length : tie.Need-same-length
 same-length c = search needs
 
 returns : tie.Need-returns
-returns c = put-then (put-then (c .before .before .before .before .before .before .before .before .before .before .before .put-decimal .ensures) (c .before .before .before .before .before .before .before .put-vararg .ensures)) (c .before .before .put-noun .ensures)
+returns c =
+    let c₁ = c .before .before in
+    let c₂ = c₁ .before .before .before .before .before in
+    let c₃ = c₂ .before .before .before .before in
+    put-then (put-then (c₃ .put-decimal .ensures) (c₂ .put-vararg .ensures)) (c₁ .put-noun .ensures)
 
 pub put-params-spec : {M : Type 1} → statement M
 put-params-spec =

@@ -1,5 +1,5 @@
+-- The parts one after the other, the source without its @.
 use borrow.Author.Needs.{needs}
-use native.Mathlib.Omega.{arith}
 use Rattle.lent.proofs.Writes.{put-then}
 use Rattle.headers.proofs.header.put_source_lines.Statement.{statement}
 use Rattle.headers.proofs.header.put_source_lines.Tie as tie
@@ -35,7 +35,16 @@ same-length : tie.Need-same-length
 same-length c = search needs
 
 returns : tie.Need-returns
-returns c = rw (← c .before .before .before .before .before .before .before .before .before .before .before .before .before .before .before .before .before .before .before .before .before .before .before .display-source .ensures) (put-then (put-then (put-then (put-then (put-then (put-then (c .before .before .before .before .before .before .before .before .before .before .before .before .before .before .before .before .before .before .before .before .before .before .before .before .before .before .before .put-bytes .ensures) (c .before .before .before .before .before .before .before .before .before .before .before .before .before .before .before .before .before .before .before .before .before .before .put-bytes2 .ensures)) (c .before .before .before .before .before .before .before .before .before .before .before .before .before .before .before .before .before .before .put-byte .ensures)) (c .before .before .before .before .before .before .before .before .before .before .before .before .before .before .put-decimal .ensures)) (c .before .before .before .before .before .before .before .before .before .before .put-byte2 .ensures)) (c .before .before .before .before .before .before .put-decimal2 .ensures)) (c .before .before .put-byte3 .ensures))
+returns c =
+    let c₁ = c .before .before in
+    let c₂ = c₁ .before .before .before .before in
+    let c₃ = c₂ .before .before .before .before in
+    let c₄ = c₃ .before .before .before .before in
+    let c₅ = c₄ .before .before .before .before in
+    let c₆ = c₅ .before .before .before .before in
+    let c₇ = c₆ .before in
+    let c₈ = c₇ .before .before .before .before in
+    rw (← c₇ .display-source .ensures) (put-then (put-then (put-then (put-then (put-then (put-then (c₈ .put-bytes .ensures) (c₆ .put-bytes2 .ensures)) (c₅ .put-byte .ensures)) (c₄ .put-decimal .ensures)) (c₃ .put-byte2 .ensures)) (c₂ .put-decimal2 .ensures)) (c₁ .put-byte3 .ensures))
 
 pub put-source-lines-spec : {M : Type 1} → statement M
 put-source-lines-spec =

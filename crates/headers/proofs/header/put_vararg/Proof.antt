@@ -1,5 +1,5 @@
+-- The bit is set, or nothing is written.
 use borrow.Author.Needs.{needs}
-use native.Mathlib.Omega.{arith}
 use borrow.Author.Tests.{eq-eqb, ne-eqb}
 use Rattle.lent.proofs.Writes.{put-none}
 use Rattle.headers.proofs.header.put_vararg.Statement.{statement}

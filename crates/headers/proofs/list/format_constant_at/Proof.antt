@@ -1,8 +1,6 @@
+-- The index, the constant that stands there, a newline.
 use borrow.Author.Needs.{needs}
-use native.Mathlib.Omega.{arith}
 use mathlib.Core.Option.{some}
-use mathlib.Core.Path.{_∙_}
-use Rattle.lent.proofs.Writes.{put-then}
 use Rattle.operands.specs.Operands.{constantText}
 use Rattle.operands.proofs.Shows.{shows-put, shows-then, constant-shown}
 use Rattle.headers.proofs.list.format_constant_at.Statement.{statement}
@@ -27,7 +25,12 @@ same-length : tie.Need-same-length
 same-length c = search needs
 
 returns : tie.Need-returns
-returns c = shows-then (shows-then (shows-put (c .before .before .before .before .before .before .before .before .before .before .before .put-index .ensures)) (record { shows = constant-shown (c .before .before .before .before .before .before .before .before .constant-at .result) (λ k. constantText (some k)) (c .before .before .before .before .before .before .before .before .constant-at .ensures) (c .before .before .before .before .before .before .put-constant .ensures) })) (shows-put (c .before .before .put-byte .ensures))
+returns c =
+    let c₁ = c .before .before in
+    let c₂ = c₁ .before .before .before .before in
+    let c₃ = c₂ .before .before in
+    let c₄ = c₃ .before .before .before in
+    shows-then (shows-then (shows-put (c₄ .put-index .ensures)) (record { shows = constant-shown (c₃ .constant-at .result) (λ k. constantText (some k)) (c₃ .constant-at .ensures) (c₂ .put-constant .ensures) })) (shows-put (c₁ .put-byte .ensures))
 
 pub format-constant-at-spec : {M : Type 1} → statement M
 format-constant-at-spec =

@@ -1,3 +1,4 @@
+-- The name stands first, and start and end are words 2 and 3.
 use borrow.Author.Needs.{needs}
 use native.Mathlib.Omega.{arith}
 use Rattle.lent.proofs.Writes.{put-then}
@@ -39,7 +40,18 @@ same-length : tie.Need-same-length
 same-length c = search needs
 
 returns : tie.Need-returns
-returns c = record { shows = λ v s. rw (← c .before .before .before .before .before .before .before .before .before .before .before .before .before .before .before .before .before .before .before .string-at .ensures (v .name) (s .to) (local-name v s), ← local-word v s 2 (omega arith) (c .before .before .before .before .before .before .before .before .before .before .before .before .before .before .before .skip .ensures) (c .before .before .before .before .before .before .before .before .before .before .before .before .before .before .word-at .ensures), ← local-word v s 3 (omega arith) (c .before .before .before .before .before .before .before .before .before .skip2 .ensures) (c .before .before .before .before .before .before .before .before .word-at2 .ensures)) (put-then (put-then (put-then (put-then (c .before .before .before .before .before .before .before .before .before .before .before .before .before .before .before .before .before .before .before .before .before .before .before .put-index .ensures) (c .before .before .before .before .before .before .before .before .before .before .before .before .before .before .before .before .before .before .put-bytes .ensures)) (c .before .before .before .before .before .before .before .before .before .before .before .before .put-raised .ensures)) (c .before .before .before .before .before .before .put-raised2 .ensures)) (c .before .before .put-byte .ensures)) }
+returns c =
+    let c₁ = c .before .before in
+    let c₂ = c₁ .before .before .before .before in
+    let c₃ = c₂ .before .before in
+    let c₄ = c₃ .before in
+    let c₅ = c₄ .before .before .before in
+    let c₆ = c₅ .before .before in
+    let c₇ = c₆ .before in
+    let c₈ = c₇ .before .before .before in
+    let c₉ = c₈ .before in
+    let c₁₀ = c₉ .before .before .before .before in
+    record { shows = λ v s. rw (← c₉ .string-at .ensures (v .name) (s .to) (local-name v s), ← local-word v s 2 (omega arith) (c₇ .skip .ensures) (c₆ .word-at .ensures), ← local-word v s 3 (omega arith) (c₄ .skip2 .ensures) (c₃ .word-at2 .ensures)) (put-then (put-then (put-then (put-then (c₁₀ .put-index .ensures) (c₈ .put-bytes .ensures)) (c₅ .put-raised .ensures)) (c₂ .put-raised2 .ensures)) (c₁ .put-byte .ensures)) }
 
 pub format-local-at-spec : {M : Type 1} → statement M
 format-local-at-spec =

@@ -1,5 +1,5 @@
+-- The index, the name that stands there, a newline.
 use borrow.Author.Needs.{needs}
-use native.Mathlib.Omega.{arith}
 use Rattle.operands.proofs.Shows.{shows-put, shows-then, string-shown}
 use Rattle.headers.proofs.list.format_upvalue_at.Statement.{statement}
 use Rattle.headers.proofs.list.format_upvalue_at.Tie as tie
@@ -20,7 +20,12 @@ same-length : tie.Need-same-length
 same-length c = search needs
 
 returns : tie.Need-returns
-returns c = shows-then (shows-then (shows-put (c .before .before .before .before .before .before .before .before .before .before .before .put-index .ensures)) (record { shows = string-shown (λ s. s) (c .before .before .before .before .before .before .before .string-at .ensures) (c .before .before .before .before .before .before .put-bytes .ensures) })) (shows-put (c .before .before .put-byte .ensures))
+returns c =
+    let c₁ = c .before .before in
+    let c₂ = c₁ .before .before .before .before in
+    let c₃ = c₂ .before in
+    let c₄ = c₃ .before .before .before .before in
+    shows-then (shows-then (shows-put (c₄ .put-index .ensures)) (record { shows = string-shown (λ s. s) (c₃ .string-at .ensures) (c₂ .put-bytes .ensures) })) (shows-put (c₁ .put-byte .ensures))
 
 pub format-upvalue-at-spec : {M : Type 1} → statement M
 format-upvalue-at-spec =

@@ -1,3 +1,4 @@
+-- What is left to write are the names from i on; i is below the count, so name i stands where item_at says.
 use borrow.Author.Needs.{needs}
 use native.Mathlib.Omega.{arith}
 use Prim.Native.Nat.{_-_}
@@ -41,13 +42,24 @@ loop-less : tie.Need-loop-less Inv-loop μ-loop
 loop-less c = omega arith
 
 loop-again : tie.Need-loop-again Inv-loop μ-loop
-loop-again c = (c .before .before .format-upvalue-at .kept .1 .1 .1 .1 .0 ∙ c .before .before .before .before .before .before .loop .inv .0, list-turn (c .before .before .before .before .before .before .before .before .before .before .before .before .before .before .before .before .args .words .now) (c .before .before .before .before .before .before .before .before .before .before .before .before .before .before .before .before .args .text .now) (c .before .before .before .before .before .before .before .before .before .before .before .before .before .before .before .before .args .upvalues) string formatUpvalueAt 2 (λ a to. refl) (c .before .before .before .before .before .before .before .before .before .before .before .before .word-at .ensures) (omega arith) (c .before .before .before .before .before .before .loop .inv .1) (c .before .before .before .before .item-at .ensures) (c .before .before .format-upvalue-at .ensures))
+loop-again c =
+    let c₁ = c .before .before in
+    let c₂ = c₁ .before .before in
+    let c₃ = c₂ .before .before in
+    let c₄ = c₃ .before .before .before .before .before .before in
+    let c₅ = c₄ .before .before .before .before in
+    (c₁ .format-upvalue-at .kept .1 .1 .1 .1 .0 ∙ c₃ .loop .inv .0, list-turn (c₅ .args .words .now) (c₅ .args .text .now) (c₅ .args .upvalues) string formatUpvalueAt 2 (λ a to. refl) (c₄ .word-at .ensures) (omega arith) (c₃ .loop .inv .1) (c₂ .item-at .ensures) (c₁ .format-upvalue-at .ensures))
 
 same-length : tie.Need-same-length Inv-loop μ-loop
 same-length c = c .before .loop .inv .0 ∙ c .before .before .before .before .put-title .kept .1 .1 .1 .0
 
 returns : tie.Need-returns Inv-loop μ-loop
-returns c = list-end (c .before .before .before .before .before .before .before .before .before .before .before .args .words .now) (c .before .before .before .before .before .before .before .before .before .before .before .args .text .now) (c .before .before .before .before .before .before .before .before .before .before .before .args .upvalues) string formatUpvalueAt (λ n. title (ascii "upvalues") n (c .before .before .before .before .before .before .before .before .before .before .before .args .number)) (c .before .before .before .before .before .before .before .word-at .ensures) (omega arith) (c .before .before .before .before .put-title .ensures) (c .before .loop .inv .1)
+returns c =
+    let c₁ = c .before in
+    let c₂ = c₁ .before .before .before in
+    let c₃ = c₂ .before .before .before in
+    let c₄ = c₃ .before .before .before .before in
+    list-end (c₄ .args .words .now) (c₄ .args .text .now) (c₄ .args .upvalues) string formatUpvalueAt (λ n. title (ascii "upvalues") n (c₄ .args .number)) (c₃ .word-at .ensures) (omega arith) (c₂ .put-title .ensures) (c₁ .loop .inv .1)
 
 pub format-upvalues-spec : {M : Type 1} → statement M
 format-upvalues-spec =

@@ -1,5 +1,5 @@
+-- The sum wraps as the definition says.
 use borrow.Author.Needs.{needs}
-use native.Mathlib.Omega.{arith}
 use Rattle.lent.proofs.Writes.{put-then}
 use Rattle.headers.proofs.list.put_raised.Statement.{statement}
 use Rattle.headers.proofs.list.put_raised.Tie as tie
@@ -20,7 +20,11 @@ same-length : tie.Need-same-length
 same-length c = search needs
 
 returns : tie.Need-returns
-returns c = rw (← c .before .before .before .wrapping-add-u32 .ensures) (put-then (c .before .before .before .before .before .before .before .put-byte .ensures) (c .before .before .put-decimal .ensures))
+returns c =
+    let c₁ = c .before .before in
+    let c₂ = c₁ .before in
+    let c₃ = c₂ .before .before .before .before in
+    rw (← c₂ .wrapping-add-u32 .ensures) (put-then (c₃ .put-byte .ensures) (c₁ .put-decimal .ensures))
 
 pub put-raised-spec : {M : Type 1} → statement M
 put-raised-spec =

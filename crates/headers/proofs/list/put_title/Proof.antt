@@ -1,5 +1,5 @@
+-- The parts one after the other.
 use borrow.Author.Needs.{needs}
-use native.Mathlib.Omega.{arith}
 use Rattle.lent.proofs.Writes.{put-then}
 use Rattle.headers.proofs.list.put_title.Statement.{statement}
 use Rattle.headers.proofs.list.put_title.Tie as tie
@@ -35,7 +35,14 @@ same-length : tie.Need-same-length
 same-length c = search needs
 
 returns : tie.Need-returns
-returns c = put-then (put-then (put-then (put-then (put-then (c .before .before .before .before .before .before .before .before .before .before .before .before .before .before .before .before .before .before .before .before .before .before .before .before .before .put-bytes .ensures) (c .before .before .before .before .before .before .before .before .before .before .before .before .before .before .before .before .before .before .before .before .put-bytes2 .ensures)) (c .before .before .before .before .before .before .before .before .before .before .before .before .before .before .before .before .put-decimal .ensures)) (c .before .before .before .before .before .before .before .before .before .before .before .put-bytes3 .ensures)) (c .before .before .before .before .before .before .before .put-address .ensures)) (c .before .before .put-bytes4 .ensures)
+returns c =
+    let c₁ = c .before .before in
+    let c₂ = c₁ .before .before .before .before .before in
+    let c₃ = c₂ .before .before .before .before in
+    let c₄ = c₃ .before .before .before .before .before in
+    let c₅ = c₄ .before .before .before .before in
+    let c₆ = c₅ .before .before .before .before .before in
+    put-then (put-then (put-then (put-then (put-then (c₆ .put-bytes .ensures) (c₅ .put-bytes2 .ensures)) (c₄ .put-decimal .ensures)) (c₃ .put-bytes3 .ensures)) (c₂ .put-address .ensures)) (c₁ .put-bytes4 .ensures)
 
 pub put-title-spec : {M : Type 1} → statement M
 put-title-spec =

@@ -1,5 +1,4 @@
-use borrow.Author.Needs.{needs}
-use native.Mathlib.Omega.{arith}
+-- It is the first, or it is compared with the second.
 use borrow.Author.Tests.{eq-eqb, ne-eqb}
 use Rattle.lines.proofs.Comments.{or-false}
 use Rattle.lines.proofs.comment.either.Statement.{statement}

@@ -1,5 +1,5 @@
+-- Past the count there is no constant, before it constant idx stands there.
 use borrow.Author.Needs.{needs}
-use native.Mathlib.Omega.{arith}
 use Rattle.format.specs.Store.{constantPiece}
 use mathlib.Core.Option.{some}
 use Rattle.proto.proofs.Pieces.{constant-words}
@@ -21,7 +21,11 @@ same-length : tie.Need-same-length
 same-length c = search needs
 
 returns : tie.Need-returns
-returns c = shows-past constantPiece rawText (c .before .before .before .before .before .before .word-at .ensures) (c .before .before .before .before .before .if1 .taken) (c .before .before .put-bytes .ensures)
+returns c =
+    let c₁ = c .before .before in
+    let c₂ = c₁ .before .before .before in
+    let c₃ = c₂ .before in
+    shows-past constantPiece rawText (c₃ .word-at .ensures) (c₂ .if1 .taken) (c₁ .put-bytes .ensures)
 
 item-at-requires : tie.Need-item-at-requires
 item-at-requires c κs = search needs
@@ -36,7 +40,13 @@ same-length-2 : tie.Need-same-length-2
 same-length-2 c = search needs
 
 returns-2 : tie.Need-returns-2
-returns-2 c = shows-item constantPiece 3 constant-words rawText (c .before .before .before .before .before .before .before .word-at .ensures) (c .before .before .before .before .before .before .if1 .left) (c .before .before .before .before .before .item-at .ensures) (constant-shown (c .before .before .before .before .constant-at .result) (λ v. rawText (some v)) (c .before .before .before .before .constant-at .ensures) (c .before .before .put-constant-raw .ensures))
+returns-2 c =
+    let c₁ = c .before .before in
+    let c₂ = c₁ .before .before in
+    let c₃ = c₂ .before in
+    let c₄ = c₃ .before in
+    let c₅ = c₄ .before in
+    shows-item constantPiece 3 constant-words rawText (c₅ .word-at .ensures) (c₄ .if1 .left) (c₃ .item-at .ensures) (constant-shown (c₂ .constant-at .result) (λ v. rawText (some v)) (c₂ .constant-at .ensures) (c₁ .put-constant-raw .ensures))
 
 pub format-constant-raw-spec : {M : Type 1} → statement M
 format-constant-raw-spec =

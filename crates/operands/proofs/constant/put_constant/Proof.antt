@@ -1,5 +1,5 @@
+-- Each kind has its text.
 use borrow.Author.Needs.{needs}
-use native.Mathlib.Omega.{arith}
 use Rattle.operands.proofs.constant.put_constant.Statement.{statement}
 use Rattle.operands.proofs.constant.put_constant.Tie as tie
 
@@ -52,13 +52,21 @@ same-length-2 : tie.Need-same-length-2
 same-length-2 c = search needs
 
 returns-2 : tie.Need-returns-2
-returns-2 c = rw (c .before .before .before .before .before .before .before .k .given .1, c .before .before .before .before .before .if1 .taken) (c .before .before .put-bytes2 .ensures)
+returns-2 c =
+    let c₁ = c .before .before in
+    let c₂ = c₁ .before .before .before in
+    let c₃ = c₂ .before .before in
+    rw (c₃ .k .given .1, c₂ .if1 .taken) (c₁ .put-bytes2 .ensures)
 
 same-length-3 : tie.Need-same-length-3
 same-length-3 c = search needs
 
 returns-3 : tie.Need-returns-3
-returns-3 c = rw (c .before .before .before .before .before .before .before .k .given .1, c .before .before .before .before .before .if1 .left) (c .before .before .put-bytes3 .ensures)
+returns-3 c =
+    let c₁ = c .before .before in
+    let c₂ = c₁ .before .before .before in
+    let c₃ = c₂ .before .before in
+    rw (c₃ .k .given .1, c₂ .if1 .left) (c₁ .put-bytes3 .ensures)
 
 same-length-4 : tie.Need-same-length-4
 same-length-4 c = search needs
@@ -70,7 +78,11 @@ same-length-5 : tie.Need-same-length-5
 same-length-5 c = search needs
 
 returns-5 : tie.Need-returns-5
-returns-5 c = rw (c .before .before .before .before .before .before .k3 .given .1, ← c .before .before .before .part .ensures) (c .before .before .put-quoted .ensures)
+returns-5 c =
+    let c₁ = c .before .before in
+    let c₂ = c₁ .before in
+    let c₃ = c₂ .before .before .before in
+    rw (c₃ .k3 .given .1, ← c₂ .part .ensures) (c₁ .put-quoted .ensures)
 
 pub put-constant-spec : {M : Type 1} → statement M
 put-constant-spec =

@@ -1,5 +1,5 @@
+-- A string is repaired, any other kind is written as ever.
 use borrow.Author.Needs.{needs}
-use native.Mathlib.Omega.{arith}
 use Rattle.operands.proofs.Shows.{raw-other}
 use Rattle.operands.proofs.constant.put_constant_raw.Statement.{statement}
 use Rattle.operands.proofs.constant.put_constant_raw.Tie as tie
@@ -20,13 +20,21 @@ same-length : tie.Need-same-length
 same-length c = search needs
 
 returns : tie.Need-returns
-returns c = rw (c .before .before .before .before .before .before .k .given .1, ← c .before .before .before .before .part .ensures) (c .before .before .repair .ensures)
+returns c =
+    let c₁ = c .before .before in
+    let c₂ = c₁ .before .before in
+    let c₃ = c₂ .before .before in
+    rw (c₃ .k .given .1, ← c₂ .part .ensures) (c₁ .repair .ensures)
 
 same-length-2 : tie.Need-same-length-2
 same-length-2 c = search needs
 
 returns-2 : tie.Need-returns-2
-returns-2 c = raw-other (c .before .before .before .before .before .before .before .args .text .now) (c .before .before .before .before .before .before .before .args .k) (c .before .before .before .before .match .keys2) (c .before .before .put-constant .ensures)
+returns-2 c =
+    let c₁ = c .before .before in
+    let c₂ = c₁ .before .before in
+    let c₃ = c₂ .before .before .before in
+    raw-other (c₃ .args .text .now) (c₃ .args .k) (c₂ .match .keys2) (c₁ .put-constant .ensures)
 
 pub put-constant-raw-spec : {M : Type 1} → statement M
 put-constant-raw-spec =

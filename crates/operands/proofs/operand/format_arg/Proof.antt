@@ -1,5 +1,5 @@
+-- The mode is N, or the operand is written.
 use borrow.Author.Needs.{needs}
-use native.Mathlib.Omega.{arith}
 use Rattle.lent.proofs.Writes.{put-then, put-none}
 use Rattle.operands.proofs.operand.format_arg.Statement.{statement}
 use Rattle.operands.proofs.operand.format_arg.Tie as tie
@@ -20,7 +20,12 @@ same-length : tie.Need-same-length
 same-length c = search needs
 
 returns-2 : tie.Need-returns-2
-returns-2 c = rw (← c .before .before .before .before .before .before .before .before .before .is-n .ensures, c .before .before .before .before .before .before .before .before .if1 .left) (put-then (c .before .before .before .before .before .before .put-byte .ensures) (c .before .before .format-rk .ensures))
+returns-2 c =
+    let c₁ = c .before .before in
+    let c₂ = c₁ .before .before .before .before in
+    let c₃ = c₂ .before .before in
+    let c₄ = c₃ .before in
+    rw (← c₄ .is-n .ensures, c₃ .if1 .left) (put-then (c₂ .put-byte .ensures) (c₁ .format-rk .ensures))
 
 pub format-arg-spec : {M : Type 1} → statement M
 format-arg-spec =

@@ -1,5 +1,5 @@
+-- The mode is K, or it is not.
 use borrow.Author.Needs.{needs}
-use native.Mathlib.Omega.{arith}
 use Rattle.operands.proofs.operand.format_bx.Statement.{statement}
 use Rattle.operands.proofs.operand.format_bx.Tie as tie
 
@@ -16,7 +16,11 @@ same-length : tie.Need-same-length
 same-length c = search needs
 
 returns : tie.Need-returns
-returns c = rw (← c .before .before .before .before .before .is-constant .ensures, c .before .before .before .before .if1 .taken) (c .before .before .put-negative .ensures)
+returns c =
+    let c₁ = c .before .before in
+    let c₂ = c₁ .before .before in
+    let c₃ = c₂ .before in
+    rw (← c₃ .is-constant .ensures, c₂ .if1 .taken) (c₁ .put-negative .ensures)
 
 put-decimal-requires : tie.Need-put-decimal-requires
 put-decimal-requires c κs = search needs
@@ -25,7 +29,11 @@ same-length-2 : tie.Need-same-length-2
 same-length-2 c = search needs
 
 returns-2 : tie.Need-returns-2
-returns-2 c = rw (← c .before .before .before .before .before .is-constant .ensures, c .before .before .before .before .if1 .left) (c .before .before .put-decimal .ensures)
+returns-2 c =
+    let c₁ = c .before .before in
+    let c₂ = c₁ .before .before in
+    let c₃ = c₂ .before in
+    rw (← c₃ .is-constant .ensures, c₂ .if1 .left) (c₁ .put-decimal .ensures)
 
 pub format-bx-spec : {M : Type 1} → statement M
 format-bx-spec =

@@ -1,5 +1,5 @@
+-- The mode is the one that the table gives the opcode.
 use borrow.Author.Needs.{needs}
-use native.Mathlib.Omega.{arith}
 use Rattle.operands.proofs.Shows.{by-modes}
 use Rattle.operands.proofs.operand.format_operands.Statement.{statement}
 use Rattle.operands.proofs.operand.format_operands.Tie as tie
@@ -29,19 +29,34 @@ same-length : tie.Need-same-length
 same-length c = search needs
 
 returns : tie.Need-returns
-returns c = by-modes (c .before .before .before .before .before .before .before .before .args .op) (c .before .before .before .before .before .before .before .before .args .i) (c .before .before .before .before .before .before .op-modes .result) (c .before .before .before .before .before .before .op-modes .ensures) (rw (c .before .before .before .before .enum-told .given .1) (c .before .before .operands-abc .ensures))
+returns c =
+    let c₁ = c .before .before in
+    let c₂ = c₁ .before .before in
+    let c₃ = c₂ .before .before in
+    let c₄ = c₃ .before .before in
+    by-modes (c₄ .args .op) (c₄ .args .i) (c₃ .op-modes .result) (c₃ .op-modes .ensures) (rw (c₂ .enum-told .given .1) (c₁ .operands-abc .ensures))
 
 same-length-2 : tie.Need-same-length-2
 same-length-2 c = search needs
 
 returns-2 : tie.Need-returns-2
-returns-2 c = by-modes (c .before .before .before .before .before .before .before .before .args .op) (c .before .before .before .before .before .before .before .before .args .i) (c .before .before .before .before .before .before .op-modes .result) (c .before .before .before .before .before .before .op-modes .ensures) (rw (c .before .before .before .before .enum-told2 .given .1) (c .before .before .operands-abx .ensures))
+returns-2 c =
+    let c₁ = c .before .before in
+    let c₂ = c₁ .before .before in
+    let c₃ = c₂ .before .before in
+    let c₄ = c₃ .before .before in
+    by-modes (c₄ .args .op) (c₄ .args .i) (c₃ .op-modes .result) (c₃ .op-modes .ensures) (rw (c₂ .enum-told2 .given .1) (c₁ .operands-abx .ensures))
 
 same-length-3 : tie.Need-same-length-3
 same-length-3 c = search needs
 
 returns-3 : tie.Need-returns-3
-returns-3 c = by-modes (c .before .before .before .before .before .before .before .before .args .op) (c .before .before .before .before .before .before .before .before .args .i) (c .before .before .before .before .before .before .op-modes .result) (c .before .before .before .before .before .before .op-modes .ensures) (rw (c .before .before .before .before .enum-told3 .given .1) (c .before .before .operands-asbx .ensures))
+returns-3 c =
+    let c₁ = c .before .before in
+    let c₂ = c₁ .before .before in
+    let c₃ = c₂ .before .before in
+    let c₄ = c₃ .before .before in
+    by-modes (c₄ .args .op) (c₄ .args .i) (c₃ .op-modes .result) (c₃ .op-modes .ensures) (rw (c₂ .enum-told3 .given .1) (c₁ .operands-asbx .ensures))
 
 pub format-operands-spec : {M : Type 1} → statement M
 format-operands-spec =

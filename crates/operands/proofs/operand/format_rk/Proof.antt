@@ -1,6 +1,5 @@
+-- The operand is a constant, or not.
 use borrow.Author.Needs.{needs}
-use native.Mathlib.Omega.{arith}
-use mathlib.Core.Path.{sym, _∙_}
 use Rattle.operands.proofs.operand.format_rk.Statement.{statement}
 use Rattle.operands.proofs.operand.format_rk.Tie as tie
 
@@ -23,7 +22,12 @@ same-length : tie.Need-same-length
 same-length c = search needs
 
 returns : tie.Need-returns
-returns c = rw (← c .before .before .before .before .before .before .is-k .ensures, c .before .before .before .before .before .if1 .taken, ← c .before .before .before .index-k .ensures) (c .before .before .put-negative .ensures)
+returns c =
+    let c₁ = c .before .before in
+    let c₂ = c₁ .before in
+    let c₃ = c₂ .before .before in
+    let c₄ = c₃ .before in
+    rw (← c₄ .is-k .ensures, c₃ .if1 .taken, ← c₂ .index-k .ensures) (c₁ .put-negative .ensures)
 
 put-decimal-requires : tie.Need-put-decimal-requires
 put-decimal-requires c κs = search needs
@@ -32,7 +36,11 @@ same-length-2 : tie.Need-same-length-2
 same-length-2 c = search needs
 
 returns-2 : tie.Need-returns-2
-returns-2 c = rw (← c .before .before .before .before .before .is-k .ensures, c .before .before .before .before .if1 .left) (c .before .before .put-decimal .ensures)
+returns-2 c =
+    let c₁ = c .before .before in
+    let c₂ = c₁ .before .before in
+    let c₃ = c₂ .before in
+    rw (← c₃ .is-k .ensures, c₂ .if1 .left) (c₁ .put-decimal .ensures)
 
 pub format-rk-spec : {M : Type 1} → statement M
 format-rk-spec =

@@ -1,5 +1,5 @@
+-- sBx is Bx less MAXARG-sBx.
 use borrow.Author.Needs.{needs}
-use native.Mathlib.Omega.{arith}
 use Rattle.operands.proofs.operand.format_sbx.Statement.{statement}
 use Rattle.operands.proofs.operand.format_sbx.Tie as tie
 

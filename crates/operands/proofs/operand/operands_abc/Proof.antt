@@ -1,5 +1,5 @@
+-- The parts one after the other.
 use borrow.Author.Needs.{needs}
-use native.Mathlib.Omega.{arith}
 use Rattle.lent.proofs.Writes.{put-then}
 use Rattle.operands.proofs.operand.operands_abc.Statement.{statement}
 use Rattle.operands.proofs.operand.operands_abc.Tie as tie
@@ -29,7 +29,14 @@ same-length : tie.Need-same-length
 same-length c = search needs
 
 returns : tie.Need-returns
-returns c = rw (← c .before .before .before .before .before .before .before .before .before .before .before .before .before .a .ensures, ← c .before .before .before .before .before .before .before .before .before .b .ensures, ← c .before .before .before .before .c .ensures) (put-then (put-then (c .before .before .before .before .before .before .before .before .before .before .before .before .put-decimal .ensures) (c .before .before .before .before .before .before .before .format-arg .ensures)) (c .before .before .format-arg2 .ensures))
+returns c =
+    let c₁ = c .before .before in
+    let c₂ = c₁ .before .before in
+    let c₃ = c₂ .before .before .before in
+    let c₄ = c₃ .before .before in
+    let c₅ = c₄ .before .before .before in
+    let c₆ = c₅ .before in
+    rw (← c₆ .a .ensures, ← c₄ .b .ensures, ← c₂ .c .ensures) (put-then (put-then (c₅ .put-decimal .ensures) (c₃ .format-arg .ensures)) (c₁ .format-arg2 .ensures))
 
 pub operands-abc-spec : {M : Type 1} → statement M
 operands-abc-spec =

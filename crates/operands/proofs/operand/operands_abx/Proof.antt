@@ -1,5 +1,5 @@
+-- The parts one after the other.
 use borrow.Author.Needs.{needs}
-use native.Mathlib.Omega.{arith}
 use Rattle.lent.proofs.Writes.{put-then}
 use Rattle.operands.proofs.operand.operands_abx.Statement.{statement}
 use Rattle.operands.proofs.operand.operands_abx.Tie as tie
@@ -26,7 +26,13 @@ same-length : tie.Need-same-length
 same-length c = search needs
 
 returns : tie.Need-returns
-returns c = rw (← c .before .before .before .before .before .before .before .before .before .before .before .before .a .ensures, ← c .before .before .before .before .bx .ensures) (put-then (put-then (c .before .before .before .before .before .before .before .before .before .before .before .put-decimal .ensures) (c .before .before .before .before .before .before .before .put-byte .ensures)) (c .before .before .format-bx .ensures))
+returns c =
+    let c₁ = c .before .before in
+    let c₂ = c₁ .before .before in
+    let c₃ = c₂ .before .before .before in
+    let c₄ = c₃ .before .before .before .before in
+    let c₅ = c₄ .before in
+    rw (← c₅ .a .ensures, ← c₂ .bx .ensures) (put-then (put-then (c₄ .put-decimal .ensures) (c₃ .put-byte .ensures)) (c₁ .format-bx .ensures))
 
 pub operands-abx-spec : {M : Type 1} → statement M
 operands-abx-spec =

@@ -1,5 +1,5 @@
+-- JMP has no A, the others have.
 use borrow.Author.Needs.{needs}
-use native.Mathlib.Omega.{arith}
 use Rattle.lent.proofs.Writes.{put-then}
 use borrow.Author.Tests.{eq-eqb, ne-eqb}
 use Rattle.operands.proofs.operand.operands_asbx.Statement.{statement}
@@ -33,7 +33,13 @@ same-length-2 : tie.Need-same-length-2
 same-length-2 c = search needs
 
 returns-2 : tie.Need-returns-2
-returns-2 c = rw (ne-eqb _ _ (c .before .before .before .before .before .before .before .before .before .before .before .before .before .if1 .left), ← c .before .before .before .before .before .before .before .before .before .before .before .a .ensures) (put-then (put-then (c .before .before .before .before .before .before .before .before .before .before .put-decimal .ensures) (c .before .before .before .before .before .before .put-byte .ensures)) (c .before .before .format-sbx2 .ensures))
+returns-2 c =
+    let c₁ = c .before .before in
+    let c₂ = c₁ .before .before .before .before in
+    let c₃ = c₂ .before .before .before .before in
+    let c₄ = c₃ .before in
+    let c₅ = c₄ .before .before in
+    rw (ne-eqb _ _ (c₅ .if1 .left), ← c₄ .a .ensures) (put-then (put-then (c₃ .put-decimal .ensures) (c₂ .put-byte .ensures)) (c₁ .format-sbx2 .ensures))
 
 pub operands-asbx-spec : {M : Type 1} → statement M
 operands-asbx-spec =

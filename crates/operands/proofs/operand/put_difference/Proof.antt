@@ -1,5 +1,5 @@
+-- The difference is negative, or not.
 use borrow.Author.Needs.{needs}
-use native.Mathlib.Omega.{arith}
 use borrow.Author.Tests.{lt-ltb, le-ltb}
 use Rattle.operands.proofs.operand.put_difference.Statement.{statement}
 use Rattle.operands.proofs.operand.put_difference.Tie as tie
