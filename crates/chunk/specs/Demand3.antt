@@ -13,11 +13,10 @@ use Rattle.format.specs.Read.{got}
 use Rattle.format.specs.Valid.{Holds, HoldOne}
 use Rattle.format.specs.Stored.{treeOf}
 use Rattle.format.specs.Undump.{loadChunk, UndumpLeft, undumpRefused, undumped, UndumpLent, Refuses, wordsUsed, textUsed}
-use Rattle.format.specs.Dump.{dumped}
+use Rattle.format.specs.Dump.{writeLeft, dumped}
 use Rattle.format.specs.declared.Undumped.{Undumped}
 use Rattle.format.specs.declared.Written.{Written}
 use Rattle.undump.specs.Undump.{undumpLeft}
-use Rattle.dump.specs.Step.{writeLeft}
 
 -- ---- dumps
 

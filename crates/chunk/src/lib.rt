@@ -3,8 +3,7 @@ use format::Undumped;
 use format::Written;
 ghost use mathlib.Core.Path.{_≡_};
 ghost use Rattle.format.specs.Undump.{undumped};
-ghost use Rattle.format.specs.Dump.{dumped};
-ghost use Rattle.dump.specs.Step.{writeLeft};
+ghost use Rattle.format.specs.Dump.{writeLeft, dumped};
 ghost use Rattle.listing.specs.Listing.{listed};
 ghost use Rattle.undump.specs.Undump.{undumpLeft};
 

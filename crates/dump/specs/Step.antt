@@ -7,8 +7,6 @@ use lib.ListN.{length}
 use Rattle.lent.specs.Memory.{Puts}
 use Rattle.format.specs.Tree.{Constant, Functions}
 use Rattle.format.specs.Store.{Piece, _⊕_, list, constantPiece}
-use Rattle.format.specs.Dump.{WriteLeft}
-use Rattle.format.specs.declared.Written.{Written}
 use Rattle.proto.specs.Walk.{Stands, childrenPiece}
 use Rattle.dump.specs.declared.list.DumpState.{DumpState}
 
@@ -32,7 +30,3 @@ constantsPiece constants fs = list constantPiece constants ⊕ childrenPiece fs
 -- the source around a function, which its own is compared with: none around the root
 abbrev pub around : Bool → List ℕ → List ℕ
 around root outer = cond root [] outer
-
--- what a call answers, with what then stands in lent memory
-abbrev pub writeLeft : Written → List ℕ → WriteLeft
-writeLeft answer out = record { answer = answer; out = out }

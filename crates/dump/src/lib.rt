@@ -18,8 +18,7 @@ ghost use Rattle.lent.specs.Memory.{Puts};
 ghost use Rattle.format.specs.Tree.{Function};
 ghost use Rattle.format.specs.Valid.{Holds};
 ghost use Rattle.format.specs.Write.{dumpHeader, dumpChunk};
-ghost use Rattle.format.specs.Dump.{writeRefused, dumped};
-ghost use Rattle.dump.specs.Step.{writeLeft};
+ghost use Rattle.format.specs.Dump.{writeLeft, writeRefused, dumped};
 
 fn refused(n: u32) -> Written
     ensures { λ r. ⌜ r ≡ writeRefused n [] .answer ⌝ }

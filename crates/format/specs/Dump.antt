@@ -16,6 +16,9 @@ pub record WriteLeft : Type 0 where
   pub answer : Written
   pub out : List ℕ
 
+abbrev pub writeLeft : Written → List ℕ → WriteLeft
+writeLeft answer out = record { answer = answer; out = out }
+
 abbrev pub writeRefused : ℕ → List ℕ → WriteLeft
 writeRefused n out = record { answer = record { refusal = n; len = 0 }; out = out }
 

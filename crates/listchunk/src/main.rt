@@ -7,7 +7,7 @@ use listing::list_function;
 use undump::undump;
 ghost use mathlib.Core.Path.{_≡_};
 ghost use lib.ListN.{take};
-ghost use Rattle.listing.specs.Lister.{writeLeft};
+ghost use Rattle.format.specs.Dump.{writeLeft};
 ghost use Rattle.listchunk.specs.ListChunk.{listedChunk};
 
 // The most bytes of the chunk, the words and the text bytes lent.

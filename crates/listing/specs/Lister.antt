@@ -5,8 +5,6 @@ use mathlib.Core.List.{List}
 use Rattle.lent.specs.Memory.{Puts, far}
 use Rattle.format.specs.Tree.{Function}
 use Rattle.format.specs.Store.{functionPiece}
-use Rattle.format.specs.Dump.{WriteLeft}
-use Rattle.format.specs.declared.Written.{Written}
 use Rattle.proto.specs.declared.walk.Next.{Next}
 use Rattle.proto.specs.Walk.{Passes, total}
 use Rattle.proto.proofs.Items.{StandsAt}
@@ -30,7 +28,3 @@ pub record ListsFunction (words text : List ℕ) (full : Bool) (outer : List ℕ
   pub passes : Passes words (functionPiece f) (total f) (nextOf s) (nextOf r)
   pub puts : StandsAt words text (s .state .at) (functionPiece f) → s .state .number + total f ≤ far
       → Puts (listFunctionRecursive f full outer (s .state .number)) (s .state .out) (s .output) (r .state .out) (r .output)
-
--- what a call answers, with what then stands in lent memory
-abbrev pub writeLeft : Written → List ℕ → WriteLeft
-writeLeft answer out = record { answer = answer; out = out }

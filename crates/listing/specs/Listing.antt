@@ -4,10 +4,9 @@ use mathlib.Core.Bool.{Bool, cond}
 use mathlib.Core.List.{List, [], _++_}
 use Rattle.instructions.specs.OpCodes.{ascii}
 use Rattle.format.specs.Tree.{Parts, Function, Functions, filled}
-use Rattle.format.specs.Stored.{treeOf}
-use Rattle.format.specs.Dump.{WriteLeft, writeRefused, written}
+use Rattle.format.specs.Dump.{WriteLeft}
 use Rattle.proto.specs.Walk.{total}
-use Rattle.proto.specs.Places.{underName, onTree}
+use Rattle.proto.specs.Places.{onStore}
 use Rattle.lines.specs.Line.{formatInstruction}
 use Rattle.headers.specs.Header.{formatHeader}
 use Rattle.headers.specs.Tables.{enumerated, formatConstants, formatLocals, formatUpvalues}
@@ -44,10 +43,6 @@ abbrev pub listFunction : Function → Bool → List ℕ → List ℕ
 listFunction f full name = listFunctionRecursive f full name 1
 
 -- ==== the call
-
--- a call that writes what bytes gives of the tree that a store holds
-abbrev pub onStore : (Function → List ℕ) → List ℕ → List ℕ → List ℕ → List ℕ → WriteLeft
-onStore bytes words text name out = underName (λ n. writeRefused n out) name (onTree (λ n. writeRefused n out) (λ f. written (bytes f) out) (treeOf words text))
 
 -- list_function(words, text, name, full, out): refused by 1, 10, 11; else the listing, then what stood there
 unfoldable pub listed : List ℕ → List ℕ → List ℕ → Bool → List ℕ → WriteLeft

@@ -13,9 +13,8 @@ ghost use mathlib.Core.List.{[]};
 ghost use Rattle.lent.specs.Memory.{Puts};
 ghost use Rattle.format.specs.Tree.{Function};
 ghost use Rattle.format.specs.Valid.{Holds};
-ghost use Rattle.format.specs.Dump.{writeRefused};
+ghost use Rattle.format.specs.Dump.{writeLeft, writeRefused};
 ghost use Rattle.listing.specs.Listing.{listFunction, listed};
-ghost use Rattle.listing.specs.Lister.{writeLeft};
 
 fn refused(n: u32) -> Written
     ensures { λ r. ⌜ r ≡ writeRefused n [] .answer ⌝ }

@@ -7,3 +7,4 @@ pub mod Stores
 pub mod Places
 pub mod Sources
 pub mod Items
+pub mod Calls

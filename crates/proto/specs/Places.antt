@@ -10,6 +10,7 @@ use Rattle.format.specs.Tree.{Source, Function, Functions, filled}
 use Rattle.format.specs.Store.{functionPiece}
 use Rattle.format.specs.Stored.{treeOf, Here}
 use Rattle.format.specs.Undump.{nameOk}
+use Rattle.format.specs.Dump.{WriteLeft, writeRefused, written}
 use Rattle.proto.specs.Walk.{toFunctions}
 use Rattle.proto.specs.declared.place.Span.{Span}
 use Rattle.proto.specs.declared.place.Sought.{Sought}
@@ -83,6 +84,10 @@ underName refuse name answer = cond (nameOk name) answer (refuse 1)
 abbrev pub onTree : {A : Type 0} → (ℕ → A) → (Function → A) → Option Function → A
 onTree refuse answer none = refuse 10
 onTree refuse answer (some f) = answer f
+
+-- a call that writes what bytes gives of the tree that a store holds
+abbrev pub onStore : (Function → List ℕ) → List ℕ → List ℕ → List ℕ → List ℕ → WriteLeft
+onStore bytes words text name out = underName (λ n. writeRefused n out) name (onTree (λ n. writeRefused n out) (λ f. written (bytes f) out) (treeOf words text))
 
 -- on the function that begins at a place
 abbrev pub onFunction : {A : Type 0} → (ℕ → A) → (Placed → A) → Option Placed → A

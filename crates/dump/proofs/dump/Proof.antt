@@ -2,7 +2,9 @@ use borrow.Author.Needs.{needs}
 use native.Mathlib.Omega.{arith}
 use mathlib.Core.Path.{sym, _∙_}
 use borrow.Author.Tests.{not-true, not-false}
-use Rattle.dump.proofs.Calls.{refused-name, refused-store, dumped-roomy, refused-room, dumped-all}
+use Rattle.format.specs.Write.{dumpChunk}
+use Rattle.proto.proofs.Calls.{refused-name, refused-store, roomy-written, refused-room, all-written}
+use Rattle.dump.proofs.Calls.{dumped-is, roomy}
 use Rattle.dump.proofs.dump.Statement.{statement}
 use Rattle.dump.proofs.dump.Tie as tie
 
@@ -20,7 +22,7 @@ returns c =
     let c₁ = c .before in
     let c₂ = c₁ .before in
     let c₃ = c₂ .before .before .before .before .before in
-    rw (c .refused .ensures) (refused-name (c₃ .args .words .now) (c₃ .args .text .now) (c₃ .args .name .now) (c₃ .args .strip) (c₃ .args .out .now) (sym (c₂ .name-ok .ensures) ∙ not-true _ (c₁ .if1 .taken)))
+    rw (c .refused .ensures) (refused-name (λ f. dumpChunk (c₃ .args .strip) (c₃ .args .name .now) f) (c₃ .args .words .now) (c₃ .args .text .now) (c₃ .args .name .now) (c₃ .args .out .now) (sym (c₂ .name-ok .ensures) ∙ not-true _ (c₁ .if1 .taken)) ∙ dumped-is (c₃ .args .words .now) (c₃ .args .text .now) (c₃ .args .name .now) (c₃ .args .strip) (c₃ .args .out .now))
 
 check-store-requires : tie.Need-check-store-requires
 check-store-requires c κs = search needs
@@ -35,7 +37,7 @@ returns-2 c =
     let c₃ = c₂ .before in
     let c₄ = c₃ .before in
     let c₅ = c₄ .before .before .before .before .before in
-    rw (c .refused2 .ensures) (refused-store (c₅ .args .words .now) (c₅ .args .text .now) (c₅ .args .name .now) (c₅ .args .strip) (c₅ .args .out .now) (sym (c₄ .name-ok .ensures) ∙ not-false _ (c₃ .if1 .left)) (sym (c₂ .check-store .ensures) ∙ not-true _ (c₁ .if2 .taken)))
+    rw (c .refused2 .ensures) (refused-store (λ f. dumpChunk (c₅ .args .strip) (c₅ .args .name .now) f) (c₅ .args .words .now) (c₅ .args .text .now) (c₅ .args .name .now) (c₅ .args .out .now) (sym (c₄ .name-ok .ensures) ∙ not-false _ (c₃ .if1 .left)) (sym (c₂ .check-store .ensures) ∙ not-true _ (c₁ .if2 .taken)) ∙ dumped-is (c₅ .args .words .now) (c₅ .args .text .now) (c₅ .args .name .now) (c₅ .args .strip) (c₅ .args .out .now))
 
 has-room-requires : tie.Need-has-room-requires
 has-room-requires c κs = search needs
@@ -56,7 +58,7 @@ returns-3 c =
     let c₆ = c₅ .before in
     let c₇ = c₆ .before in
     let c₈ = c₇ .before .before .before .before .before in
-    dumped-roomy (c₈ .args .words .now) (c₈ .args .text .now) (c₈ .args .name .now) (c₈ .args .strip) (c₈ .args .out .now) (sym (c₇ .name-ok .ensures) ∙ not-false _ (c₆ .if1 .left)) (sym (c₅ .check-store .ensures) ∙ not-false _ (c₄ .if2 .left)) (omega (arith, c₈ .good)) (c₃ .has-room .ensures (c₂ .if3 .taken)) (c₁ .dump-chunk .ensures)
+    roomy-written (λ f. dumpChunk (c₈ .args .strip) (c₈ .args .name .now) f) (c₈ .args .words .now) (c₈ .args .text .now) (c₈ .args .name .now) (c₈ .args .out .now) (sym (c₇ .name-ok .ensures) ∙ not-false _ (c₆ .if1 .left)) (sym (c₅ .check-store .ensures) ∙ not-false _ (c₄ .if2 .left)) (omega (arith, c₈ .good)) (roomy (c₈ .args .strip) (c₈ .args .name .now) (c₃ .has-room .ensures (c₂ .if3 .taken))) (c₁ .dump-chunk .ensures) ∙ dumped-is (c₈ .args .words .now) (c₈ .args .text .now) (c₈ .args .name .now) (c₈ .args .strip) (c₈ .args .out .now)
 
 slice-aggregate-dump-chunk : tie.Need-slice-aggregate-dump-chunk
 slice-aggregate-dump-chunk c = search needs
@@ -75,7 +77,7 @@ returns-4 c =
     let c₄ = c₃ .before in
     let c₅ = c₄ .before in
     let c₆ = c₅ .before .before .before .before .before in
-    rw (c .refused3 .ensures) (refused-room (c₆ .args .words .now) (c₆ .args .text .now) (c₆ .args .name .now) (c₆ .args .strip) (c₆ .args .out .now) (sym (c₅ .name-ok .ensures) ∙ not-false _ (c₄ .if1 .left)) (sym (c₃ .check-store .ensures) ∙ not-false _ (c₂ .if2 .left)) (c₁ .dump-chunk2 .ensures) (omega (arith, c₆ .good)) (omega arith))
+    rw (c .refused3 .ensures) (refused-room (λ f. dumpChunk (c₆ .args .strip) (c₆ .args .name .now) f) (c₆ .args .words .now) (c₆ .args .text .now) (c₆ .args .name .now) (c₆ .args .out .now) (sym (c₅ .name-ok .ensures) ∙ not-false _ (c₄ .if1 .left)) (sym (c₃ .check-store .ensures) ∙ not-false _ (c₂ .if2 .left)) (c₁ .dump-chunk2 .ensures) (omega (arith, c₆ .good)) (omega arith) ∙ dumped-is (c₆ .args .words .now) (c₆ .args .text .now) (c₆ .args .name .now) (c₆ .args .strip) (c₆ .args .out .now))
 
 dump-chunk-requires-3 : tie.Need-dump-chunk-requires-3
 dump-chunk-requires-3 c κs = search needs
@@ -92,7 +94,7 @@ returns-5 c =
     let c₅ = c₄ .before in
     let c₆ = c₅ .before in
     let c₇ = c₆ .before .before .before .before .before in
-    dumped-all (c₇ .args .words .now) (c₇ .args .text .now) (c₇ .args .name .now) (c₇ .args .strip) (c₇ .args .out .now) (sym (c₆ .name-ok .ensures) ∙ not-false _ (c₅ .if1 .left)) (sym (c₄ .check-store .ensures) ∙ not-false _ (c₃ .if2 .left)) (c₂ .dump-chunk2 .ensures) (omega (arith, c₇ .good)) (omega arith) (c₁ .dump-chunk3 .ensures)
+    all-written (λ f. dumpChunk (c₇ .args .strip) (c₇ .args .name .now) f) (c₇ .args .words .now) (c₇ .args .text .now) (c₇ .args .name .now) (c₇ .args .out .now) (sym (c₆ .name-ok .ensures) ∙ not-false _ (c₅ .if1 .left)) (sym (c₄ .check-store .ensures) ∙ not-false _ (c₃ .if2 .left)) (c₂ .dump-chunk2 .ensures) (omega (arith, c₇ .good)) (omega arith) (c₁ .dump-chunk3 .ensures) ∙ dumped-is (c₇ .args .words .now) (c₇ .args .text .now) (c₇ .args .name .now) (c₇ .args .strip) (c₇ .args .out .now)
 
 pub dump-spec : {M : Type 1} → statement M
 dump-spec =

@@ -4,7 +4,7 @@ use native.Mathlib.Omega.{arith}
 use mathlib.Core.Path.{sym, _∙_}
 use borrow.Author.Tests.{not-true, not-false}
 use Rattle.listing.specs.Listing.{listFunction, listed}
-use Rattle.listing.proofs.Calls.{refused-name, refused-store, refused-room, all-written}
+use Rattle.proto.proofs.Calls.{refused-name, refused-store, refused-room, all-written}
 use Rattle.listing.proofs.list_function.Statement.{statement}
 use Rattle.listing.proofs.list_function.Tie as tie
 
