@@ -1,0 +1,2 @@
+// The names of what registers hold (debug_info.rs; in Lua ldebug.c).
+pub mod answer;
