@@ -153,7 +153,7 @@ unfolding children pieces functionPieces
 children-pieces Functions.none = refl
 children-pieces (Functions.more f fs) = rw (children-pieces fs)
 
-every-valid : (n : ℕ) (fs : Functions) → ValidAll fs n → Every (λ f. Valid f n) (children fs)
+pub every-valid : (n : ℕ) (fs : Functions) → ValidAll fs n → Every (λ f. Valid f n) (children fs)
 unfolding children ValidAll Every
 every-valid n Functions.none v = tt
 every-valid n (Functions.more f fs) v = (v .0, every-valid n fs (v .1))

@@ -1,1 +1,3 @@
 pub mod SymbExec
+pub mod Lists
+pub mod Operands
