@@ -53,11 +53,11 @@ named o out = namedBy (o .kind) (written (o .name) out)
 
 -- get_local_name(words, text, place, local_number, pc, out)
 unfoldable pub localNamed : List ℕ → List ℕ → ℕ → ℕ → ℕ → List ℕ → NameLeft
-localNamed words text place n pc out = onPlace (nameRefused out) (λ x. named (getLocalName (partsOf (x .function)) n pc) out) words text place
+localNamed words text place n pc out = onPlace (nameRefused out) (λ x. named (getLocalName (partsOf (x .function) .debug .locals) n pc) out) words text place
 
 -- kname(words, text, place, c, out)
 unfoldable pub knamed : List ℕ → List ℕ → ℕ → ℕ → List ℕ → WriteLeft
-knamed words text place c out = onPlace (λ n. writeRefused n out) (λ x. written (kname (partsOf (x .function)) c) out) words text place
+knamed words text place c out = onPlace (λ n. writeRefused n out) (λ x. written (kname (partsOf (x .function) .constants) c) out) words text place
 
 -- getobjname(words, text, place, pc, stackpos, out)
 unfoldable pub objectNamed : List ℕ → List ℕ → ℕ → ℕ → ℕ → List ℕ → NameLeft

@@ -1,2 +1,4 @@
 pub mod Names
+pub mod Known
+pub mod Locals
 pub mod Calls

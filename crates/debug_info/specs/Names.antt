@@ -52,31 +52,38 @@ activeLocal (v ∷ l) n pc =
     (cond (ltb pc (v .end)) (cond (eqb n 1) (local (v .name)) (activeLocal l (n - 1) pc)) (activeLocal l n pc))
 
 -- pc is cut to 32 bits
-unfoldable pub getLocalName : Parts → ℕ → ℕ → Object
-getLocalName p n pc = activeLocal (p .debug .locals) n (pc % 2 ^ 32)
+unfoldable pub getLocalName : List Local → ℕ → ℕ → Object
+getLocalName l n pc = activeLocal l n (pc % 2 ^ 32)
 
 -- ---- kname
 
-abbrev pub constantName : Option Constant → List ℕ
-constantName none = unknown
-constantName (some Constant.nil) = unknown
-constantName (some (Constant.bool b)) = unknown
-constantName (some (Constant.num high low)) = unknown
-constantName (some (Constant.str s)) = repair s
+-- constant i, nil where there is none
+abbrev pub orNil : Option Constant → Constant
+orNil none = Constant.nil
+orNil (some k) = k
 
--- the string constant of an RK operand, repaired, or ?
-unfoldable pub kname : Parts → ℕ → List ℕ
-kname p c = cond (ISK c) (constantName (item (p .constants) (INDEXK c))) unknown
+abbrev pub constantAt : List Constant → ℕ → Constant
+constantAt l i = orNil (item l i)
+
+-- a string, repaired; ? for any other constant
+abbrev pub constantName : Constant → List ℕ
+constantName Constant.nil = unknown
+constantName (Constant.bool b) = unknown
+constantName (Constant.num high low) = unknown
+constantName (Constant.str s) = repair s
+
+-- the name of an RK operand: its constant's, or ?
+unfoldable pub kname : List Constant → ℕ → List ℕ
+kname l c = cond (ISK c) (constantName (constantAt l (INDEXK c))) unknown
 
 -- ---- getobjname
 
 -- a global, where its name is a string
-abbrev pub globalOf : Option Constant → Object
-globalOf none = nothing
-globalOf (some Constant.nil) = nothing
-globalOf (some (Constant.bool b)) = nothing
-globalOf (some (Constant.num high low)) = nothing
-globalOf (some (Constant.str s)) = global (repair s)
+abbrev pub globalOf : Constant → Object
+globalOf Constant.nil = nothing
+globalOf (Constant.bool b) = nothing
+globalOf (Constant.num high low) = nothing
+globalOf (Constant.str s) = global (repair s)
 
 abbrev pub upvalueName : Option (List ℕ) → List ℕ
 upvalueName none = unknown
@@ -85,10 +92,10 @@ upvalueName (some s) = s
 -- what an instruction other than MOVE wrote
 unfoldable pub written : Parts → ℕ → Object
 written p i =
-    cond (eqb (opcode i) OP-GETGLOBAL) (globalOf (item (p .constants) (GETARG-Bx i)))
-    (cond (eqb (opcode i) OP-GETTABLE) (field (kname p (GETARG-C i)))
+    cond (eqb (opcode i) OP-GETGLOBAL) (globalOf (constantAt (p .constants) (GETARG-Bx i)))
+    (cond (eqb (opcode i) OP-GETTABLE) (field (kname (p .constants) (GETARG-C i)))
     (cond (eqb (opcode i) OP-GETUPVAL) (upvalue (upvalueName (item (p .debug .upvalues) (GETARG-B i))))
-    (cond (eqb (opcode i) OP-SELF) (method (kname p (GETARG-C i))) nothing)))
+    (cond (eqb (opcode i) OP-SELF) (method (kname (p .constants) (GETARG-C i))) nothing)))
 
 -- MOVE with B below A
 unfoldable pub movesUp : ℕ → Bool
@@ -105,7 +112,7 @@ searched f pc zero reg before = nothing
 searched (Function.function p fs) pc (suc n) reg before =
     let i = symbexec (Function.function p fs) pc reg in
     cond (getD before reg false) nothing
-    (orElse (getLocalName p (reg + 1) pc)
+    (orElse (getLocalName (p .debug .locals) (reg + 1) pc)
     (cond (movesUp i) (searched (Function.function p fs) pc n (GETARG-B i) (set before reg true)) (written p i)))
 
 -- there are 256 registers

@@ -92,11 +92,11 @@ module _ {words : List ℕ} {i at₀ k₀ : ℕ} where
 
 -- ---- how many upvalues a child has
 
-item-past : (fs : List Function) (k : ℕ) → length fs ≤ k → item fs k ≡ none
+pub item-past : {A : Type 0} (l : List A) (k : ℕ) → length l ≤ k → item l k ≡ none
 unfolding item
 item-past [] k h = refl
-item-past (f ∷ fs) zero h = absurd (omega arith)
-item-past (f ∷ fs) (suc k) h = item-past fs k (omega arith)
+item-past (a ∷ l) zero h = absurd (omega arith)
+item-past (a ∷ l) (suc k) h = item-past l k (omega arith)
 
 head-stands : {words text : List ℕ} {at to : ℕ} (p : Parts) (fs : Functions) → Stands words text at to (functionPiece (Function.function p fs)) → Here words at (toCode p .words to)
 head-stands p fs h =

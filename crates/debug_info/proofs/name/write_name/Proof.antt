@@ -1,0 +1,38 @@
+use borrow.Author.Needs.{needs}
+use native.Mathlib.Omega.{arith}
+use Rattle.debug_info.proofs.Writes.{name-short, write-11, write-fits}
+use Rattle.debug_info.proofs.name.write_name.Statement.{statement}
+use Rattle.debug_info.proofs.name.write_name.Tie as tie
+
+-- The run over no space counts; where the name fits, the run over the space writes it.
+
+-- The run over no space counts; where the name fits, the run over the space writes it.
+
+slice-aggregate-put-name : tie.Need-slice-aggregate-put-name
+slice-aggregate-put-name c = search needs
+
+put-name-requires : tie.Need-put-name-requires
+put-name-requires c κs = search needs
+
+returns : tie.Need-returns
+returns c = λ h. write-11 _ (name-short (c .before .before .before .before .before .before .args .text .now) (c .before .before .before .before .before .before .args .name) h) (omega arith) (c .before .before .put-name .ensures) (c .if1 .taken)
+
+put-name-requires-2 : tie.Need-put-name-requires-2
+put-name-requires-2 c κs = search needs
+
+same-length : tie.Need-same-length
+same-length c = search needs
+
+returns-2 : tie.Need-returns-2
+returns-2 c = λ h. write-fits _ (name-short (c .before .before .before .before .before .before .before .before .before .before .args .text .now) (c .before .before .before .before .before .before .before .before .before .before .args .name) h) (omega arith) (c .before .before .before .before .before .before .put-name .ensures) (c .before .before .before .before .if1 .left) (c .before .before .put-name2 .ensures)
+
+pub write-name-spec : {M : Type 1} → statement M
+write-name-spec =
+    tie.close
+    (tie.spec
+    slice-aggregate-put-name
+    put-name-requires
+    returns
+    put-name-requires-2
+    same-length
+    returns-2)
