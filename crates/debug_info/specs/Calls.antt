@@ -40,6 +40,9 @@ pub record NameLeft : Type 0 where
   pub answer : Named
   pub out : List ℕ
 
+abbrev pub nameLeft : Named → List ℕ → NameLeft
+nameLeft r out = record { answer = r; out = out }
+
 abbrev pub nameRefused : List ℕ → ℕ → NameLeft
 nameRefused out n = record { answer = record { refusal = n; kind = 0; len = 0 }; out = out }
 

@@ -42,7 +42,12 @@ loop-less : tie.Need-loop-less Inv-loop μ-loop
 loop-less c = omega (arith, c .next-pc .ensures .1)
 
 loop-again : tie.Need-loop-again Inv-loop μ-loop
-loop-again c = (c .before .before .before .before .before .before .loop .inv .0, trace-turn (omega arith) (c .before .before .before .before .instruction-at .ensures) (c .before .before .before .latest .ensures) (c .before .before .operands .ensures) (c .next-pc .ensures) (c .before .before .before .before .before .before .loop .inv .1))
+loop-again c =
+    let c₁ = c .before .before in
+    let c₂ = c₁ .before in
+    let c₃ = c₂ .before in
+    let c₄ = c₃ .before .before in
+    (c₄ .loop .inv .0, trace-turn (omega arith) (c₃ .instruction-at .ensures) (c₂ .latest .ensures) (c₁ .operands .ensures) (c .next-pc .ensures) (c₄ .loop .inv .1))
 
 returns : tie.Need-returns Inv-loop μ-loop
 returns c = λ text p fs h. trace-end (omega arith) (c .before .loop .inv .1) text (p .code) _ (h .code) (h .functions)

@@ -33,13 +33,26 @@ nothing-requires : tie.Need-nothing-requires Inv-loop μ-loop
 nothing-requires c κs = search needs
 
 returns : tie.Need-returns Inv-loop μ-loop
-returns c = active-all (c .nothing .result) (c .before .before .before .before .before .before .before .word-at .ensures) (c .before .before .before .before .before .before .skip .ensures) (loop-stop (omega arith) (c .before .before .before .before .before .loop .inv) (active-late (c .before .before .before .local-at .result) (c .before .before .before .local-at .ensures) (c .nothing .result) (c .before .if1 .taken) (c .nothing .ensures)))
+returns c =
+    let c₁ = c .before in
+    let c₂ = c₁ .before .before in
+    let c₃ = c₂ .before .before in
+    let c₄ = c₃ .before in
+    let c₅ = c₄ .before in
+    active-all (c .nothing .result) (c₅ .word-at .ensures) (c₄ .skip .ensures) (loop-stop (omega arith) (c₃ .loop .inv) (active-late (c₂ .local-at .result) (c₂ .local-at .ensures) (c .nothing .result) (c₁ .if1 .taken) (c .nothing .ensures)))
 
 is-last-requires : tie.Need-is-last-requires Inv-loop μ-loop
 is-last-requires c κs = search needs
 
 returns-2 : tie.Need-returns-2 Inv-loop μ-loop
-returns-2 c = active-all _ (c .before .before .before .before .before .before .before .before .word-at .ensures) (c .before .before .before .before .before .before .before .skip .ensures) (loop-stop (omega arith) (c .before .before .before .before .before .before .loop .inv) (active-found (c .before .before .before .before .local-at .result) (c .before .before .before .before .local-at .ensures) (c .before .before .if1 .left) (sym (c .before .is-last .ensures) ∙ c .if2 .taken)))
+returns-2 c =
+    let c₁ = c .before in
+    let c₂ = c₁ .before in
+    let c₃ = c₂ .before .before in
+    let c₄ = c₃ .before .before in
+    let c₅ = c₄ .before in
+    let c₆ = c₅ .before in
+    active-all _ (c₆ .word-at .ensures) (c₅ .skip .ensures) (loop-stop (omega arith) (c₄ .loop .inv) (active-found (c₃ .local-at .result) (c₃ .local-at .ensures) (c₂ .if1 .left) (sym (c₁ .is-last .ensures) ∙ c .if2 .taken)))
 
 left-requires : tie.Need-left-requires Inv-loop μ-loop
 left-requires c κs = search needs
@@ -54,7 +67,14 @@ loop-less : tie.Need-loop-less Inv-loop μ-loop
 loop-less c = omega arith
 
 loop-again : tie.Need-loop-again Inv-loop μ-loop
-loop-again c = loop-turn (omega arith) (c .before .before .before .before .before .before .before .before .loop .inv) (active-more (c .before .before .before .before .before .before .local-at .result) (c .before .before .before .before .before .before .local-at .ensures) (c .before .before .before .before .if1 .left) (sym (c .before .before .before .is-last .ensures) ∙ c .before .before .if2 .left) (c .before .left .ensures) (c .skip2 .ensures))
+loop-again c =
+    let c₁ = c .before in
+    let c₂ = c₁ .before in
+    let c₃ = c₂ .before in
+    let c₄ = c₃ .before in
+    let c₅ = c₄ .before .before in
+    let c₆ = c₅ .before .before in
+    loop-turn (omega arith) (c₆ .loop .inv) (active-more (c₅ .local-at .result) (c₅ .local-at .ensures) (c₄ .if1 .left) (sym (c₃ .is-last .ensures) ∙ c₂ .if2 .left) (c₁ .left .ensures) (c .skip2 .ensures))
 
 nothing-requires-2 : tie.Need-nothing-requires-2 Inv-loop μ-loop
 nothing-requires-2 c κs = search needs

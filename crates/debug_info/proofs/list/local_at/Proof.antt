@@ -24,7 +24,12 @@ word-at-requires-2 : tie.Need-word-at-requires-2
 word-at-requires-2 c κs = search needs
 
 returns : tie.Need-returns
-returns c = local-is (c .before .before .before .before .name-at .result) (c .before .before .before .before .name-at .ensures) (c .before .before .before .skip .ensures) (c .before .before .word-at .ensures) (c .before .skip2 .ensures) (c .word-at2 .ensures)
+returns c =
+    let c₁ = c .before in
+    let c₂ = c₁ .before in
+    let c₃ = c₂ .before in
+    let c₄ = c₃ .before in
+    local-is (c₄ .name-at .result) (c₄ .name-at .ensures) (c₃ .skip .ensures) (c₂ .word-at .ensures) (c₁ .skip2 .ensures) (c .word-at2 .ensures)
 
 pub local-at-spec : {M : Type 1} → statement M
 local-at-spec =

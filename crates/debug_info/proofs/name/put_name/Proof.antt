@@ -42,13 +42,21 @@ same-length-2 : tie.Need-same-length-2
 same-length-2 c = search needs
 
 returns-2 : tie.Need-returns-2
-returns-2 c = rw (c .before .before .before .before .before .before .name .given .1, ← c .before .before .before .part .ensures) (c .before .before .put-bytes2 .ensures)
+returns-2 c =
+    let c₁ = c .before .before in
+    let c₂ = c₁ .before in
+    let c₃ = c₂ .before .before .before in
+    rw (c₃ .name .given .1, ← c₂ .part .ensures) (c₁ .put-bytes2 .ensures)
 
 same-length-3 : tie.Need-same-length-3
 same-length-3 c = search needs
 
 returns-3 : tie.Need-returns-3
-returns-3 c = rw (c .before .before .before .before .before .before .name2 .given .1, ← c .before .before .before .before .part2 .ensures) (c .before .before .repair .ensures)
+returns-3 c =
+    let c₁ = c .before .before in
+    let c₂ = c₁ .before .before in
+    let c₃ = c₂ .before .before in
+    rw (c₃ .name2 .given .1, ← c₂ .part2 .ensures) (c₁ .repair .ensures)
 
 pub put-name-spec : {M : Type 1} → statement M
 put-name-spec =

@@ -15,7 +15,10 @@ put-name-requires : tie.Need-put-name-requires
 put-name-requires c κs = search needs
 
 returns : tie.Need-returns
-returns c = λ h. write-11 _ (name-short (c .before .before .before .before .before .before .args .text .now) (c .before .before .before .before .before .before .args .name) h) (omega arith) (c .before .before .put-name .ensures) (c .if1 .taken)
+returns c =
+    let c₁ = c .before .before in
+    let c₂ = c₁ .before .before .before .before in
+    λ h. write-11 _ (name-short (c₂ .args .text .now) (c₂ .args .name) h) (omega arith) (c₁ .put-name .ensures) (c .if1 .taken)
 
 put-name-requires-2 : tie.Need-put-name-requires-2
 put-name-requires-2 c κs = search needs
@@ -24,7 +27,12 @@ same-length : tie.Need-same-length
 same-length c = search needs
 
 returns-2 : tie.Need-returns-2
-returns-2 c = λ h. write-fits _ (name-short (c .before .before .before .before .before .before .before .before .before .before .args .text .now) (c .before .before .before .before .before .before .before .before .before .before .args .name) h) (omega arith) (c .before .before .before .before .before .before .put-name .ensures) (c .before .before .before .before .if1 .left) (c .before .before .put-name2 .ensures)
+returns-2 c =
+    let c₁ = c .before .before in
+    let c₂ = c₁ .before .before in
+    let c₃ = c₂ .before .before in
+    let c₄ = c₃ .before .before .before .before in
+    λ h. write-fits _ (name-short (c₄ .args .text .now) (c₄ .args .name) h) (omega arith) (c₃ .put-name .ensures) (c₂ .if1 .left) (c₁ .put-name2 .ensures)
 
 pub write-name-spec : {M : Type 1} → statement M
 write-name-spec =
