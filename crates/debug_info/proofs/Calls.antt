@@ -6,11 +6,11 @@ use mathlib.Core.Bool.{Bool, true, false, cond}
 use native.Mathlib.Omega.{arith}
 use native.Mathlib.Decide.{ℕ-discrete}
 use lib.ListN.{length, getD}
-use lib.Dec.{eqb, leb}
+use lib.Dec.{leb}
 use borrow.Author.Tests.{eq-eqb, ne-eqb, le-leb, lt-leb, leb-true}
 use Rattle.format.specs.Tree.{Parts, Function, Functions}
 use Rattle.format.specs.Store.{functionPiece}
-use Rattle.format.specs.Dump.{WriteLeft, written}
+use Rattle.format.specs.Dump.{WriteLeft}
 use Rattle.format.specs.Valid.{depth, most, Valid}
 use Rattle.format.specs.declared.Written.{Written}
 use Rattle.proto.specs.Walk.{Stands, Past, toCode}

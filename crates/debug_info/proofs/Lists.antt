@@ -12,7 +12,7 @@ use borrow.Author.Tests.{lt-ltb, le-ltb}
 use Rattle.format.specs.Tree.{Local}
 use Rattle.format.specs.Store.{Piece, word, _⊕_, string, pieces, list, localPiece}
 use Rattle.format.proofs.Stored.{here-left}
-use Rattle.proto.specs.Walk.{Stands, item, Skips}
+use Rattle.proto.specs.Walk.{item, Skips}
 use Rattle.proto.proofs.Heres.{here-item, here-front}
 use Rattle.proto.proofs.Pieces.{stands-left, stands-right}
 use Rattle.proto.proofs.Items.{StandsAt, list-count, list-item}

@@ -1,6 +1,6 @@
 -- A name written where it fits: its length is counted first.
-use Prim.Native.Nat.{ℕ, suc, _+_, _*_, _-_, _≤_, _<_}
-use mathlib.Core.Path.{_≡_, refl, sym, _∙_}
+use Prim.Native.Nat.{ℕ, suc, _*_, _-_, _≤_, _<_}
+use mathlib.Core.Path.{_≡_, _∙_}
 use mathlib.Core.List.{List, [], _∷_, _++_}
 use mathlib.Core.Bool.{Bool, true, false, cond}
 use native.Mathlib.Omega.{arith}
@@ -9,11 +9,11 @@ use lib.ListN.{length, take, drop, length-append, length-take, length-drop}
 use borrow.Author.Tests.{le-leb, lt-leb}
 use Rattle.lent.specs.Memory.{far, Puts}
 use Rattle.lent.proofs.Writes.{put-fits}
-use Rattle.utf8.specs.Utf8.{firstStep, repairedStep, repair, repairUpTo, replacement}
+use Rattle.utf8.specs.Utf8.{firstStep, repair, repairUpTo, replacement}
 use Rattle.utf8.specs.Laws.{by-steps, repair-cons, step-bounds}
 use Rattle.format.specs.Stored.{part}
 use Rattle.format.specs.Valid.{most}
-use Rattle.format.specs.Dump.{WriteLeft, written, writeRefused}
+use Rattle.format.specs.Dump.{written, writeRefused}
 use Rattle.debug_info.specs.declared.name.Name.{Name}
 use Rattle.debug_info.specs.declared.name.Name.the-variants.{Unknown, Text, Constant}
 use Rattle.debug_info.specs.Known.{nameOf, writeLeft}

@@ -6,7 +6,7 @@ use lib.ListN.{length}
 use lib.Dec.{eqb, leb}
 use Rattle.format.specs.Tree.{Parts, Function}
 use Rattle.format.specs.Dump.{WriteLeft, writeRefused, written}
-use Rattle.proto.specs.Places.{Placed, onPlace}
+use Rattle.proto.specs.Places.{onPlace}
 use Rattle.symbexec.specs.SymbExec.{symbexec}
 use Rattle.debug_info.specs.Names.{Object, getLocalName, kname, getobjname}
 use Rattle.debug_info.specs.declared.answer.SymbExec.{SymbExec}

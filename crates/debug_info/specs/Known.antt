@@ -2,7 +2,6 @@
 use Prim.Native.Nat.{ℕ}
 use mathlib.Core.List.{List}
 use Rattle.utf8.specs.Utf8.{repair}
-use Rattle.format.specs.Tree.{Local}
 use Rattle.format.specs.Stored.{part}
 use Rattle.format.specs.Dump.{WriteLeft}
 use Rattle.format.specs.declared.Written.{Written}

@@ -11,7 +11,7 @@ ghost use mathlib.Core.Path.{_≡_};
 ghost use Prim.Native.Nat.{ℕ, _≤_};
 ghost use lib.ListN.{length};
 ghost use Rattle.lent.specs.Memory.{Puts};
-ghost use Rattle.format.specs.Dump.{WriteLeft, written};
+ghost use Rattle.format.specs.Dump.{written};
 ghost use Rattle.format.specs.Store.{string};
 ghost use Rattle.format.specs.Valid.{most};
 ghost use Rattle.proto.proofs.Items.{StandsAt};

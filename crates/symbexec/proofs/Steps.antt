@@ -19,7 +19,7 @@ use Rattle.symbexec.specs.declared.child.Child.{Child}
 use Rattle.symbexec.specs.declared.operands.Skipped.{Skipped}
 use Rattle.symbexec.specs.Lists.{ChildrenAt, ChildOf}
 use Rattle.symbexec.specs.Operands.{Behind}
-use Rattle.symbexec.specs.SymbExec.{alsoWrites, isJump, raised, followed, operands, nextPc, after, writes, lastWrite}
+use Rattle.symbexec.specs.SymbExec.{isJump, raised, followed, operands, nextPc, after, writes, lastWrite}
 
 -- ---- one instruction
 

@@ -1,13 +1,12 @@
 -- Where the lists of a function stand, and the functions in it.
-use Prim.Native.Nat.{ℕ, _≤_}
-use mathlib.Core.Path.{_≡_}
+use Prim.Native.Nat.{ℕ}
 use mathlib.Core.List.{List}
-use lib.ListN.{length, drop}
+use lib.ListN.{drop}
 use Rattle.lent.specs.Memory.{Every}
 use Rattle.format.specs.Tree.{Parts, Function, Functions}
-use Rattle.format.specs.Store.{Piece, pieces, list, ints, string, constantPiece, localPiece, functionPiece}
+use Rattle.format.specs.Store.{pieces, list, ints, string, constantPiece, localPiece, functionPiece}
 use Rattle.format.specs.Valid.{Valid}
-use Rattle.proto.specs.Walk.{Stands, children}
+use Rattle.proto.specs.Walk.{children}
 use Rattle.proto.proofs.Items.{StandsAt as At}
 use Rattle.symbexec.specs.declared.lists.Lists.{Lists}
 use Rattle.symbexec.specs.declared.child.Child.{Child}

@@ -1,13 +1,11 @@
+-- Not refused, the function stands at its place, and so do its locals.
 use borrow.Author.Needs.{needs}
-use native.Mathlib.Omega.{arith}
 use mathlib.Core.Path.{ap, _∙_}
 use Rattle.debug_info.specs.Names.{getLocalName}
 use Rattle.debug_info.specs.Calls.{partsOf, nameRefused, named, localNamed}
 use Rattle.debug_info.proofs.Calls.{place-refused, place-answered}
 use Rattle.debug_info.proofs.get_local_name.Statement.{statement}
 use Rattle.debug_info.proofs.get_local_name.Tie as tie
-
--- Not refused, the function stands at its place, and so do its locals.
 
 -- Not refused, the function stands at its place, and so do its locals.
 

@@ -1,5 +1,5 @@
+-- Not refused, the function stands at its place, and so do its lists; no register was searched before.
 use borrow.Author.Needs.{needs}
-use native.Mathlib.Omega.{arith}
 use mathlib.Core.Path.{ap, _∙_}
 use Rattle.debug_info.specs.Names.{getobjname}
 use Rattle.debug_info.specs.Searched.{unsearched}
@@ -7,8 +7,6 @@ use Rattle.debug_info.specs.Calls.{nameRefused, named, objectNamed}
 use Rattle.debug_info.proofs.Calls.{register-refused, register-answered, register-bounds}
 use Rattle.debug_info.proofs.getobjname.Statement.{statement}
 use Rattle.debug_info.proofs.getobjname.Tie as tie
-
--- Not refused, the function stands at its place, and so do its lists; no register was searched before.
 
 -- Not refused, the function stands at its place, and so do its lists; no register was searched before.
 

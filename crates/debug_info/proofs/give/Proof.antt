@@ -1,10 +1,8 @@
+-- By what writing the name answers.
 use borrow.Author.Needs.{needs}
-use native.Mathlib.Omega.{arith}
 use Rattle.debug_info.proofs.Calls.{named-fits, named-11}
 use Rattle.debug_info.proofs.give.Statement.{statement}
 use Rattle.debug_info.proofs.give.Tie as tie
-
--- By what writing the name answers.
 
 write-name-requires : tie.Need-write-name-requires
 write-name-requires c κs = search needs

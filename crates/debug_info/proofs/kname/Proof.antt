@@ -1,5 +1,5 @@
+-- Not refused, the function stands at its place, and so do its constants.
 use borrow.Author.Needs.{needs}
-use native.Mathlib.Omega.{arith}
 use mathlib.Core.Path.{ap, _∙_}
 use Rattle.format.specs.Dump.{writeRefused, written}
 use Rattle.debug_info.specs.Names.{kname}
@@ -7,8 +7,6 @@ use Rattle.debug_info.specs.Calls.{partsOf, knamed}
 use Rattle.debug_info.proofs.Calls.{place-refused, place-answered}
 use Rattle.debug_info.proofs.kname.Statement.{statement}
 use Rattle.debug_info.proofs.kname.Tie as tie
-
--- Not refused, the function stands at its place, and so do its constants.
 
 -- Not refused, the function stands at its place, and so do its constants.
 

@@ -1,10 +1,8 @@
+-- The place's refusal first; then the count of the code, and the register.
 use borrow.Author.Needs.{needs}
-use native.Mathlib.Omega.{arith}
 use Rattle.debug_info.proofs.Calls.{register-place, register-13, register-14, register-0}
 use Rattle.debug_info.proofs.register_refusal.Statement.{statement}
 use Rattle.debug_info.proofs.register_refusal.Tie as tie
-
--- The place's refusal first; then the count of the code, and the register.
 
 place-refusal-requires : tie.Need-place-refusal-requires
 place-refusal-requires c κs = search needs

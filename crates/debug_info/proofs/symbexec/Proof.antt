@@ -1,14 +1,10 @@
+-- Not refused, the function stands at its place, and so do its lists.
 use borrow.Author.Needs.{needs}
-use native.Mathlib.Omega.{arith}
-use mathlib.Core.Path.{ap}
 use Rattle.symbexec.specs.SymbExec.{symbexec}
-use Rattle.debug_info.specs.declared.answer.SymbExec.{SymbExec}
 use Rattle.debug_info.specs.Calls.{noInstruction, symbexecAnswer}
 use Rattle.debug_info.proofs.Calls.{register-refused, register-answered, register-bounds}
 use Rattle.debug_info.proofs.symbexec.Statement.{statement}
 use Rattle.debug_info.proofs.symbexec.Tie as tie
-
--- Not refused, the function stands at its place, and so do its lists.
 
 -- Not refused, the function stands at its place, and so do its lists.
 

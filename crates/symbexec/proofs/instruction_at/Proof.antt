@@ -1,10 +1,8 @@
+-- Past the count there is no instruction; before it, item pc is the instruction.
 use borrow.Author.Needs.{needs}
-use native.Mathlib.Omega.{arith}
 use Rattle.symbexec.proofs.Steps.{code-past, code-item}
 use Rattle.symbexec.proofs.instruction_at.Statement.{statement}
 use Rattle.symbexec.proofs.instruction_at.Tie as tie
-
--- Past the count there is no instruction; before it, item pc is the instruction.
 
 word-at-requires : tie.Need-word-at-requires
 word-at-requires c κs = search needs

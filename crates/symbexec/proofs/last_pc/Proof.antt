@@ -1,10 +1,9 @@
+-- The count is the code's length.
 use borrow.Author.Needs.{needs}
 use native.Mathlib.Omega.{arith}
 use Rattle.symbexec.proofs.Steps.{code-count}
 use Rattle.symbexec.proofs.last_pc.Statement.{statement}
 use Rattle.symbexec.proofs.last_pc.Tie as tie
-
--- The count is the code's length.
 
 word-at-requires : tie.Need-word-at-requires
 word-at-requires c κs = search needs

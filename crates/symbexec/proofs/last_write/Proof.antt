@@ -1,3 +1,4 @@
+-- The loop's invariant: the search from pc on gives what the whole gives, and the child kept is one of the function's.
 use borrow.Author.Needs.{needs}
 use native.Mathlib.Omega.{arith}
 use Prim.Native.Nat.{_-_}
@@ -5,8 +6,6 @@ use mathlib.Core.Path.{_≡_}
 use Rattle.symbexec.proofs.Steps.{Traced, trace-start, trace-turn, trace-end}
 use Rattle.symbexec.proofs.last_write.Statement.{statement}
 use Rattle.symbexec.proofs.last_write.Tie as tie
-
--- The loop's invariant: the search from pc on gives what the whole gives, and the child kept is one of the function's.
 
 abbrev Inv-loop : tie.InvT-loop
 Inv-loop words lastpc reg code functions end last₀ child₀ pc₀ last child pc = (end ≡ lastpc) × Traced words code functions lastpc reg last child pc

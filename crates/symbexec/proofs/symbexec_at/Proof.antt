@@ -1,11 +1,9 @@
+-- The instruction at the pc that the search gives.
 use borrow.Author.Needs.{needs}
-use native.Mathlib.Omega.{arith}
 use mathlib.Core.Path.{_∙_}
 use Rattle.symbexec.specs.SymbExec.{symbexec}
 use Rattle.symbexec.proofs.symbexec_at.Statement.{statement}
 use Rattle.symbexec.proofs.symbexec_at.Tie as tie
-
--- The instruction at the pc that the search gives.
 
 last-write-requires : tie.Need-last-write-requires
 last-write-requires c κs = search needs

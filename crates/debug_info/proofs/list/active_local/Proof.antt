@@ -1,3 +1,4 @@
+-- The loop's invariant: whatever the locals from here lead to, all of them lead to.
 use borrow.Author.Needs.{needs}
 use native.Mathlib.Omega.{arith}
 use Prim.Native.Nat.{_-_}
@@ -6,8 +7,6 @@ use Rattle.proto.proofs.Loops.{Loop, loop-start, loop-turn, loop-end, loop-stop
 use Rattle.debug_info.proofs.Lists.{Active, active-none, active-late, active-found, active-more, active-all}
 use Rattle.debug_info.proofs.list.active_local.Statement.{statement}
 use Rattle.debug_info.proofs.list.active_local.Tie as tie
-
--- The loop's invariant: whatever the locals from here lead to, all of them lead to.
 
 -- The loop's invariant: whatever the locals from here lead to, all of them lead to.
 

@@ -1,13 +1,10 @@
+-- Past the count there is no constant; before it, item i is one.
 use borrow.Author.Needs.{needs}
-use native.Mathlib.Omega.{arith}
-use mathlib.Core.Path.{_∙_}
 use Rattle.format.specs.Store.{constantPiece}
 use Rattle.proto.proofs.Pieces.{constant-words}
 use Rattle.debug_info.proofs.Lists.{looked-past, looked-up}
 use Rattle.debug_info.proofs.list.constant_of.Statement.{statement}
 use Rattle.debug_info.proofs.list.constant_of.Tie as tie
-
--- Past the count there is no constant; before it, item i is one.
 
 word-at-requires : tie.Need-word-at-requires
 word-at-requires c κs = search needs

@@ -1,10 +1,7 @@
-use borrow.Author.Needs.{needs}
-use native.Mathlib.Omega.{arith}
+-- Each test is one of the two.
 use borrow.Author.Tests.{lt-ltb, le-ltb}
 use Rattle.debug_info.proofs.list.is_last.Statement.{statement}
 use Rattle.debug_info.proofs.list.is_last.Tie as tie
-
--- Each test is one of the two.
 
 returns : tie.Need-returns
 returns c = rw (le-ltb _ _ (c .if1 .taken))

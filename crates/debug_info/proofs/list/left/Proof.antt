@@ -1,10 +1,9 @@
+-- An active local is counted; 0 stays 0.
 use borrow.Author.Needs.{needs}
 use native.Mathlib.Omega.{arith}
 use borrow.Author.Tests.{lt-ltb, le-ltb}
 use Rattle.debug_info.proofs.list.left.Statement.{statement}
 use Rattle.debug_info.proofs.list.left.Tie as tie
-
--- An active local is counted; 0 stays 0.
 
 returns : tie.Need-returns
 returns c = rw (le-ltb _ _ (c .if1 .taken))

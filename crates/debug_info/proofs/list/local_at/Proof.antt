@@ -1,10 +1,8 @@
+-- A name, and behind it two words.
 use borrow.Author.Needs.{needs}
-use native.Mathlib.Omega.{arith}
 use Rattle.debug_info.proofs.Lists.{local-is}
 use Rattle.debug_info.proofs.list.local_at.Statement.{statement}
 use Rattle.debug_info.proofs.list.local_at.Tie as tie
-
--- A name, and behind it two words.
 
 -- A name, and behind it two words.
 

@@ -1,12 +1,10 @@
+-- By the mark, and then by the constant.
 use borrow.Author.Needs.{needs}
-use native.Mathlib.Omega.{arith}
 use mathlib.Core.Path.{sym, _∙_}
 use borrow.Author.Tests.{not-true, not-false}
 use Rattle.debug_info.specs.Names.{kname}
 use Rattle.debug_info.proofs.list.operand_name.Statement.{statement}
 use Rattle.debug_info.proofs.list.operand_name.Tie as tie
-
--- By the mark, and then by the constant.
 
 is-k-requires : tie.Need-is-k-requires
 is-k-requires c κs = search needs

@@ -1,12 +1,10 @@
+-- Past the count there is no name; before it, item i is one.
 use borrow.Author.Needs.{needs}
-use native.Mathlib.Omega.{arith}
 use mathlib.Core.Path.{refl}
 use Rattle.format.specs.Store.{string}
 use Rattle.debug_info.proofs.Lists.{looked-past, looked-up}
 use Rattle.debug_info.proofs.list.upvalue_name.Statement.{statement}
 use Rattle.debug_info.proofs.list.upvalue_name.Tie as tie
-
--- Past the count there is no name; before it, item i is one.
 
 word-at-requires : tie.Need-word-at-requires
 word-at-requires c κs = search needs

@@ -1,9 +1,7 @@
+-- Each constant's line of the definition.
 use borrow.Author.Needs.{needs}
-use native.Mathlib.Omega.{arith}
 use Rattle.debug_info.proofs.name.global_of.Statement.{statement}
 use Rattle.debug_info.proofs.name.global_of.Tie as tie
-
--- Each constant's line of the definition.
 
 enum-told : tie.Need-enum-told
 enum-told c = search needs

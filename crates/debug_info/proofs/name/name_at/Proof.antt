@@ -1,11 +1,9 @@
+-- The two words are the name's place and length, and there it stands in the text.
 use borrow.Author.Needs.{needs}
-use native.Mathlib.Omega.{arith}
 use mathlib.Core.Path.{refl}
 use Rattle.proto.proofs.Items.{string-here}
 use Rattle.debug_info.proofs.name.name_at.Statement.{statement}
 use Rattle.debug_info.proofs.name.name_at.Tie as tie
-
--- The two words are the name's place and length, and there it stands in the text.
 
 word-at-requires : tie.Need-word-at-requires
 word-at-requires c κs = search needs

@@ -1,9 +1,7 @@
+-- By the kind of name: ?, the text's bytes, or these repaired.
 use borrow.Author.Needs.{needs}
-use native.Mathlib.Omega.{arith}
 use Rattle.debug_info.proofs.name.put_name.Statement.{statement}
 use Rattle.debug_info.proofs.name.put_name.Tie as tie
-
--- By the kind of name: ?, the text's bytes, or these repaired.
 
 enum-told : tie.Need-enum-told
 enum-told c = search needs

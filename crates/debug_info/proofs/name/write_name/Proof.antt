@@ -1,10 +1,9 @@
+-- The run over no space counts; where the name fits, the run over the space writes it.
 use borrow.Author.Needs.{needs}
 use native.Mathlib.Omega.{arith}
 use Rattle.debug_info.proofs.Writes.{name-short, write-11, write-fits}
 use Rattle.debug_info.proofs.name.write_name.Statement.{statement}
 use Rattle.debug_info.proofs.name.write_name.Tie as tie
-
--- The run over no space counts; where the name fits, the run over the space writes it.
 
 -- The run over no space counts; where the name fits, the run over the space writes it.
 

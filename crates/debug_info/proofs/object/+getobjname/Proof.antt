@@ -1,3 +1,4 @@
+-- Each call marks a register, so that fewer are left to search; that number is the measure, and bounds the definition's search.
 use borrow.Author.Needs.{needs}
 use native.Mathlib.Omega.{arith}
 use Prim.Native.Nat.{ℕ, _<_}
@@ -18,8 +19,6 @@ use Rattle.instructions.proofs.Instruction.b.Reads as b-reads
 use Rattle.symbexec.proofs.symbexec_at.Reads as symbexec-at-reads
 use Rattle.debug_info.proofs.object.+getobjname.{statement}
 use Rattle.debug_info.proofs.object.+getobjname.Tie.{close}
-
--- Each call marks a register, so that fewer are left to search; that number is the measure, and bounds the definition's search.
 
 -- Each call marks a register, so that fewer are left to search; that number is the measure, and bounds the definition's search.
 

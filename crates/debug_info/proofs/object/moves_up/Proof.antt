@@ -1,11 +1,9 @@
+-- Each test is one of the two.
 use borrow.Author.Needs.{needs}
-use native.Mathlib.Omega.{arith}
 use borrow.Author.Tests.{eq-eqb, ne-eqb}
 use Rattle.debug_info.specs.Names.{movesUp}
 use Rattle.debug_info.proofs.object.moves_up.Statement.{statement}
 use Rattle.debug_info.proofs.object.moves_up.Tie as tie
-
--- Each test is one of the two.
 
 opcode-requires : tie.Need-opcode-requires
 opcode-requires c κs = search needs

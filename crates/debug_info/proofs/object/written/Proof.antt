@@ -1,12 +1,10 @@
+-- Each arm is a line of the definition.
 use borrow.Author.Needs.{needs}
-use native.Mathlib.Omega.{arith}
-use mathlib.Core.Path.{sym, _∙_, ap}
+use mathlib.Core.Path.{sym, _∙_}
 use borrow.Author.Tests.{ne-eqb}
 use Rattle.debug_info.specs.Names.{written}
 use Rattle.debug_info.proofs.object.written.Statement.{statement}
 use Rattle.debug_info.proofs.object.written.Tie as tie
-
--- Each arm is a line of the definition.
 
 opcode-requires : tie.Need-opcode-requires
 opcode-requires c κs = search needs

@@ -1,11 +1,9 @@
+-- Behind the count stands the first.
 use borrow.Author.Needs.{needs}
-use native.Mathlib.Omega.{arith}
 use Rattle.symbexec.proofs.Children.{child-first}
 use mathlib.Core.Path.{refl}
 use Rattle.symbexec.proofs.child.first_child.Statement.{statement}
 use Rattle.symbexec.proofs.child.first_child.Tie as tie
-
--- Behind the count stands the first.
 
 skip-requires : tie.Need-skip-requires
 skip-requires c κs = search needs

@@ -1,9 +1,7 @@
+-- From the one kept, or from the first, the walk comes to number i.
 use borrow.Author.Needs.{needs}
-use native.Mathlib.Omega.{arith}
 use Rattle.symbexec.proofs.child.seek_child.Statement.{statement}
 use Rattle.symbexec.proofs.child.seek_child.Tie as tie
-
--- From the one kept, or from the first, the walk comes to number i.
 
 start-child-requires : tie.Need-start-child-requires
 start-child-requires c κs = search needs

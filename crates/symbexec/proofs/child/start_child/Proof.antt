@@ -1,9 +1,8 @@
+-- The one kept is not behind number i, or the first is taken.
 use borrow.Author.Needs.{needs}
 use native.Mathlib.Omega.{arith}
 use Rattle.symbexec.proofs.child.start_child.Statement.{statement}
 use Rattle.symbexec.proofs.child.start_child.Tie as tie
-
--- The one kept is not behind number i, or the first is taken.
 
 returns : tie.Need-returns
 returns c = (omega arith, λ text fs h k. k)

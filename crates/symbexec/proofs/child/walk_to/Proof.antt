@@ -1,3 +1,4 @@
+-- The loop's invariant: from the one that it began at, it has come to number k.
 use borrow.Author.Needs.{needs}
 use native.Mathlib.Omega.{arith}
 use mathlib.Core.Path.{refl}
@@ -5,8 +6,6 @@ use Prim.Native.Nat.{_-_}
 use Rattle.symbexec.proofs.Children.{Walked, walk-start, walk-turn, walk-end}
 use Rattle.symbexec.proofs.child.walk_to.Statement.{statement}
 use Rattle.symbexec.proofs.child.walk_to.Tie as tie
-
--- The loop's invariant: from the one that it began at, it has come to number k.
 
 abbrev Inv-loop : tie.InvT-loop
 Inv-loop words i at₀ k₀ at k = Walked words i at₀ k₀ at k

@@ -1,10 +1,8 @@
+-- Each list stands where the walk finds it.
 use borrow.Author.Needs.{needs}
-use native.Mathlib.Omega.{arith}
 use Rattle.symbexec.proofs.Children.{lists-stand}
 use Rattle.symbexec.proofs.lists.lists_at.Statement.{statement}
 use Rattle.symbexec.proofs.lists.lists_at.Tie as tie
-
--- Each list stands where the walk finds it.
 
 code-at-requires : tie.Need-code-at-requires
 code-at-requires c κs = search needs

@@ -1,10 +1,8 @@
+-- Past the count there is no such function; before it, the head of the function found has its upvalues.
 use borrow.Author.Needs.{needs}
-use native.Mathlib.Omega.{arith}
 use Rattle.symbexec.proofs.Children.{behind-none, behind-child}
 use Rattle.symbexec.proofs.operands.closure_operands.Statement.{statement}
 use Rattle.symbexec.proofs.operands.closure_operands.Tie as tie
-
--- Past the count there is no such function; before it, the head of the function found has its upvalues.
 
 word-at-requires : tie.Need-word-at-requires
 word-at-requires c κs = search needs

@@ -1,12 +1,10 @@
+-- Each test is one of the definition's.
 use borrow.Author.Needs.{needs}
-use native.Mathlib.Omega.{arith}
 use borrow.Author.Tests.{eq-eqb, ne-eqb}
 use Rattle.symbexec.specs.SymbExec.{operands}
 use Rattle.symbexec.proofs.Children.{behind-kept, behind-is}
 use Rattle.symbexec.proofs.operands.operands.Statement.{statement}
 use Rattle.symbexec.proofs.operands.operands.Tie as tie
-
--- Each test is one of the definition's.
 
 -- Each test is one of the definition's.
 

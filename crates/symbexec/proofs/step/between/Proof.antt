@@ -1,10 +1,7 @@
-use borrow.Author.Needs.{needs}
-use native.Mathlib.Omega.{arith}
+-- Each test is one of the two.
 use borrow.Author.Tests.{le-leb, lt-leb}
 use Rattle.symbexec.proofs.step.between.Statement.{statement}
 use Rattle.symbexec.proofs.step.between.Tie as tie
-
--- Each test is one of the two.
 
 returns : tie.Need-returns
 returns c = rw (lt-leb _ _ (c .if1 .taken))

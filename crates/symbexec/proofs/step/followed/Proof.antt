@@ -1,12 +1,10 @@
+-- The tests are the definition's, in its order.
 use borrow.Author.Needs.{needs}
-use native.Mathlib.Omega.{arith}
 use borrow.Author.Tests.{eq-eqb, ne-eqb, lt-ltb, le-ltb, not-true, not-false}
 use mathlib.Core.Path.{sym, _∙_}
 use Rattle.symbexec.specs.SymbExec.{followed}
 use Rattle.symbexec.proofs.step.followed.Statement.{statement}
 use Rattle.symbexec.proofs.step.followed.Tie as tie
-
--- The tests are the definition's, in its order.
 
 -- The tests are the definition's, in its order.
 

@@ -1,12 +1,10 @@
+-- One of three opcodes, or none of them.
 use borrow.Author.Needs.{needs}
-use native.Mathlib.Omega.{arith}
 use mathlib.Core.Path.{sym, _∙_}
 use borrow.Author.Tests.{ne-eqb}
 use Rattle.symbexec.specs.SymbExec.{isJump}
 use Rattle.symbexec.proofs.step.is_jump.Statement.{statement}
 use Rattle.symbexec.proofs.step.is_jump.Tie as tie
-
--- One of three opcodes, or none of them.
 
 -- One of three opcodes, or none of them.
 

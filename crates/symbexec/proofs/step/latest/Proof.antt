@@ -1,9 +1,7 @@
+-- By what writes answers.
 use borrow.Author.Needs.{needs}
-use native.Mathlib.Omega.{arith}
 use Rattle.symbexec.proofs.step.latest.Statement.{statement}
 use Rattle.symbexec.proofs.step.latest.Tie as tie
-
--- By what writes answers.
 
 writes-requires : tie.Need-writes-requires
 writes-requires c κs = search needs

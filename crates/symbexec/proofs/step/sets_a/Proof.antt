@@ -1,11 +1,9 @@
+-- A is another register, or the attributes decide.
 use borrow.Author.Needs.{needs}
-use native.Mathlib.Omega.{arith}
 use borrow.Author.Tests.{eq-eqb, ne-eqb}
 use Rattle.symbexec.specs.SymbExec.{setsA}
 use Rattle.symbexec.proofs.step.sets_a.Statement.{statement}
 use Rattle.symbexec.proofs.step.sets_a.Tie as tie
-
--- A is another register, or the attributes decide.
 
 -- A is another register, or the attributes decide.
 

@@ -1,10 +1,8 @@
+-- By what the two answer.
 use borrow.Author.Needs.{needs}
-use native.Mathlib.Omega.{arith}
 use Rattle.symbexec.specs.SymbExec.{writes}
 use Rattle.symbexec.proofs.step.writes.Statement.{statement}
 use Rattle.symbexec.proofs.step.writes.Tie as tie
-
--- By what the two answer.
 
 sets-a-requires : tie.Need-sets-a-requires
 sets-a-requires c κs = search needs
