@@ -11,7 +11,7 @@ use Rattle.instructions.specs.Fields.{GETARG-A, GETARG-B}
 use Rattle.instructions.specs.OpCodes.{OP-MOVE, opcode}
 use Rattle.format.specs.Tree.{Parts, Function, Functions}
 use Rattle.symbexec.specs.SymbExec.{symbexec}
-use Rattle.debug_info.specs.Names.{Object, nothing, activeLocal, getLocalName, written, movesUp, orElse, searched}
+use Rattle.debug_info.specs.Names.{Object, nothing, activeLocal, getLocalName, wrote, movesUp, orElse, searched}
 use Rattle.debug_info.specs.Searched.{unsearched}
 
 -- one register more is searched
@@ -42,7 +42,7 @@ module _ (o : Object) (p : Parts) (fs : Functions) (pc reg : ℕ) (before : List
 
   module _ (small : pc < 2 ^ 32) (within : reg < length before) (new : getD before reg false ≡ false) where
     opened : (i : ℕ) → i ≡ symbexec (Function.function p fs) pc reg → searched (Function.function p fs) pc (unsearched before) reg before
-        ≡ orElse (activeLocal (p .debug .locals) (reg + 1) pc) (cond (movesUp i) (searched (Function.function p fs) pc (unsearched (set before reg true)) (GETARG-B i) (set before reg true)) (written p i))
+        ≡ orElse (activeLocal (p .debug .locals) (reg + 1) pc) (cond (movesUp i) (searched (Function.function p fs) pc (unsearched (set before reg true)) (GETARG-B i) (set before reg true)) (wrote p i))
     unfolding searched getLocalName
     opened i e = let m : pc % 2 ^ 32 ≡ pc = omega arith in rw (marked before reg within new, new, m, e)
 
@@ -56,5 +56,5 @@ module _ (o : Object) (p : Parts) (fs : Functions) (pc reg : ℕ) (before : List
           → o ≡ searched (Function.function p fs) pc (unsearched before) reg before
       search-moved t g k = k ∙ rw g (sym (opened i s ∙ rw (← e, eq-eqb (v .kind) 0 (omega arith), t)))
 
-      pub search-written : movesUp i ≡ false → o ≡ written p i → o ≡ searched (Function.function p fs) pc (unsearched before) reg before
-      search-written t k = k ∙ sym (opened i s ∙ rw (← e, eq-eqb (v .kind) 0 (omega arith), t))
+      pub search-wrote : movesUp i ≡ false → o ≡ wrote p i → o ≡ searched (Function.function p fs) pc (unsearched before) reg before
+      search-wrote t k = k ∙ sym (opened i s ∙ rw (← e, eq-eqb (v .kind) 0 (omega arith), t))

@@ -90,8 +90,8 @@ upvalueName none = unknown
 upvalueName (some s) = s
 
 -- what an instruction other than MOVE wrote
-unfoldable pub written : Parts → ℕ → Object
-written p i =
+unfoldable pub wrote : Parts → ℕ → Object
+wrote p i =
     cond (eqb (opcode i) OP-GETGLOBAL) (globalOf (constantAt (p .constants) (GETARG-Bx i)))
     (cond (eqb (opcode i) OP-GETTABLE) (field (kname (p .constants) (GETARG-C i)))
     (cond (eqb (opcode i) OP-GETUPVAL) (upvalue (upvalueName (item (p .debug .upvalues) (GETARG-B i))))
@@ -113,7 +113,7 @@ searched (Function.function p fs) pc (suc n) reg before =
     let i = symbexec (Function.function p fs) pc reg in
     cond (getD before reg false) nothing
     (orElse (getLocalName (p .debug .locals) (reg + 1) pc)
-    (cond (movesUp i) (searched (Function.function p fs) pc n (GETARG-B i) (set before reg true)) (written p i)))
+    (cond (movesUp i) (searched (Function.function p fs) pc n (GETARG-B i) (set before reg true)) (wrote p i)))
 
 -- there are 256 registers
 abbrev pub getobjname : Function → ℕ → ℕ → Object

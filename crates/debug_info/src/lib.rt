@@ -79,7 +79,8 @@ pub fn symbexec(words: &[u32], text: &[u8], place: usize, lastpc: usize, reg: u3
     }
 }
 
-// The name of local number local_number, from 1, of those active at pc. Refused by 10, 12, 11.
+// The name of local number local_number, from 1, of those active at pc: kind 1, and its bytes in out; kind 0 where there is none.
+// Refused by 10, 12, 11. Refused, or with no name, out keeps its contents, and so do its bytes behind a name.
 pub fn get_local_name(
     words: &[u32],
     text: &[u8],
@@ -103,7 +104,7 @@ pub fn get_local_name(
     give(text, v, out)
 }
 
-// The name of an RK operand: its string constant, repaired, or ?. Refused by 10, 12, 11.
+// The name of an RK operand, in out: its string constant, repaired, or ?. Refused by 10, 12, 11: then out keeps its contents.
 pub fn kname(words: &[u32], text: &[u8], place: usize, c: u32, out: &mut [u8]) -> Written
     ensures { λ r. ⌜ writeLeft r (now (out .exit)) ≡ knamed (now (words .entry)) (now (text .entry)) place c (now (out .entry)) ⌝ }
 {
@@ -115,7 +116,8 @@ pub fn kname(words: &[u32], text: &[u8], place: usize, c: u32, out: &mut [u8]) -
     write_name(text, operand_name(words, constants, c), out)
 }
 
-// What register stackpos holds at pc, and its name. Refused by 10, 12, 13, 14, 11.
+// What register stackpos holds at pc: its kind, and its name in out; kind 0 where nothing is known.
+// Refused by 10, 12, 13, 14, 11. Refused, or with no name, out keeps its contents.
 pub fn getobjname(
     words: &[u32],
     text: &[u8],

@@ -19,13 +19,13 @@ ghost use mathlib.Core.Path.{_≡_};
 ghost use Prim.Native.Nat.{ℕ, _<_};
 ghost use Rattle.format.specs.Tree.{Parts, Function, Functions};
 ghost use Rattle.symbexec.specs.Lists.{ListsOf};
-ghost use Rattle.debug_info.specs.Names.{written, movesUp, searched};
+ghost use Rattle.debug_info.specs.Names.{wrote, movesUp, searched};
 ghost use Rattle.debug_info.specs.Known.{objectOf};
 ghost use Rattle.debug_info.specs.Searched.{unsearched};
 
 // What an instruction other than MOVE wrote.
-fn written(words: &[u32], s: Lists, i: Instruction) -> Known
-    ensures { λ r. ⌜ ((text : List ℕ) (p : Parts) (fs : Functions) → ListsOf (now (words .entry)) text p fs s → objectOf text r ≡ written p (i .0)) ⌝ }
+fn wrote(words: &[u32], s: Lists, i: Instruction) -> Known
+    ensures { λ r. ⌜ ((text : List ℕ) (p : Parts) (fs : Functions) → ListsOf (now (words .entry)) text p fs s → objectOf text r ≡ wrote p (i .0)) ⌝ }
 {
     let constants = s.constants;
     let upvalues = s.upvalues;
@@ -79,5 +79,5 @@ pub fn getobjname(words: &[u32], s: Lists, pc: u32, reg: u32, before: [bool; 256
         now[n] = true;
         return getobjname(words, s, pc, i.b(), now);
     }
-    written(words, s, i)
+    wrote(words, s, i)
 }

@@ -5,7 +5,7 @@ use Prim.Native.Nat.{ℕ, _<_}
 use mathlib.Core.Path.{sym, _∙_}
 use Rattle.debug_info.specs.Searched.{unsearched}
 use Rattle.debug_info.specs.Known.{objectOf}
-use Rattle.debug_info.proofs.Searches.{marked, moves-below, search-again, search-local, search-moved, search-written}
+use Rattle.debug_info.proofs.Searches.{marked, moves-below, search-again, search-local, search-moved, search-wrote}
 use borrow.Fn.Kinds.{In}
 use borrow.Fn.PlainCycle.{Measures, is, falls, and}
 use Rattle.debug_info.proofs.object.getobjname.Reads as getobjname
@@ -14,7 +14,7 @@ use Rattle.debug_info.proofs.object.+getobjname.Lts-getobjname as getob
 use Rattle.debug_info.proofs.list.active_local.Reads as active-local-reads
 use Rattle.debug_info.proofs.name.nothing.Reads as nothing-reads
 use Rattle.debug_info.proofs.object.moves_up.Reads as moves-up-reads
-use Rattle.debug_info.proofs.object.written.Reads as written-reads
+use Rattle.debug_info.proofs.object.wrote.Reads as wrote-reads
 use Rattle.instructions.proofs.Instruction.b.Reads as b-reads
 use Rattle.symbexec.proofs.symbexec_at.Reads as symbexec-at-reads
 use Rattle.debug_info.proofs.object.+getobjname.{statement}
@@ -38,7 +38,7 @@ getobjname-below t =
     and 1 getobjname-kinds.ps (falls 1 getobjname-kinds.ps _<_ μ-getobjname t) getobjname.Pre
 
 abbrev getobjname-calls : ℕ → getobjname-lts.Claims
-getobjname-calls t = (nothing-reads.Asked, nothing-reads.Learnt, active-local-reads.Asked, active-local-reads.Learnt, symbexec-at-reads.Asked, symbexec-at-reads.Learnt, moves-up-reads.Asked, moves-up-reads.Learnt, b-reads.Asked, b-reads.Learnt, getobjname-below t, getobjname.Post, written-reads.Asked, written-reads.Learnt)
+getobjname-calls t = (nothing-reads.Asked, nothing-reads.Learnt, active-local-reads.Asked, active-local-reads.Learnt, symbexec-at-reads.Asked, symbexec-at-reads.Learnt, moves-up-reads.Asked, moves-up-reads.Learnt, b-reads.Asked, b-reads.Learnt, getobjname-below t, getobjname.Post, wrote-reads.Asked, wrote-reads.Learnt)
 
 getobjname-array-read-if1 : (t : ℕ) → getobjname-lts.Need-array-read-if1 (getobjname-calls t) (getobjname-at t) getobjname.Post
 getobjname-array-read-if1 t c = omega arith
@@ -94,8 +94,8 @@ getobjname-returns-3 t c =
     let c₈ = c₇ .before .before in
     λ text p fs h. search-moved (objectOf text (c .getobjname .result)) p fs (c₈ .args .pc) (c₈ .args .reg) (c₈ .args .t5) (omega (arith, c₈ .fits)) (omega (arith, c₈ .good .1 .1 .1 .1 .0 .1 .0 .1, c₈ .pre .1)) (c₇ .if1 .left) (c₆ .active-local .ensures text (p .debug .locals) (h .locals)) (c₅ .if2 .left) (c₄ .symbexec-at .ensures text p fs h) (sym (c₃ .moves-up .ensures) ∙ c₂ .if3 .taken) (c₁ .b .ensures) (c .getobjname .ensures text p fs h)
 
-getobjname-written-requires : (t : ℕ) → getobjname-lts.Need-written-requires (getobjname-calls t) (getobjname-at t) getobjname.Post
-getobjname-written-requires t c κs = search needs
+getobjname-wrote-requires : (t : ℕ) → getobjname-lts.Need-wrote-requires (getobjname-calls t) (getobjname-at t) getobjname.Post
+getobjname-wrote-requires t c κs = search needs
 
 getobjname-returns-4 : (t : ℕ) → getobjname-lts.Need-returns-4 (getobjname-calls t) (getobjname-at t) getobjname.Post
 getobjname-returns-4 t c =
@@ -106,7 +106,7 @@ getobjname-returns-4 t c =
     let c₅ = c₄ .before .before in
     let c₆ = c₅ .before in
     let c₇ = c₆ .before .before in
-    λ text p fs h. search-written (objectOf text (c .written .result)) p fs (c₇ .args .pc) (c₇ .args .reg) (c₇ .args .t5) (omega (arith, c₇ .fits)) (omega (arith, c₇ .good .1 .1 .1 .1 .0 .1 .0 .1, c₇ .pre .1)) (c₆ .if1 .left) (c₅ .active-local .ensures text (p .debug .locals) (h .locals)) (c₄ .if2 .left) (c₃ .symbexec-at .ensures text p fs h) (sym (c₂ .moves-up .ensures) ∙ c₁ .if3 .left) (c .written .ensures text p fs h)
+    λ text p fs h. search-wrote (objectOf text (c .wrote .result)) p fs (c₇ .args .pc) (c₇ .args .reg) (c₇ .args .t5) (omega (arith, c₇ .fits)) (omega (arith, c₇ .good .1 .1 .1 .1 .0 .1 .0 .1, c₇ .pre .1)) (c₆ .if1 .left) (c₅ .active-local .ensures text (p .debug .locals) (h .locals)) (c₄ .if2 .left) (c₃ .symbexec-at .ensures text p fs h) (sym (c₂ .moves-up .ensures) ∙ c₁ .if3 .left) (c .wrote .ensures text p fs h)
 
 pub +getobjname-spec : {M : Type 1} → statement M
 +getobjname-spec = close μ-getobjname λ t. getobjname-lts.spec (getobjname-calls t) (getobjname-at t)
@@ -123,5 +123,5 @@ pub +getobjname-spec : {M : Type 1} → statement M
     (getobjname-b-requires t)
     (getobjname-getobjname-requires t)
     (getobjname-returns-3 t)
-    (getobjname-written-requires t)
+    (getobjname-wrote-requires t)
     (getobjname-returns-4 t)

@@ -2,9 +2,9 @@
 use borrow.Author.Needs.{needs}
 use mathlib.Core.Path.{sym, _∙_}
 use borrow.Author.Tests.{ne-eqb}
-use Rattle.debug_info.specs.Names.{written}
-use Rattle.debug_info.proofs.object.written.Statement.{statement}
-use Rattle.debug_info.proofs.object.written.Tie as tie
+use Rattle.debug_info.specs.Names.{wrote}
+use Rattle.debug_info.proofs.object.wrote.Statement.{statement}
+use Rattle.debug_info.proofs.object.wrote.Tie as tie
 
 opcode-requires : tie.Need-opcode-requires
 opcode-requires c κs = search needs
@@ -40,29 +40,29 @@ nothing-requires : tie.Need-nothing-requires
 nothing-requires c κs = search needs
 
 returns : tie.Need-returns
-unfolding written
+unfolding wrote
 returns c = λ text p fs h. rw (sym (c .before .before .before .before .opcode .ensures) ∙ c .before .before .before .match .keys1, ← c .before .before .bx .ensures) (c .global-of .ensures text ∙ rw (c .before .constant-of .ensures text (p .constants) (h .constants)))
 
 returns-2 : tie.Need-returns-2
-unfolding written
+unfolding wrote
 returns-2 c = λ text p fs h. rw (sym (c .before .before .before .opcode .ensures) ∙ c .before .before .match .keys2, ← c .before .c .ensures, ← c .operand-name .ensures text (p .constants) (h .constants))
 
 returns-3 : tie.Need-returns-3
-unfolding written
+unfolding wrote
 returns-3 c = λ text p fs h. rw (sym (c .before .before .before .opcode .ensures) ∙ c .before .before .match .keys3, ← c .before .b .ensures, ← c .upvalue-name .ensures text (p .debug .upvalues) (h .upvalues))
 
 returns-4 : tie.Need-returns-4
-unfolding written
+unfolding wrote
 returns-4 c = λ text p fs h. rw (sym (c .before .before .before .opcode .ensures) ∙ c .before .before .match .keys4, ← c .before .c2 .ensures, ← c .operand-name2 .ensures text (p .constants) (h .constants))
 
 returns-5 : tie.Need-returns-5
-unfolding written
+unfolding wrote
 returns-5 c = λ text p fs h.
     let none = c .before .match .rest in
     rw (← c .before .before .opcode .ensures, ne-eqb _ _ (none .0 .0 .0 .1), ne-eqb _ _ (none .0 .0 .1), ne-eqb _ _ (none .0 .1), ne-eqb _ _ (none .1)) (c .nothing .ensures text)
 
-pub written-spec : {M : Type 1} → statement M
-written-spec =
+pub wrote-spec : {M : Type 1} → statement M
+wrote-spec =
     tie.close
     (tie.spec
     opcode-requires
