@@ -23,4 +23,23 @@ impl Random {
     pub fn of<T: Copy>(&mut self, items: &[T]) -> T {
         items[self.below(items.len())]
     }
+
+    /// A copy with a byte or a bit changed, cut short, with a byte more, or with some bytes at values that mean something.
+    pub fn damaged(&mut self, chunk: &[u8]) -> Vec<u8> {
+        let mut d = chunk.to_vec();
+        let i = self.below(d.len());
+        match self.below(5) {
+            0 => d[i] = self.next() as u8,
+            1 => d[i] ^= 1 << self.below(8),
+            2 => d.truncate(i),
+            3 => d.insert(i, self.next() as u8),
+            _ => {
+                for _ in 0..=self.below(6) {
+                    let i = self.below(d.len());
+                    d[i] = self.of(&[0, 1, 2, 4, 0xFF, 0x80, 0xC2, 0xE2]);
+                }
+            }
+        }
+        d
+    }
 }

@@ -11,7 +11,7 @@ use borrow.Author.Tests.{eq-eqb, ne-eqb, le-leb, lt-leb, leb-true}
 use Rattle.format.specs.Tree.{Parts, Function, Functions}
 use Rattle.format.specs.Store.{functionPiece}
 use Rattle.format.specs.Dump.{WriteLeft}
-use Rattle.format.specs.Valid.{depth, most, Valid}
+use Rattle.format.specs.Valid.{depth, Valid}
 use Rattle.format.specs.declared.Written.{Written}
 use Rattle.proto.specs.Walk.{Stands, Past, toCode}
 use Rattle.proto.specs.Places.{Placed, onPlace, placeRefusal}
@@ -124,10 +124,10 @@ module _ {A : Type 0} (refuse : ℕ → A) (answer : Function → A) (words text
 
   pub place-answered : {s : Lists} {r : A} → n ≡ placeRefusal words text place → n ≤ 0
       → ((text : List ℕ) (to : ℕ) (p : Parts) (fs : Functions) → Valid (Function.function p fs) depth → Stands words text place to (functionPiece (Function.function p fs)) → ListsOf words text p fs s)
-      → ((p : Parts) (fs : Functions) → ListsOf words text p fs s → length text ≤ most → r ≡ answer (Function.function p fs)) → r ≡ onPlace refuse (λ x. answer (x .function)) words text place
+      → ((p : Parts) (fs : Functions) → ListsOf words text p fs s → r ≡ answer (Function.function p fs)) → r ≡ onPlace refuse (λ x. answer (x .function)) words text place
   place-answered {s} {r} e h l g =
       let o = place-on words text place (omega arith) in
-      of-lists o (λ f. r ≡ answer f) l (λ p fs k. g p fs k (o .holds .text-fits)) ∙ sym (on-answer refuse (λ x. answer (x .function)) o)
+      of-lists o (λ f. r ≡ answer f) l g ∙ sym (on-answer refuse (λ x. answer (x .function)) o)
 
   module _ (pc reg : ℕ) where
     pub register-refused : n ≡ registerRefusal words text place pc reg → 0 < n → refuse n ≡ onRegister refuse answer words text place pc reg
@@ -135,10 +135,10 @@ module _ {A : Type 0} (refuse : ℕ → A) (answer : Function → A) (words text
 
     pub register-answered : {s : Lists} {r : A} → n ≡ registerRefusal words text place pc reg → n ≤ 0
         → ((text : List ℕ) (to : ℕ) (p : Parts) (fs : Functions) → Valid (Function.function p fs) depth → Stands words text place to (functionPiece (Function.function p fs)) → ListsOf words text p fs s)
-        → ((p : Parts) (fs : Functions) → ListsOf words text p fs s → length text ≤ most → r ≡ answer (Function.function p fs)) → r ≡ onRegister refuse answer words text place pc reg
+        → ((p : Parts) (fs : Functions) → ListsOf words text p fs s → r ≡ answer (Function.function p fs)) → r ≡ onRegister refuse answer words text place pc reg
     register-answered {s} {r} e h l g =
         let o = register-on words text place pc reg (omega arith) in
-        of-lists (o .on) (λ f. r ≡ answer f) l (λ p fs k. g p fs k (o .on .holds .text-fits)) ∙ sym (registered-answer words text place pc reg refuse answer o)
+        of-lists (o .on) (λ f. r ≡ answer f) l g ∙ sym (registered-answer words text place pc reg refuse answer o)
 
 -- a pc and a register that are not refused
 pub register-bounds : (words text : List ℕ) (place pc reg : ℕ) {n : ℕ} → n ≡ registerRefusal words text place pc reg → n ≤ 0 → (pc < 2 ^ 32) × (reg < 256)

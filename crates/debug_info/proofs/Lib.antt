@@ -1,4 +1,3 @@
-pub mod Writes
 pub mod Lists
 pub mod Searches
 pub mod Calls

@@ -17,9 +17,6 @@ use proto::walk::word_at;
 use symbexec::lists::lists_at;
 use symbexec::symbexec_at;
 ghost use mathlib.Core.Path.{_≡_};
-ghost use Prim.Native.Nat.{_≤_};
-ghost use lib.ListN.{length};
-ghost use Rattle.format.specs.Valid.{most};
 ghost use Rattle.debug_info.specs.Known.{objectOf, writeLeft};
 ghost use Rattle.debug_info.specs.Calls.{registerRefusal, symbexecAnswer, nameLeft, named, localNamed, knamed, objectNamed};
 
@@ -43,7 +40,7 @@ fn register_refusal(words: &[u32], text: &[u8], place: usize, pc: usize, reg: u3
 
 // The answer for what is known of a register; its name goes to out. 11 where it does not fit.
 fn give(text: &[u8], v: Known, out: &mut [u8]) -> Named
-    ensures { λ r. ⌜ (length (now (text .entry)) ≤ most → nameLeft r (now (out .exit)) ≡ named (objectOf (now (text .entry)) v) (now (out .entry))) ⌝ }
+    ensures { λ r. ⌜ nameLeft r (now (out .exit)) ≡ named (objectOf (now (text .entry)) v) (now (out .entry)) ⌝ }
 {
     let name = v.name;
     let w = write_name(text, name, out);

@@ -8,12 +8,10 @@ use proto::walk::word_at;
 use utf8::repair;
 ghost use mathlib.Core.List.{List, []};
 ghost use mathlib.Core.Path.{_≡_};
-ghost use Prim.Native.Nat.{ℕ, _≤_};
-ghost use lib.ListN.{length};
+ghost use Prim.Native.Nat.{ℕ};
 ghost use Rattle.lent.specs.Memory.{Puts};
 ghost use Rattle.format.specs.Dump.{written};
 ghost use Rattle.format.specs.Store.{string};
-ghost use Rattle.format.specs.Valid.{most};
 ghost use Rattle.proto.proofs.Items.{StandsAt};
 ghost use Rattle.proto.specs.Constants.{valueOf};
 ghost use Rattle.debug_info.specs.Names.{constantName, globalOf};
@@ -90,7 +88,7 @@ fn put_name(text: &[u8], name: Name, out: &mut [u8]) -> usize
 
 // Writes a name where it fits, else 11.
 pub fn write_name(text: &[u8], name: Name, out: &mut [u8]) -> Written
-    ensures { λ r. ⌜ (length (now (text .entry)) ≤ most → writeLeft r (now (out .exit)) ≡ written (nameOf (now (text .entry)) name) (now (out .entry))) ⌝ }
+    ensures { λ r. ⌜ writeLeft r (now (out .exit)) ≡ written (nameOf (now (text .entry)) name) (now (out .entry)) ⌝ }
 {
     let mut none = [0u8; 0];
     let n = put_name(text, name, &mut none);

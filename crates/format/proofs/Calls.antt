@@ -16,15 +16,18 @@ use Rattle.format.specs.Write.{dumpChunk}
 use Rattle.format.specs.Store.{wordsOf, textOf}
 use Rattle.format.specs.Valid.{depth, most, Valid, Holds}
 use Rattle.format.specs.Stored.{treeOf}
-use Rattle.format.specs.Undump.{loadChunk, UndumpLeft, undumpRefused, nameOk, fits, over, storeLeft, undumpedBy, undumped}
-use Rattle.format.specs.Demand3.{UndumpCall, undumpLeft, wordsUsed, textUsed, Refuses}
+use Rattle.format.specs.Undump.{loadChunk, UndumpLeft, undumpRefused, nameOk, fits, over, storeLeft, undumpedBy, undumped, UndumpLent, Refuses, wordsUsed, textUsed}
 use Rattle.format.specs.Dump.{WriteLeft, writeRefused, dumpedBy, dumped}
 use Rattle.format.proofs.Loaded.{loaded-valid, load-refuses}
 
 -- ---- undump
 
+-- what a call answers and leaves
+abbrev undumpLeft : List ℕ → UndumpLent → UndumpLeft
+undumpLeft chunk c = undumped chunk (c .name) (c .words) (c .text)
+
 -- what a call leaves that is not refused, and that its tree fits
-pub record Stores (chunk : List ℕ) (c : UndumpCall) (x : Read Function) (left : UndumpLeft) : Type 0 where
+pub record Stores (chunk : List ℕ) (c : UndumpLent) (x : Read Function) (left : UndumpLeft) : Type 0 where
   pub named : nameOk (c .name) ≡ true
   pub tree : Function
   pub rest : List ℕ
@@ -34,11 +37,11 @@ pub record Stores (chunk : List ℕ) (c : UndumpCall) (x : Read Function) (left 
   pub leaves : left ≡ storeLeft tree (length chunk - length rest) (c .words) (c .text)
 
 -- a call is refused, by a number and with nothing written, or stores
-pub data Outcome (chunk : List ℕ) (c : UndumpCall) (x : Read Function) (left : UndumpLeft) : Type 0 where
+pub data Outcome (chunk : List ℕ) (c : UndumpLent) (x : Read Function) (left : UndumpLeft) : Type 0 where
   refuses : (n : ℕ) → Refuses c x n → left ≡ undumpRefused n (c .words) (c .text) → Outcome chunk c x left
   stores : Stores chunk c x left → Outcome chunk c x left
 
-undumped-by : (chunk : List ℕ) (c : UndumpCall) (x : Read Function)
+undumped-by : (chunk : List ℕ) (c : UndumpLent) (x : Read Function)
     → Outcome chunk c x (cond (nameOk (c .name)) (undumpedBy chunk x (c .words) (c .text)) (undumpRefused 1 (c .words) (c .text)))
 undumped-by chunk c x = named x (nameOk (c .name)) refl
   where
@@ -56,12 +59,12 @@ undumped-by chunk c x = named x (nameOk (c .name)) refl
     named (refused n) true e = Outcome.refuses n (Refuses.reading e) refl
     named (got f rest) true e = fitting f rest e _ _ refl refl
 
-pub undump-outcome : (chunk : List ℕ) (c : UndumpCall) → Outcome chunk c (loadChunk chunk) (undumpLeft chunk c)
+pub undump-outcome : (chunk : List ℕ) (c : UndumpLent) → Outcome chunk c (loadChunk chunk) (undumpLeft chunk c)
 unfolding undumped
 undump-outcome chunk c = undumped-by chunk c (loadChunk chunk)
 
 -- a refusal under its condition
-pub refusal-is : (chunk : List ℕ) (c : UndumpCall) {n : ℕ} → Refuses c (loadChunk chunk) n → undumpLeft chunk c .answer .refusal ≡ n
+pub refusal-is : (chunk : List ℕ) (c : UndumpLent) {n : ℕ} → Refuses c (loadChunk chunk) n → undumpLeft chunk c .answer .refusal ≡ n
 unfolding undumped
 refusal-is chunk c r = by (loadChunk chunk) r
   where
@@ -73,7 +76,7 @@ refusal-is chunk c r = by (loadChunk chunk) r
 
 -- ---- the store that a call leaves is that of the tree that it read
 
-module _ (chunk : List ℕ) (c : UndumpCall) (left : UndumpLeft) where
+module _ (chunk : List ℕ) (c : UndumpLent) (left : UndumpLeft) where
   pub words-left : {x : Read Function} (s : Stores chunk c x left) → wordsUsed left ≡ wordsOf (s .tree)
   words-left s = rw (s .leaves) (take-at (wordsOf (s .tree)) _ _ refl)
 
@@ -87,7 +90,7 @@ module _ (chunk : List ℕ) (c : UndumpCall) (left : UndumpLeft) where
 
 -- ==== the statement: on refusal the number, zeros beside it, nothing written; else the store left is well formed
 
-pub undump-refused : (chunk : List ℕ) (c : UndumpCall) (n : ℕ) → 0 < n → undumpLeft chunk c .answer .refusal ≡ n → undumpLeft chunk c ≡ undumpRefused n (c .words) (c .text)
+pub undump-refused : (chunk : List ℕ) (c : UndumpLent) (n : ℕ) → 0 < n → undumpLeft chunk c .answer .refusal ≡ n → undumpLeft chunk c ≡ undumpRefused n (c .words) (c .text)
 undump-refused chunk c n h e = by (undump-outcome chunk c)
   where
     by : Outcome chunk c (loadChunk chunk) (undumpLeft chunk c) → undumpLeft chunk c ≡ undumpRefused n (c .words) (c .text)
@@ -98,7 +101,7 @@ pub record WellFormed (words text : List ℕ) : Type 0 where
   pub tree : Function
   pub holds : Holds words text tree
 
-pub undump-well-formed : (chunk : List ℕ) (c : UndumpCall) → Bytes chunk → undumpLeft chunk c .answer .refusal ≡ 0
+pub undump-well-formed : (chunk : List ℕ) (c : UndumpLent) → Bytes chunk → undumpLeft chunk c .answer .refusal ≡ 0
     → WellFormed (wordsUsed (undumpLeft chunk c)) (textUsed (undumpLeft chunk c))
 undump-well-formed chunk c h e = by (undump-outcome chunk c)
   where

@@ -2,5 +2,5 @@ pub mod RoundTrip
 pub mod Stored
 pub mod Loaded
 pub mod Calls
-pub mod Demand3
 pub mod Samples
+pub mod Writing

@@ -8,7 +8,7 @@ use native.Mathlib.Numerals.{add-one}
 use lib.ListN.{length, length-append}
 use lib.Seq.{take-at, drop-at}
 use lib.Dec.{eqb}
-use borrow.Author.Tests.{le-leb, eqb-true}
+use borrow.Author.Tests.{le-leb, eq-eqb, eqb-true}
 use Rattle.utf8.specs.Utf8.{repair}
 use Rattle.utf8.specs.Laws.{repair-utf8}
 use Rattle.utf8.specs.Rows.{both}
@@ -305,6 +305,20 @@ same-true (a ∷ s) [] e = absurd (false≢true e)
 same-true (a ∷ s) (b ∷ t) e =
     let e′ = both (eqb a b) (same s t) e in
     cc (eqb-true a b (e′ .0), same-true s t (e′ .1))
+
+same-self : (s : List ℕ) → same s s ≡ true
+unfolding same
+same-self [] = refl
+same-self (a ∷ s) = rw (eq-eqb a a refl) (same-self s)
+
+-- a test that tells whether two lists are the same is the definition's
+pub same-is : (t : Bool) (a b : List ℕ) → (t ≡ true → a ≡ b) × (a ≡ b → t ≡ true) → same a b ≡ t
+same-is true a b h = rw (h .0 refl) (same-self b)
+same-is false a b h = by (same a b) refl
+  where
+    by : (x : Bool) → same a b ≡ x → x ≡ false
+    by true e = sym (h .1 (same-true a b e))
+    by false e = refl
 
 -- an elided source is found again under the one that it was elided for
 refilled : (around s under : List ℕ) → (s ≡ around → under ≡ s) → filled under (elided around s) ≡ s

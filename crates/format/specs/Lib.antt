@@ -6,4 +6,3 @@ pub mod Valid
 pub mod Stored
 pub mod Undump
 pub mod Dump
-pub mod Demand3

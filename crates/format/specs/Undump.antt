@@ -1,8 +1,9 @@
 -- What undump answers, and what it leaves in lent memory.
-use Prim.Native.Nat.{ℕ, _-_, min}
+use Prim.Native.Nat.{ℕ, _-_, _≤_, _<_, min}
+use mathlib.Core.Path.{_≡_}
 use mathlib.Core.List.{List, _++_, map}
-use mathlib.Core.Bool.{Bool, cond, _&&_}
-use lib.ListN.{length, drop}
+use mathlib.Core.Bool.{Bool, true, false, cond, _&&_}
+use lib.ListN.{length, take, drop}
 use lib.Dec.{leb}
 use Rattle.utf8.specs.Utf8.{isUtf8, repair}
 use Rattle.format.specs.Tree.{Source, Local, Debug, Function, Functions, with}
@@ -86,3 +87,26 @@ undumpedBy chunk (Read.refused n) words text = undumpRefused n words text
 -- undump(chunk, name, words, text)
 unfoldable pub undumped : List ℕ → List ℕ → List ℕ → List ℕ → UndumpLeft
 undumped chunk name words text = cond (nameOk name) (undumpedBy chunk (loadChunk chunk) words text) (undumpRefused 1 words text)
+
+-- ---- when it is refused
+
+-- what a call is lent: its chunk name, and the space with what stands there
+pub record UndumpLent : Type 0 where
+  pub name : List ℕ
+  pub words : List ℕ
+  pub text : List ℕ
+
+-- refusal n is given to a call, reading its bytes giving x: 1; 2 to 7 as reading meets them; 8; 9
+pub data Refuses (c : UndumpLent) : Read Function → ℕ → Type 0 where
+  bad-name : {x : Read Function} → nameOk (c .name) ≡ false → Refuses c x 1
+  reading : {n : ℕ} → nameOk (c .name) ≡ true → Refuses c (Read.refused n) n
+  few-words : {f : Function} {rest : List ℕ} → nameOk (c .name) ≡ true → min (length (c .words)) most < length (wordsOf f) → Refuses c (Read.got f rest) 8
+  few-text : {f : Function} {rest : List ℕ} → nameOk (c .name) ≡ true → length (wordsOf f) ≤ min (length (c .words)) most → min (length (c .text)) most < length (textOf f)
+      → Refuses c (Read.got f rest) 9
+
+-- the store that a call leaves: what it used of the space
+abbrev pub wordsUsed : UndumpLeft → List ℕ
+wordsUsed left = take (left .answer .words) (left .words)
+
+abbrev pub textUsed : UndumpLeft → List ℕ
+textUsed left = take (left .answer .text) (left .text)

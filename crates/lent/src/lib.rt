@@ -34,7 +34,7 @@ pub fn put_byte(out: &mut [u8], at: usize, b: u8) -> usize
 }
 
 // The first n bytes of s, which fit.
-fn copy(out: &mut [u8], at: usize, s: &[u8], n: usize)
+pub fn copy(out: &mut [u8], at: usize, s: &[u8], n: usize)
     requires { ⌜ (n ≤ length (now s)) × (at + n ≤ length (now out)) ⌝ }
     ensures { λ r. ⌜ now (out .exit) ≡ sets (now (out .entry)) at (take n (now (s .entry))) ⌝ }
 {

@@ -14,13 +14,16 @@ use debug_info::kname;
 use debug_info::symbexec;
 use libc::STDIN_FILENO;
 use libc::STDOUT_FILENO;
+use output::all_text;
+use output::number;
+use output::written;
 use records::after;
 use records::byte;
 use records::part;
 use records::store::Read;
 use records::store::first_words;
 use records::store::store;
-use records::store::within;
+use records::within;
 use records::word;
 
 // The most words and text bytes of a store.
@@ -35,36 +38,18 @@ fn long(cases: &[u8], at: usize) -> usize {
     low + high * 4294967296
 }
 
-fn number(n: usize) {
-    io::print_decimal(STDOUT_FILENO, n as u64);
-    io::write_all(STDOUT_FILENO, b" ");
-}
-
 fn line_end() {
     io::write_all(STDOUT_FILENO, b"\n");
 }
 
-fn letter(b: u8) {
-    io::write_all(STDOUT_FILENO, b" ");
-    io::print_hex(STDOUT_FILENO, b as u64, 2);
-}
-
-// What stands in the output, and the end of the line.
-fn tell_output(out: &[u8]) {
-    io::write_all(STDOUT_FILENO, b":");
-    let mut i = 0;
-    while i < out.len() {
-        letter(out[i]);
-        i += 1;
-    }
-    line_end();
-}
-
+// What a call that gives a name answered and left.
 fn tell_named(r: Named, out: &[u8]) {
     number(r.refusal as usize);
     number(r.kind as usize);
     number(r.len);
-    tell_output(out);
+    io::write_all(STDOUT_FILENO, b":");
+    all_text(out);
+    line_end();
 }
 
 fn ask_symbexec(cases: &[u8], at: usize, words: &[u32], text: &[u8]) {
@@ -89,9 +74,7 @@ fn ask_kname(cases: &[u8], at: usize, words: &[u32], text: &[u8], out: &mut [u8]
     let place = word(cases, at) as usize;
     let c = word(cases, after(cases, at, 4));
     let r = kname(words, text, place, c, out);
-    number(r.refusal as usize);
-    number(r.len);
-    tell_output(out);
+    written(r, out);
 }
 
 fn ask_getobjname(cases: &[u8], at: usize, words: &[u32], text: &[u8], out: &mut [u8]) {

@@ -1,12 +1,12 @@
 -- What stands at the places that walking finds: the lists of a function, their counts, their items, strings and constants.
-use Prim.Native.Nat.{ℕ, zero, suc, _+_, _*_, _/_, _%_, _≤_, _<_, min}
+use Prim.Native.Nat.{ℕ, zero, suc, _+_, _-_, _*_, _/_, _%_, _≤_, _<_, min}
 use mathlib.Core.Path.{_≡_, refl, ap, _∙_}
 use mathlib.Core.List.{List, [], _∷_}
 use mathlib.Core.Bool.{true, false, not}
 use mathlib.Core.Option.{none, some}
 use native.Mathlib.Omega.{arith}
 use native.Mathlib.Nat.{add-zero, mul-suc, mul-zero}
-use lib.ListN.{length, take, getD, length-append}
+use lib.ListN.{length, take, drop, getD, length-append}
 use lib.Seq.{length-take-le}
 use lib.Dec.{eqb}
 use Rattle.lent.specs.Memory.{far}
@@ -18,7 +18,7 @@ use Rattle.format.proofs.Stored.{here-left, here-right, here-part}
 use Rattle.proto.specs.declared.walk.Next.{Next}
 use Rattle.proto.specs.Walk.{Stands, item, Skips, Past, totalAll, totalBefore, Passes, children, childrenPiece, toCode, toConstants, toFunctions, toChild, toLines, toLocals, toUpvalues}
 use Rattle.proto.specs.Head.{headOf}
-use Rattle.proto.proofs.Heres.{here-get, here-item, here-front}
+use Rattle.proto.proofs.Heres.{here-get, here-item, here-front, part-clamped}
 use Rattle.proto.proofs.Pieces.{Same, same-sym, same-trans, same-behind, same-assoc, function-debug, stands-same, stands-left, stands-right, source-words, pieces-words}
 use Rattle.proto.proofs.Walks.{past-stands, passes-past}
 
@@ -102,6 +102,15 @@ module _ {words text : List ℕ} where
       let n : length (take (1 + k * i) m) ≡ 1 + k * i = length-take-le (1 + k * i) m (omega (arith, x .0, mul-suc k i)) in
       let g : r ≡ at + 1 + k * i = w .skips (take (1 + k * i) m) n (here-front (1 + k * i) m (s .in-words)) ∙ omega arith in
       rw g (x .1)
+
+  -- the items of a list of words, cut out of the words
+  pub ints-here : {at to x a b e : ℕ} {r : List ℕ} (l : List ℕ) → Stands words text at to (ints l) → x ≡ getD words at 0 → Skips words 1 at a → b ≡ min a (length words) → e ≡ min x (length words - b)
+      → r ≡ take (b + e - b) (drop b words) → r ≡ l
+  ints-here {at} {x = x} {a = a} {b = b} {e = e} l h g s p q k =
+      let w = h .in-words in
+      let u : x ≡ length l = g ∙ here-get (length l) l w in
+      let v : a ≡ at + 1 = s .skips (length l ∷ []) refl (here-left (length l ∷ []) l w) in
+      k ∙ part-clamped words a x b e p q ∙ rw (u, v) (here-part l (here-right (length l ∷ []) l w))
 
   -- ---- strings and sources
 

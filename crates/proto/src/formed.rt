@@ -1,6 +1,8 @@
 // Whether a store is well formed: one walk over its words, and over its text beside them.
 use crate::walk::part;
 use crate::walk::word_at;
+use format::MOST;
+pub use format::name_ok;
 ghost use mathlib.Core.Path.{_≡_};
 ghost use mathlib.Core.Bool.{false};
 ghost use mathlib.Core.List.{List};
@@ -9,7 +11,6 @@ ghost use Rattle.lent.specs.Memory.{Word, Bytes};
 ghost use Rattle.format.specs.Store.{string, list, ints, sourcePiece, constantPiece, localPiece, functionPiece};
 ghost use Rattle.format.specs.Store.{word as wordPiece};
 ghost use Rattle.format.specs.Stored.{treeOf};
-ghost use Rattle.format.specs.Undump.{nameOk};
 ghost use Rattle.format.specs.Valid.{Name, Valid, ValidSource, ValidConstant, ValidLocal, ValidList};
 ghost use Rattle.proto.specs.Walk.{childrenPiece};
 ghost use Rattle.proto.specs.Formed.{isHeld, Check, Within, Three, three, ValidChildren};
@@ -22,9 +23,6 @@ const LIMIT: u32 = 65535;
 
 // The most functions nested, the root being 1.
 pub const DEPTH: u32 = 200;
-
-// The most words, text bytes, and bytes of a chunk name.
-const MOST: usize = 16777216;
 
 // Whether a store is well formed so far, and the places reached in the words and in the text.
 pub struct Checked {
@@ -252,17 +250,6 @@ fn check_function(words: &[u32], text: &[u8], s: Checked, allowance: u32) -> Che
     let lines = check_ints(words, functions);
     let locals = check_locals(words, text, lines);
     check_names(words, text, locals)
-}
-
-// Whether a chunk name is UTF-8 and not too long: refusal 1 where it is not.
-pub fn name_ok(name: &[u8]) -> bool
-    ensures { λ r. ⌜ r ≡ nameOk (now (name .entry)) ⌝ }
-{
-    if utf8::is_utf8(name) {
-        name.len() <= MOST
-    } else {
-        false
-    }
 }
 
 // Whether the store holds a tree: refusal 10 where it does not.

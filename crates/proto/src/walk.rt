@@ -5,7 +5,7 @@ ghost use mathlib.Core.Path.{_≡_};
 ghost use Prim.Native.Nat.{ℕ, suc, _+_, _*_, _≤_};
 ghost use lib.ListN.{getD};
 ghost use Rattle.format.specs.Tree.{Source, Debug, Parts, Functions, Function, count, filled};
-ghost use Rattle.format.specs.Store.{string, sourcePiece, debugPiece, functionPiece};
+ghost use Rattle.format.specs.Store.{string, ints, sourcePiece, debugPiece, functionPiece};
 ghost use Rattle.format.specs.Stored.{part as partOf};
 ghost use Rattle.format.specs.Valid.{Valid, ValidAll};
 ghost use Rattle.proto.specs.Walk.{Stands, Skips, SkipsItems, Past, Passes, total, totalAll, toCode, toConstants, toFunctions, toChild, toLines, toLocals, toUpvalues};
@@ -51,6 +51,16 @@ pub fn string_at<'a>(words: &[u32], text: &'a [u8], at: usize) -> &'a [u8]
     let place = word_at(words, at) as usize;
     let n = word_at(words, skip(words, at, 1)) as usize;
     part(text, place, n)
+}
+
+// The items of the list of words at a place.
+pub fn ints_at(words: &[u32], at: usize) -> &[u32]
+    ensures { λ r. ⌜ ((l : List ℕ) (t : List ℕ) (to : ℕ) → Stands (now (words .entry)) t at to (ints l) → now r ≡ l) ⌝ }
+{
+    let n = word_at(words, at) as usize;
+    let start = least(skip(words, at, 1), words.len());
+    let end = start + least(n, words.len() - start);
+    &words[start..end]
 }
 
 // The source of the function at a place: its own, or the one around it.

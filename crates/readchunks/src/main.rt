@@ -3,70 +3,21 @@
 // stands there before. A case is, all numbers low byte first:
 //   2 bytes length, the chunk, 1 byte length, the chunk name, 2 bytes words lent, 2 bytes text bytes lent
 use libc::STDIN_FILENO;
-use libc::STDOUT_FILENO;
 use records::after;
 use records::byte;
 use records::half;
 use records::part;
-ghost use Prim.Native.Nat.{_≤_};
+use records::within;
 
 // The most words and the most text bytes that are lent, and what stands in them before.
 const ROOM: usize = 4096;
 
 const UNTOUCHED: u8 = 7;
 
-// A number, no more than the most.
-fn within(n: usize, most: usize) -> usize
-    ensures { λ r. ⌜ r ≤ most ⌝ }
-{
-    if n < most { n } else { most }
-}
-
-fn number(n: usize) {
-    io::print_decimal(STDOUT_FILENO, n as u64);
-    io::write_all(STDOUT_FILENO, b" ");
-}
-
-fn word(w: u32) {
-    io::write_all(STDOUT_FILENO, b" ");
-    io::print_hex(STDOUT_FILENO, w as u64, 1);
-}
-
-fn letter(b: u8) {
-    io::write_all(STDOUT_FILENO, b" ");
-    io::print_hex(STDOUT_FILENO, b as u64, 2);
-}
-
-// All words.
-fn all_words(words: &[u32]) {
-    let mut i = 0;
-    while i < words.len() {
-        word(words[i]);
-        i += 1;
-    }
-}
-
-// All text bytes.
-fn all_text(text: &[u8]) {
-    let mut i = 0;
-    while i < text.len() {
-        letter(text[i]);
-        i += 1;
-    }
-}
-
 // Reads a chunk into the space lent, and writes what was found.
 fn read(chunk: &[u8], name: &[u8], words: &mut [u32], text: &mut [u8]) {
     let u = undump::undump(chunk, name, words, text);
-    number(u.refusal as usize);
-    number(u.words);
-    number(u.text);
-    number(u.read);
-    io::write_all(STDOUT_FILENO, b":");
-    all_words(words);
-    io::write_all(STDOUT_FILENO, b" :");
-    all_text(text);
-    io::write_all(STDOUT_FILENO, b"\n");
+    output::undumped(u, words, text);
 }
 
 // The same, with so many words and text bytes lent.

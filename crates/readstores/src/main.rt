@@ -8,6 +8,8 @@
 //   Q  4 bytes place, 1 byte length, the chunk name: the question of that place
 use libc::STDIN_FILENO;
 use libc::STDOUT_FILENO;
+use output::all_text;
+use output::number;
 use proto::place::source;
 use proto::place::source_at;
 use proto::walk::word_at;
@@ -28,24 +30,6 @@ const TEXT: usize = 512;
 
 // Where the chunk name stands, behind the text.
 const NAME: usize = 256;
-
-fn number(n: usize) {
-    io::print_decimal(STDOUT_FILENO, n as u64);
-    io::write_all(STDOUT_FILENO, b" ");
-}
-
-fn letter(b: u8) {
-    io::write_all(STDOUT_FILENO, b" ");
-    io::print_hex(STDOUT_FILENO, b as u64, 2);
-}
-
-fn all_text(text: &[u8]) {
-    let mut i = 0;
-    while i < text.len() {
-        letter(text[i]);
-        i += 1;
-    }
-}
 
 // The question, and its line.
 fn tell<'a>(words: &[u32], text: &'a [u8], name: &'a [u8], place: usize) {

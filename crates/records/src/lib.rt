@@ -9,6 +9,13 @@ pub fn byte(records: &[u8], at: usize) -> u8 {
     if at < records.len() { records[at] } else { 0 }
 }
 
+// A number, no more than the most.
+pub fn within(n: usize, most: usize) -> usize
+    ensures { λ r. ⌜ r ≤ most ⌝ }
+{
+    if n < most { n } else { most }
+}
+
 // The place n further on, no farther than the end.
 pub fn after(records: &[u8], at: usize, n: usize) -> usize
     ensures { λ r. ⌜ r ≤ length (now (records .entry)) ⌝ }

@@ -2,21 +2,14 @@
 use crate::after;
 use crate::half;
 use crate::part;
+use crate::within;
 use crate::word;
-ghost use Prim.Native.Nat.{_≤_};
 
 // Where the next record stands, and how many words and text bytes the store has.
 pub struct Read {
     pub next: usize,
     pub words: usize,
     pub text: usize,
-}
-
-// A number, no more than the most.
-pub fn within(n: usize, most: usize) -> usize
-    ensures { λ r. ⌜ r ≤ most ⌝ }
-{
-    if n < most { n } else { most }
 }
 
 // The first n words, as many as there are.

@@ -7,18 +7,18 @@ use native.Mathlib.Omega.{arith}
 use lib.ListN.{length, take, drop, length-drop, drop-of-length-le}
 use lib.Seq.{sets, sets-eq, length-take-le}
 use borrow.Author.Tests.{le-leb, lt-leb}
-use lib.Dec.{leb}
 use Rattle.lent.specs.Memory.{far}
-use Rattle.utf8.specs.Utf8.{isUtf8}
 use Rattle.format.specs.Tree.{Function}
 use Rattle.format.specs.Read.{Read, got, refused, loadHeader, loadFunction}
 use Rattle.format.specs.Store.{functionPiece, wordsOf, textOf}
 use Rattle.format.specs.Valid.{depth, most}
 use Rattle.format.specs.Undump.{repaired, loadChunk, undumpRefused, nameOk, over, undumpedBy, undumped}
-use Rattle.undump.specs.declared.cursor.Cursor.{Cursor}
-use Rattle.undump.specs.declared.load.Load.{Load}
-use Rattle.undump.specs.Step.{Stands, Step, space, Does, world, Loads, repairedFunction, beginning}
-use Rattle.undump.proofs.Steps.{bind, mapped}
+use Rattle.load.specs.declared.cursor.Cursor.{Cursor}
+use Rattle.load.specs.declared.Load.{Load}
+use Rattle.load.specs.Step.{Stands, Step, space, Does, world, Loads}
+use Rattle.load_function.specs.Repaired.{repairedFunction}
+use Rattle.undump.specs.Undump.{beginning}
+use Rattle.load.proofs.Steps.{bind, mapped}
 
 -- a state that nothing was stored from
 abbrev pub fresh : Cursor → Load
@@ -124,11 +124,3 @@ module _ (name ws ts : List ℕ) {bs u v : List ℕ} {c : Cursor} {need : Load} 
       ≡ undumped bs name ws ts
   unfolding undumped
   stored {again} {ws′} {ts′} z l m r = rw e (sym (stored-by bs ws ts c need u v again ws′ ts′ z l m (loadChunk bs) (chunk-loaded h k) (chunk-loaded h r)))
-
--- ---- a chunk name
-
-pub name-bad : (name : List ℕ) → isUtf8 name ≡ false → false ≡ nameOk name
-name-bad name e = rw e
-
-pub name-good : (name : List ℕ) → isUtf8 name ≡ true → leb (length name) most ≡ nameOk name
-name-good name e = rw e

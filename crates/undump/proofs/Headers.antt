@@ -8,25 +8,11 @@ use lib.ListN.{length, take, drop, length-drop}
 use lib.Seq.{drop-drop}
 use borrow.Author.Tests.{eq-eqb}
 use Rattle.format.specs.Read.{loadExactly, same, signature, format, loadHeader}
-use Rattle.format.proofs.RoundTrip.{same-true}
-use Rattle.undump.specs.declared.cursor.Cursor.{Cursor}
-use Rattle.undump.specs.Step.{Step}
-use Rattle.undump.proofs.Bytes.{block-got, block-none}
-use Rattle.undump.proofs.Steps.{takes, stops, bind}
-
-same-self : (s : List ℕ) → same s s ≡ true
-unfolding same
-same-self [] = refl
-same-self (a ∷ s) = rw (eq-eqb a a refl) (same-self s)
-
--- a test that tells whether two lists are the same is the definition's
-same-is : (t : Bool) (a b : List ℕ) → (t ≡ true → a ≡ b) × (a ≡ b → t ≡ true) → same a b ≡ t
-same-is true a b h = rw (h .0 refl) (same-self b)
-same-is false a b h = by (same a b) refl
-  where
-    by : (x : Bool) → same a b ≡ x → x ≡ false
-    by true e = sym (h .1 (same-true a b e))
-    by false e = refl
+use Rattle.format.proofs.RoundTrip.{same-is}
+use Rattle.load.specs.declared.cursor.Cursor.{Cursor}
+use Rattle.load.specs.Step.{Step}
+use Rattle.load.proofs.Bytes.{block-got, block-none}
+use Rattle.load.proofs.Steps.{takes, stops, bind}
 
 module _ (bs bytes : List ℕ) (n : ℕ) (s r : Cursor) (z : s .refusal ≤ 0) where
   pub exactly-short : length bs - s .next < length bytes → r .refusal ≡ 2 → Step bs (loadExactly bytes n) (λ v. Unit {0}) s r

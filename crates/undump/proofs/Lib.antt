@@ -1,10 +1,2 @@
-pub mod Bytes
-pub mod Steps
-pub mod Strings
-pub mod Stores
-pub mod Loads
-pub mod Ints
-pub mod Lists
-pub mod Trees
 pub mod Headers
 pub mod Calls

@@ -1,11 +1,12 @@
 // The header of a chunk.
-use crate::cursor::Cursor;
-use crate::cursor::refused;
-use crate::cursor::remaining;
+use load::cursor::Cursor;
+use load::cursor::refused;
+use load::cursor::remaining;
 ghost use Prim.Native.Nat.{_<_};
 ghost use lib.ListN.{length};
 ghost use Rattle.format.specs.Read.{loadExactly, loadHeader};
-ghost use Rattle.undump.specs.Step.{Step, beginning};
+ghost use Rattle.load.specs.Step.{Step};
+ghost use Rattle.undump.specs.Undump.{beginning};
 
 // These bytes, else refusal n.
 fn load_exactly(chunk: &[u8], s: Cursor, bytes: &[u8], n: u32) -> Cursor

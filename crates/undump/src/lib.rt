@@ -1,23 +1,18 @@
 // Reading a chunk into lent memory (lundump.c; in the Rust, undump.rs).
-pub mod cursor;
-pub mod function;
 pub mod header;
-pub mod list;
-pub mod load;
 
-use cursor::remaining;
+use format::MOST;
 use format::Undumped;
-use function::load_function;
+use format::name_ok;
 use header::load_header;
 use lent::least;
 use load::Load;
+use load::cursor::remaining;
+use load_function::load_function;
 ghost use mathlib.Core.Path.{_≡_};
 ghost use mathlib.Core.List.{[]};
-ghost use Rattle.format.specs.Undump.{nameOk, undumped, undumpRefused};
-ghost use Rattle.undump.specs.Step.{undumpLeft};
-
-// The most words, and the most text bytes.
-const MOST: usize = 16777216;
+ghost use Rattle.format.specs.Undump.{undumped, undumpRefused};
+ghost use Rattle.undump.specs.Undump.{undumpLeft};
 
 // The most functions nested.
 const DEPTH: u32 = 200;
@@ -31,16 +26,6 @@ fn refused(n: u32) -> Undumped
         text: 0,
         read: 0,
     }
-}
-
-// Whether a chunk name is UTF-8, and not too long.
-fn name_ok(name: &[u8]) -> bool
-    ensures { λ r. ⌜ r ≡ nameOk (now (name .entry)) ⌝ }
-{
-    if !utf8::is_utf8(name) {
-        return false;
-    }
-    name.len() <= MOST
 }
 
 // Reads a chunk into lent memory: once with no space, to count and to find what refuses it, then, where all fits, to write.
@@ -70,10 +55,11 @@ pub fn undump(chunk: &[u8], name: &[u8], words: &mut [u32], text: &mut [u8]) -> 
         return refused(9);
     }
     load_function(chunk, &mut words[..n], &mut text[..m], start, DEPTH);
+    let read = chunk.len() - remaining(chunk, need.cursor.next);
     Undumped {
         refusal: 0,
         words: n,
         text: m,
-        read: chunk.len() - remaining(chunk, need.cursor.next),
+        read,
     }
 }

@@ -9,50 +9,17 @@
 
 use std::hint::black_box;
 use std::panic::{AssertUnwindSafe, catch_unwind};
-use std::time::Instant;
 
+use oracle::archive::{self, Undumped, median};
 use oracle::random::Random;
 use oracle::vm::proto::Proto;
 use oracle::vm::undump::undump;
 use oracle::vm::value::Val;
 
-#[repr(C)]
-#[derive(Debug, Clone, Copy, PartialEq)]
-struct Undumped {
-    refusal: u32,
-    words: usize,
-    text: usize,
-    read: usize,
-}
-
-unsafe extern "C" {
-    fn lua_chunk_undump(
-        chunk: *const u8,
-        chunk_len: usize,
-        name: *const u8,
-        name_len: usize,
-        words: *mut u32,
-        words_len: usize,
-        text: *mut u8,
-        text_len: usize,
-    ) -> Undumped;
-}
-
 const NAME: &str = "=n";
 
 fn ours(chunk: &[u8], words: &mut [u32], text: &mut [u8]) -> Undumped {
-    unsafe {
-        lua_chunk_undump(
-            chunk.as_ptr(),
-            chunk.len(),
-            NAME.as_ptr(),
-            NAME.len(),
-            words.as_mut_ptr(),
-            words.len(),
-            text.as_mut_ptr(),
-            text.len(),
-        )
-    }
+    archive::undump(chunk, NAME.as_bytes(), words, text)
 }
 
 /// A walk over a store, each string where the one before ended.
@@ -212,25 +179,6 @@ fn same(chunk: &[u8], words: &mut [u32], text: &mut [u8], counts: &mut Counts) -
     }
 }
 
-/// A copy with a byte or a bit changed, cut short, with a byte more, or with some bytes at values that mean something.
-fn damaged(chunk: &[u8], r: &mut Random) -> Vec<u8> {
-    let mut d = chunk.to_vec();
-    let i = r.below(d.len());
-    match r.below(5) {
-        0 => d[i] = r.next() as u8,
-        1 => d[i] ^= 1 << r.below(8),
-        2 => d.truncate(i),
-        3 => d.insert(i, r.next() as u8),
-        _ => {
-            for _ in 0..=r.below(6) {
-                let i = r.below(d.len());
-                d[i] = [0, 1, 2, 4, 0xFF, 0x80, 0xC2, 0xE2][r.below(8)];
-            }
-        }
-    }
-    d
-}
-
 fn compare(chunk: &[u8], counts: &mut Counts) {
     counts.chunks += 1;
     let (mut words, mut text) = (vec![0; chunk.len() + 64], vec![0; 3 * chunk.len() + 64]);
@@ -240,31 +188,14 @@ fn compare(chunk: &[u8], counts: &mut Counts) {
     }
 }
 
-fn median(mut run: impl FnMut() -> u128) -> f64 {
-    run();
-    let mut ns: Vec<u128> = (0..21).map(|_| run()).collect();
-    ns.sort_unstable();
-    ns[10] as f64
-}
-
 fn bench(path: &str) {
     let chunk = std::fs::read(path).unwrap();
     let (mut words, mut text) = (vec![0; chunk.len() + 64], vec![0; 3 * chunk.len() + 64]);
     let r = ours(&chunk, &mut words, &mut text);
     assert_eq!(r.refusal, 0);
     let (words, text) = (&mut words[..r.words], &mut text[..r.text]);
-    let here = median(|| {
-        let start = Instant::now();
-        black_box(ours(black_box(&chunk), words, text));
-        start.elapsed().as_nanos()
-    });
-    let rust = median(|| {
-        let start = Instant::now();
-        let p = black_box(undump(black_box(&chunk), NAME));
-        let ns = start.elapsed().as_nanos();
-        drop(p);
-        ns
-    });
+    let here = median(|| black_box(ours(black_box(&chunk), words, text)));
+    let rust = median(|| black_box(undump(black_box(&chunk), NAME)));
     let n = chunk.len() as f64;
     println!("{path}: {n} bytes, undump {:.3} ns a byte, the Rust {:.3}, ratio {:.2}", here / n, rust / n, here / rust);
 }
@@ -282,7 +213,7 @@ fn main() {
         let chunk = std::fs::read(path).unwrap();
         compare(&chunk, &mut counts);
         for _ in 0..copies {
-            compare(&damaged(&chunk, &mut random), &mut counts);
+            compare(&random.damaged(&chunk), &mut counts);
         }
     }
     let Counts { chunks, outside, panics, differ, refusals } = counts;

@@ -8,8 +8,6 @@ use Rattle.debug_info.proofs.Calls.{register-refused, register-answered
 use Rattle.debug_info.proofs.getobjname.Statement.{statement}
 use Rattle.debug_info.proofs.getobjname.Tie as tie
 
--- Not refused, the function stands at its place, and so do its lists; no register was searched before.
-
 register-refusal-requires : tie.Need-register-refusal-requires
 register-refusal-requires c κs = search needs
 
@@ -52,7 +50,7 @@ returns-2 c =
     let c₄ = c₃ .before in
     let c₅ = c₄ .before in
     let c₆ = c₅ .before .before .before .before in
-    register-answered (nameRefused (c₆ .args .out .now)) (λ f. named (getobjname f (c₆ .args .pc) (c₆ .args .stackpos)) (c₆ .args .out .now)) _ _ (c₆ .args .place) (c₆ .args .pc) (c₆ .args .stackpos) (c₅ .register-refusal .ensures) (c₄ .if1 .left) (c₃ .lists-at .ensures) (λ p fs h t. c₁ .give .ensures t ∙ ap (λ o. named o (c₆ .args .out .now)) (c₂ .getobjname .ensures (c₆ .args .text .now) p fs h))
+    register-answered (nameRefused (c₆ .args .out .now)) (λ f. named (getobjname f (c₆ .args .pc) (c₆ .args .stackpos)) (c₆ .args .out .now)) _ _ (c₆ .args .place) (c₆ .args .pc) (c₆ .args .stackpos) (c₅ .register-refusal .ensures) (c₄ .if1 .left) (c₃ .lists-at .ensures) (λ p fs h. c₁ .give .ensures ∙ ap (λ o. named o (c₆ .args .out .now)) (c₂ .getobjname .ensures (c₆ .args .text .now) p fs h))
 
 pub getobjname-spec : {M : Type 1} → statement M
 getobjname-spec =

@@ -11,13 +11,13 @@ same-length : tie.Need-same-length
 same-length c = search needs
 
 returns : tie.Need-returns
-returns c = λ h. named-fits _ (c .before .before .before .before .write-name .ensures h) (c .if1 .taken)
+returns c = named-fits _ (c .before .before .before .before .write-name .ensures) (c .if1 .taken)
 
 same-length-2 : tie.Need-same-length-2
 same-length-2 c = search needs
 
 returns-2 : tie.Need-returns-2
-returns-2 c = λ h. named-11 _ (c .before .before .before .before .write-name .ensures h) (c .if1 .left)
+returns-2 c = named-11 _ (c .before .before .before .before .write-name .ensures) (c .if1 .left)
 
 pub give-spec : {M : Type 1} → statement M
 give-spec = tie.close (tie.spec write-name-requires same-length returns same-length-2 returns-2)

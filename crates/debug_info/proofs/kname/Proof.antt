@@ -8,8 +8,6 @@ use Rattle.debug_info.proofs.Calls.{place-refused, place-answered}
 use Rattle.debug_info.proofs.kname.Statement.{statement}
 use Rattle.debug_info.proofs.kname.Tie as tie
 
--- Not refused, the function stands at its place, and so do its constants.
-
 place-refusal-requires : tie.Need-place-refusal-requires
 place-refusal-requires c κs = search needs
 
@@ -41,7 +39,7 @@ returns-2 c =
     let c₄ = c₃ .before in
     let c₅ = c₄ .before in
     let c₆ = c₅ .before .before .before .before in
-    place-answered (λ n. writeRefused n (c₆ .args .out .now)) (λ f. written (kname (partsOf f .constants) (c₆ .args .c)) (c₆ .args .out .now)) _ _ (c₆ .args .place) (c₅ .place-refusal .ensures) (c₄ .if1 .left) (c₃ .lists-at .ensures) (λ p fs h t. c₁ .write-name .ensures t ∙ ap (λ s. written s (c₆ .args .out .now)) (c₂ .operand-name .ensures (c₆ .args .text .now) (p .constants) (h .constants)))
+    place-answered (λ n. writeRefused n (c₆ .args .out .now)) (λ f. written (kname (partsOf f .constants) (c₆ .args .c)) (c₆ .args .out .now)) _ _ (c₆ .args .place) (c₅ .place-refusal .ensures) (c₄ .if1 .left) (c₃ .lists-at .ensures) (λ p fs h. c₁ .write-name .ensures ∙ ap (λ s. written s (c₆ .args .out .now)) (c₂ .operand-name .ensures (c₆ .args .text .now) (p .constants) (h .constants)))
 
 pub kname-spec : {M : Type 1} → statement M
 kname-spec =

@@ -6,8 +6,6 @@ use Rattle.debug_info.proofs.Calls.{register-refused, register-answered
 use Rattle.debug_info.proofs.symbexec.Statement.{statement}
 use Rattle.debug_info.proofs.symbexec.Tie as tie
 
--- Not refused, the function stands at its place, and so do its lists.
-
 register-refusal-requires : tie.Need-register-refusal-requires
 register-refusal-requires c κs = search needs
 
@@ -38,7 +36,7 @@ returns-2 c =
     let c₂ = c₁ .before in
     let c₃ = c₂ .before in
     let c₄ = c₃ .before .before .before in
-    register-answered noInstruction (λ f. record { refusal = 0; instruction = symbexec f (c₄ .args .lastpc) (c₄ .args .reg) }) _ _ (c₄ .args .place) (c₄ .args .lastpc) (c₄ .args .reg) (c₃ .register-refusal .ensures) (c₂ .if1 .left) (c₁ .lists-at .ensures) (λ p fs h t. rw (c .symbexec-at .ensures (c₄ .args .text .now) p fs h))
+    register-answered noInstruction (λ f. record { refusal = 0; instruction = symbexec f (c₄ .args .lastpc) (c₄ .args .reg) }) _ _ (c₄ .args .place) (c₄ .args .lastpc) (c₄ .args .reg) (c₃ .register-refusal .ensures) (c₂ .if1 .left) (c₁ .lists-at .ensures) (λ p fs h. rw (c .symbexec-at .ensures (c₄ .args .text .now) p fs h))
 
 pub symbexec-spec : {M : Type 1} → statement M
 symbexec-spec =

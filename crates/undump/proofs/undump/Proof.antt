@@ -15,7 +15,11 @@ refused-requires : tie.Need-refused-requires
 refused-requires c κs = search needs
 
 returns : tie.Need-returns
-returns c = rw (c .refused .ensures) (unnamed (c .before .before .before .before .before .before .before .args .chunk .now) (c .before .before .before .before .before .before .before .args .name .now) (c .before .before .before .before .before .before .before .args .words .now) (c .before .before .before .before .before .before .before .args .text .now) (sym (c .before .before .name-ok .ensures) ∙ not-true _ (c .before .if1 .taken)))
+returns c =
+    let c₁ = c .before in
+    let c₂ = c₁ .before in
+    let c₃ = c₂ .before .before .before .before .before in
+    rw (c .refused .ensures) (unnamed (c₃ .args .chunk .now) (c₃ .args .name .now) (c₃ .args .words .now) (c₃ .args .text .now) (sym (c₂ .name-ok .ensures) ∙ not-true _ (c₁ .if1 .taken)))
 
 load-header-requires : tie.Need-load-header-requires
 load-header-requires c κs = search needs
@@ -33,7 +37,13 @@ refused-requires-2 : tie.Need-refused-requires-2
 refused-requires-2 c κs = search needs
 
 returns-2 : tie.Need-returns-2
-returns-2 c = rw (c .refused2 .ensures) (refused-reading (c .before .before .before .before .before .before .before .before .before .before .before .before .before .before .before .args .name .now) (c .before .before .before .before .before .before .before .before .before .before .before .before .before .before .before .args .words .now) (c .before .before .before .before .before .before .before .before .before .before .before .before .before .before .before .args .text .now) (sym (c .before .before .before .before .before .before .before .before .before .before .name-ok .ensures) ∙ not-false _ (c .before .before .before .before .before .before .before .before .before .if1 .left)) (c .before .before .before .before .before .before .before .before .load-header .ensures) (c .before .before .before .before .before .load-function .ensures) (omega arith))
+returns-2 c =
+    let c₁ = c .before .before .before .before .before in
+    let c₂ = c₁ .before .before .before in
+    let c₃ = c₂ .before in
+    let c₄ = c₃ .before in
+    let c₅ = c₄ .before .before .before .before .before in
+    rw (c .refused2 .ensures) (refused-reading (c₅ .args .name .now) (c₅ .args .words .now) (c₅ .args .text .now) (sym (c₄ .name-ok .ensures) ∙ not-false _ (c₃ .if1 .left)) (c₂ .load-header .ensures) (c₁ .load-function .ensures) (omega arith))
 
 least-requires : tie.Need-least-requires
 least-requires c κs = search needs
@@ -42,7 +52,13 @@ refused-requires-3 : tie.Need-refused-requires-3
 refused-requires-3 c κs = search needs
 
 returns-3 : tie.Need-returns-3
-returns-3 c = rw (c .refused3 .ensures) (refused-words (c .before .before .before .before .before .before .before .before .before .before .before .before .before .before .before .before .before .args .name .now) (c .before .before .before .before .before .before .before .before .before .before .before .before .before .before .before .before .before .args .words .now) (c .before .before .before .before .before .before .before .before .before .before .before .before .before .before .before .before .before .args .text .now) (sym (c .before .before .before .before .before .before .before .before .before .before .before .before .name-ok .ensures) ∙ not-false _ (c .before .before .before .before .before .before .before .before .before .before .before .if1 .left)) (c .before .before .before .before .before .before .before .before .before .before .load-header .ensures) (c .before .before .before .before .before .before .before .load-function .ensures) (omega arith) (omega arith))
+returns-3 c =
+    let c₁ = c .before .before .before .before .before .before .before in
+    let c₂ = c₁ .before .before .before in
+    let c₃ = c₂ .before in
+    let c₄ = c₃ .before in
+    let c₅ = c₄ .before .before .before .before .before in
+    rw (c .refused3 .ensures) (refused-words (c₅ .args .name .now) (c₅ .args .words .now) (c₅ .args .text .now) (sym (c₄ .name-ok .ensures) ∙ not-false _ (c₃ .if1 .left)) (c₂ .load-header .ensures) (c₁ .load-function .ensures) (omega arith) (omega arith))
 
 least-requires-2 : tie.Need-least-requires-2
 least-requires-2 c κs = search needs
@@ -51,7 +67,16 @@ refused-requires-4 : tie.Need-refused-requires-4
 refused-requires-4 c κs = search needs
 
 returns-4 : tie.Need-returns-4
-returns-4 c = rw (c .refused4 .ensures) (refused-text (c .before .before .before .before .before .before .before .before .before .before .before .before .before .before .before .before .before .before .before .args .name .now) (c .before .before .before .before .before .before .before .before .before .before .before .before .before .before .before .before .before .before .before .args .words .now) (c .before .before .before .before .before .before .before .before .before .before .before .before .before .before .before .before .before .before .before .args .text .now) (sym (c .before .before .before .before .before .before .before .before .before .before .before .before .before .before .name-ok .ensures) ∙ not-false _ (c .before .before .before .before .before .before .before .before .before .before .before .before .before .if1 .left)) (c .before .before .before .before .before .before .before .before .before .before .before .before .load-header .ensures) (c .before .before .before .before .before .before .before .before .before .load-function .ensures) (omega arith) (omega arith) (omega arith))
+returns-4 c =
+    let text = c .before in
+    let words = text .before .before in
+    let read = words .before .before in
+    let c₁ = read .before .before .before .before in
+    let c₂ = c₁ .before .before .before in
+    let c₃ = c₂ .before in
+    let c₄ = c₃ .before in
+    let c₅ = c₄ .before .before .before .before .before in
+    rw (c .refused4 .ensures) (refused-text (c₅ .args .name .now) (c₅ .args .words .now) (c₅ .args .text .now) (sym (c₄ .name-ok .ensures) ∙ not-false _ (c₃ .if1 .left)) (c₂ .load-header .ensures) (c₁ .load-function .ensures) (omega (arith, read .if2 .left)) (omega (arith, words .if3 .left, words .before .least .ensures)) (omega (arith, text .if4 .taken, text .before .least2 .ensures)))
 
 slice-relend-prefix-load-function : tie.Need-slice-relend-prefix-load-function
 slice-relend-prefix-load-function c = search needs
@@ -71,8 +96,8 @@ load-function-requires-2 c κs = search needs
 remaining-requires : tie.Need-remaining-requires
 remaining-requires c κs = search needs
 
-sub-t25 : tie.Need-sub-t25
-sub-t25 c = search needs
+sub-read : tie.Need-sub-read
+sub-read c = search needs
 
 same-length : tie.Need-same-length
 same-length c = search needs
@@ -81,7 +106,17 @@ same-length-2 : tie.Need-same-length-2
 same-length-2 c = search needs
 
 returns-5 : tie.Need-returns-5
-returns-5 c = rw (c .remaining .ensures) (stored (c .before .before .before .before .before .before .before .before .before .before .before .before .before .before .before .before .before .before .before .before .before .before .before .before .before .before .args .name .now) (c .before .before .before .before .before .before .before .before .before .before .before .before .before .before .before .before .before .before .before .before .before .before .before .before .before .before .args .words .now) (c .before .before .before .before .before .before .before .before .before .before .before .before .before .before .before .before .before .before .before .before .before .before .before .before .before .before .args .text .now) (sym (c .before .before .before .before .before .before .before .before .before .before .before .before .before .before .before .before .before .before .before .before .before .name-ok .ensures) ∙ not-false _ (c .before .before .before .before .before .before .before .before .before .before .before .before .before .before .before .before .before .before .before .before .if1 .left)) (c .before .before .before .before .before .before .before .before .before .before .before .before .before .before .before .before .before .before .before .load-header .ensures) (c .before .before .before .before .before .before .before .before .before .before .before .before .before .before .before .before .load-function .ensures) (omega arith) (omega arith) (omega arith) (c .before .before .before .before .before .load-function2 .ensures))
+returns-5 c =
+    let c₁ = c .before .before .before .before .before in
+    let text = c₁ .before .before .before in
+    let words = text .before .before in
+    let read = words .before .before in
+    let c₂ = read .before .before .before .before in
+    let c₃ = c₂ .before .before .before in
+    let c₄ = c₃ .before in
+    let c₅ = c₄ .before in
+    let c₆ = c₅ .before .before .before .before .before in
+    rw (c .remaining .ensures) (stored (c₆ .args .name .now) (c₆ .args .words .now) (c₆ .args .text .now) (sym (c₅ .name-ok .ensures) ∙ not-false _ (c₄ .if1 .left)) (c₃ .load-header .ensures) (c₂ .load-function .ensures) (omega (arith, read .if2 .left)) (omega (arith, words .if3 .left, words .before .least .ensures)) (omega (arith, text .if4 .left, text .before .least2 .ensures)) (c₁ .load-function2 .ensures))
 
 pub undump-spec : {M : Type 1} → statement M
 undump-spec =
@@ -108,7 +143,7 @@ undump-spec =
     slice-aggregate-load-function-4
     load-function-requires-2
     remaining-requires
-    sub-t25
+    sub-read
     same-length
     same-length-2
     returns-5)

@@ -8,8 +8,6 @@ use Rattle.debug_info.proofs.Lists.{Active, active-none, active-late, a
 use Rattle.debug_info.proofs.list.active_local.Statement.{statement}
 use Rattle.debug_info.proofs.list.active_local.Tie as tie
 
--- The loop's invariant: whatever the locals from here lead to, all of them lead to.
-
 abbrev Inv-loop : tie.InvT-loop
 Inv-loop words locals n pc count at₀ remaining₀ i₀ at remaining i = Loop (Active words pc) count (at₀, remaining₀) i (at, remaining)
 

@@ -4,8 +4,6 @@ use Rattle.debug_info.proofs.Lists.{local-is}
 use Rattle.debug_info.proofs.list.local_at.Statement.{statement}
 use Rattle.debug_info.proofs.list.local_at.Tie as tie
 
--- A name, and behind it two words.
-
 name-at-requires : tie.Need-name-at-requires
 name-at-requires c κs = search needs
 

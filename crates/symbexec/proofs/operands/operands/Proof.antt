@@ -6,8 +6,6 @@ use Rattle.symbexec.proofs.Children.{behind-kept, behind-is}
 use Rattle.symbexec.proofs.operands.operands.Statement.{statement}
 use Rattle.symbexec.proofs.operands.operands.Tie as tie
 
--- Each test is one of the definition's.
-
 opcode-requires : tie.Need-opcode-requires
 opcode-requires c κs = search needs
 

@@ -8,8 +8,6 @@ use Rattle.symbexec.proofs.step.also_writes.Tie as tie
 
 -- Each arm is a line of the definition.
 
--- Each arm is a line of the definition.
-
 a-requires : tie.Need-a-requires
 a-requires c κs = search needs
 

@@ -8,8 +8,6 @@ use Rattle.symbexec.proofs.step.followed.Tie as tie
 
 -- The tests are the definition's, in its order.
 
--- The tests are the definition's, in its order.
-
 is-jump-requires : tie.Need-is-jump-requires
 is-jump-requires c κs = search needs
 

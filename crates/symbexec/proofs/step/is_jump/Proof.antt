@@ -8,8 +8,6 @@ use Rattle.symbexec.proofs.step.is_jump.Tie as tie
 
 -- One of three opcodes, or none of them.
 
--- One of three opcodes, or none of them.
-
 opcode-requires : tie.Need-opcode-requires
 opcode-requires c κs = search needs
 

@@ -6,8 +6,6 @@ use Rattle.symbexec.proofs.Steps.{goes-forward, next-jump, next-on}
 use Rattle.symbexec.proofs.step.next_pc.Statement.{statement}
 use Rattle.symbexec.proofs.step.next_pc.Tie as tie
 
--- A followed jump goes forward; anything else goes on behind the words that are none.
-
 followed-requires : tie.Need-followed-requires
 followed-requires c κs = search needs
 

@@ -5,8 +5,6 @@ use Rattle.symbexec.specs.SymbExec.{setsA}
 use Rattle.symbexec.proofs.step.sets_a.Statement.{statement}
 use Rattle.symbexec.proofs.step.sets_a.Tie as tie
 
--- A is another register, or the attributes decide.
-
 a-requires : tie.Need-a-requires
 a-requires c κs = search needs
 

@@ -1,0 +1,291 @@
+-- The proof of demand 3. Reading a dump finds the tree that was written and ends where the dump ends, whatever stands behind it,
+-- so a call that is not refused moves on by the dump, one that is refused stays, and the dumps that are left are those that stand there.
+use Prim.Native.Nat.{ℕ, zero, suc, _+_, _-_, _<_}
+use mathlib.Core.Path.{_≡_, refl, sym, ap, _∙_}
+use mathlib.Core.Logic.{_⊎_, inl, inr}
+use mathlib.Core.Option.{Option, none, some}
+use mathlib.Core.List.{List, [], _∷_, _++_, map, append-assoc, append-nil, append-cancel-right}
+use mathlib.Core.Bool.{Bool, true, false, cond}
+use native.Mathlib.Omega.{arith}
+use lib.ListN.{length, take, drop, length-append}
+use lib.Seq.{take-at, drop-at, drop-drop}
+use lib.Dec.{leb, eqb}
+use borrow.Author.Tests.{leb-true, eqb-true, eqb-false}
+use Rattle.lent.specs.Memory.{Every}
+use Rattle.utf8.specs.Utf8.{isUtf8}
+use Rattle.utf8.specs.Rows.{both}
+use Rattle.format.specs.Tree.{Function, Functions, rootSource, stripped, strippedAll, fill}
+use Rattle.format.specs.Read.{got, refused}
+use Rattle.format.specs.Write.{dumpChunk}
+use Rattle.format.specs.Valid.{depth, most, Name, Holds, HoldOne}
+use Rattle.format.specs.Stored.{treeOf}
+use Rattle.format.specs.Undump.{loadChunk, UndumpLeft, undumpRefused, UndumpLent, Refuses, wordsUsed, textUsed}
+use Rattle.format.specs.Dump.{WriteLeft}
+use Rattle.undump.specs.Undump.{undumpLeft}
+use Rattle.dump.specs.Step.{writeLeft}
+use Rattle.chunk.specs.Demand3.{DumpCall, Accepted, bytesOf, dumpsOf, endToEnd, dumpedSource, UndumpCall, leftBy, Calls, FindsStripped, Takes, Step, dumpsLeft, Session, Demand3}
+use Rattle.format.proofs.RoundTrip.{Reads, readBack, chunk-law, found-valid, found-filled}
+use Rattle.format.proofs.Stored.{tree-holds}
+use Rattle.format.proofs.Calls.{Outcome, Stores, undump-outcome, undump-refused, refusal-is, stored-holds, DumpRefuses, DumpOutcome, dump-outcome}
+
+got-both : {A : Type 0} {a b : A} {s t : List ℕ} → got a s ≡ got b t → (a ≡ b) × (s ≡ t)
+got-both e = (cc, cc)
+
+positive : (n : ℕ) → (n ≡ 0 → ⊥) → 0 < n
+positive zero h = absurd (h refl)
+positive (suc n) h = omega arith
+
+-- ---- a dump
+
+-- the tree that was dumped, its bytes, and what reading them finds
+record Dump (d : DumpCall) : Type 0 where
+  tree : Function
+  held : treeOf (d .words) (d .text) ≡ some tree
+  holds : Holds (d .words) (d .text) tree
+  bytes : bytesOf d ≡ dumpChunk (d .strip) (d .name) tree
+  named : Name (d .name)
+  reads : Reads loadChunk (bytesOf d) (readBack tree (d .strip) [] (d .name))
+
+abbrev wrote : WriteLeft → List ℕ
+wrote u = take (u .answer .len) (u .out)
+
+-- what its contract says
+outcome-of : (d : DumpCall) → DumpOutcome (d .name) (d .strip) (d .out) (treeOf (d .words) (d .text)) (writeLeft (d .answer) (d .left))
+outcome-of d = rw (d .contract) (dump-outcome (d .words) (d .text) (d .name) (d .strip) (d .out))
+
+dump-of : (d : DumpCall) → Accepted d → Dump d
+dump-of d e = by (outcome-of d)
+  where
+    nonzero : (n : ℕ) (x : Option Function) → DumpRefuses (d .name) (d .strip) (d .out) x n → 0 < n
+    nonzero n x (DumpRefuses.bad-name h) = omega arith
+    nonzero n x (DumpRefuses.not-well-formed h) = omega arith
+    nonzero n x (DumpRefuses.too-long h k) = omega arith
+
+    by : DumpOutcome (d .name) (d .strip) (d .out) (treeOf (d .words) (d .text)) (writeLeft (d .answer) (d .left)) → Dump d
+    by (DumpOutcome.refuses n r l) =
+        let p = nonzero n (treeOf (d .words) (d .text)) r in
+        let z : n ≡ 0 = ap (λ (u : WriteLeft). u .answer .refusal) (sym l) ∙ e in
+        absurd (omega arith)
+    by (DumpOutcome.dumps s) =
+        let h = tree-holds (d .words) (d .text) (s .tree) (s .held) in
+        let n = both (isUtf8 (d .name)) (leb (length (d .name)) most) (s .named) in
+        let b : bytesOf d ≡ dumpChunk (d .strip) (d .name) (s .tree) = ap wrote (s .leaves) ∙ take-at (dumpChunk (d .strip) (d .name) (s .tree)) _ _ refl in
+        record {
+          tree = s .tree;
+          held = s .held;
+          holds = h;
+          bytes = b;
+          named = n .0;
+          reads = rw b (chunk-law (s .tree) (d .strip) (d .name) (h .valid) (rw (h .text-is) (h .text-fits)) (n .0) (leb-true (length (d .name)) most (n .1)));
+        }
+
+-- a refused call wrote nothing
+refused-bytes : (d : DumpCall) → (Accepted d → ⊥) → bytesOf d ≡ []
+refused-bytes d e = by (outcome-of d)
+  where
+    by : DumpOutcome (d .name) (d .strip) (d .out) (treeOf (d .words) (d .text)) (writeLeft (d .answer) (d .left)) → bytesOf d ≡ []
+    by (DumpOutcome.refuses n r l) = ap wrote l
+    by (DumpOutcome.dumps s) = absurd (e (ap (λ (u : WriteLeft). u .answer .refusal) (s .leaves)))
+
+mutual
+  unfolding stripped
+
+  stripped-not : (f : Function) → stripped f false ≡ f
+  stripped-not (Function.function p fs) = rw (stripped-none fs)
+
+  stripped-none : (fs : Functions) → strippedAll fs false ≡ fs
+  stripped-none Functions.none = refl
+  stripped-none (Functions.more f fs) = rw (stripped-not f, stripped-none fs)
+
+stripped-by : (f : Function) (strip : Bool) → strip ≡ false → stripped f strip ≡ f
+stripped-by f strip e = rw e (stripped-not f)
+
+-- ---- one call
+
+module _ (d : DumpCall) (a : Accepted d) (bytes behind : List ℕ) (is : bytes ≡ bytesOf d ++ behind) (c : UndumpCall bytes) where
+  abbrev dump : Dump d
+  dump = dump-of d a
+
+  abbrev found : Function
+  found = readBack (dump .tree) (d .strip) [] (d .name)
+
+  reads : loadChunk bytes ≡ got found behind
+  reads = rw is (dump .reads .run behind)
+
+  -- what its contract says
+  outcome : Outcome bytes (c .lent) (got found behind) (leftBy c)
+  outcome = rw (c .contract, ← reads) (undump-outcome bytes (c .lent))
+
+  abbrev Stored : Type 0
+  Stored = Stores bytes (c .lent) (got found behind) (leftBy c)
+
+  read-is : Stored → c .answer .read ≡ length (bytesOf d)
+  read-is s =
+      let e : s .rest ≡ behind = sym (got-both (s .reads) .1) in
+      let n : length bytes ≡ length (bytesOf d) + length behind = ap length is ∙ length-append (bytesOf d) behind in
+      ap (λ (u : UndumpLeft). u .answer .read) (s .leaves) ∙ rw e (omega arith)
+
+  -- under a chunk name that an empty root source stands for
+  finds-under : Stored → (name : List ℕ) → (rootSource (dump .tree) (d .name) ≡ [] → name ≡ rootSource (dump .tree) (d .name)) → FindsStripped d (leftBy c) name
+  finds-under s name h =
+      let e : s .tree ≡ found = sym (got-both (s .reads) .0) in
+      record {
+        tree = s .tree;
+        tree′ = dump .tree;
+        holds = stored-holds bytes (c .lent) (leftBy c) s (rw e (found-valid (dump .tree) depth (d .strip) [] (d .name) (dump .holds .valid) (dump .named)));
+        holds′ = dump .holds;
+        one = rw e (found-filled (dump .tree) (d .strip) [] (d .name) name h);
+      }
+
+  under : (¬ (dumpedSource d ≡ [])) ⊎ (c .lent .name ≡ []) → rootSource (dump .tree) (d .name) ≡ [] → c .lent .name ≡ rootSource (dump .tree) (d .name)
+  under (inl h) e = let root : dumpedSource d ≡ rootSource (dump .tree) (d .name) = rw (dump .held) in absurd (h (root ∙ e))
+  under (inr h) e = h ∙ sym e
+
+  takes-law : Stored → Takes d (c .lent .name) (leftBy c)
+  takes-law s =
+      record {
+        read = read-is s;
+        finds = λ e h. one-tree e (finds-under s (c .lent .name) (under h));
+        finds-stripped = λ h. finds-under s (c .lent .name) (under h);
+        finds-unnamed = finds-under s [] (λ h. sym h);
+      }
+    where
+      one-tree : d .strip ≡ false → FindsStripped d (leftBy c) (c .lent .name) → HoldOne (wordsUsed (leftBy c)) (textUsed (leftBy c)) (c .lent .name) (d .words) (d .text) (d .name)
+      one-tree e f = record { tree = f .tree; tree′ = f .tree′; holds = f .holds; holds′ = f .holds′; one = f .one ∙ rw (stripped-by (f .tree′) (d .strip) e) }
+
+  -- a call that is not refused stores; one that is, is refused by that number
+  stores-of : Outcome bytes (c .lent) (got found behind) (leftBy c) → c .answer .refusal ≡ 0 → Stored
+  stores-of (Outcome.refuses n r l) e =
+      let p = nonzero r in
+      let z : n ≡ 0 = ap (λ (u : UndumpLeft). u .answer .refusal) (sym l) ∙ e in
+      absurd (omega arith)
+    where
+      nonzero : {m : ℕ} → Refuses (c .lent) (got found behind) m → 0 < m
+      nonzero (Refuses.bad-name h) = omega arith
+      nonzero (Refuses.few-words h k) = omega arith
+      nonzero (Refuses.few-text h k l) = omega arith
+  stores-of (Outcome.stores s) e = s
+
+  refuses-of : Outcome bytes (c .lent) (got found behind) (leftBy c) → (n : ℕ) → 0 < n → c .answer .refusal ≡ n → Refuses (c .lent) (got found behind) n
+  refuses-of (Outcome.refuses m r l) n h e = let i : m ≡ n = ap (λ (u : UndumpLeft). u .answer .refusal) (sym l) ∙ e in rw i at r
+  refuses-of (Outcome.stores s) n h e = let z : c .answer .refusal ≡ 0 = ap (λ (u : UndumpLeft). u .answer .refusal) (s .leaves) in absurd (omega arith)
+
+  refusal-of : (n : ℕ) → Refuses (c .lent) (got found behind) n → c .answer .refusal ≡ n
+  refusal-of n r = ap (λ (u : UndumpLeft). u .answer .refusal) (c .contract) ∙ refusal-is bytes (c .lent) (rw reads r)
+
+  pub untouched-law : (n : ℕ) → 0 < n → c .answer .refusal ≡ n → leftBy c ≡ undumpRefused n (c .lent .words) (c .lent .text)
+  untouched-law n h e = c .contract ∙ undump-refused bytes (c .lent) n h (ap (λ (u : UndumpLeft). u .answer .refusal) (sym (c .contract)) ∙ e)
+
+  step-law : Step d bytes (c .lent) (leftBy c)
+  step-law =
+      record {
+        tree = found;
+        rest = behind;
+        begins = sym is;
+        reads = reads;
+        refused = λ n h. (refuses-of outcome n h, refusal-of n);
+        untouched = untouched-law;
+        takes = λ e. takes-law (stores-of outcome e);
+      }
+
+-- ---- all calls
+
+-- the next call begins at the next dump, or, after a refusal, at the same
+moved-on : (d : DumpCall) → Accepted d → (ds : List DumpCall) (behind bytes : List ℕ) → bytes ≡ bytesOf d ++ (endToEnd ds ++ behind) → (c : UndumpCall bytes)
+    → drop (c .answer .read) bytes ≡ endToEnd (dumpsLeft (c .answer) d ds) ++ behind
+unfolding endToEnd
+moved-on d a ds behind bytes b c = by (eqb (c .answer .refusal) 0) refl
+  where
+    by : (none : Bool) → eqb (c .answer .refusal) 0 ≡ none → drop (c .answer .read) bytes ≡ endToEnd (cond none ds (d ∷ ds)) ++ behind
+    by true e =
+        let read : c .answer .read ≡ length (bytesOf d) = step-law d a bytes (endToEnd ds ++ behind) b c .takes (eqb-true _ _ e) .read in
+        rw (read, b) (drop-at (bytesOf d) (endToEnd ds ++ behind) _ refl)
+    by false e =
+        let read : c .answer .read ≡ 0 = ap (λ (u : UndumpLeft). u .answer .read) (untouched-law d a bytes (endToEnd ds ++ behind) b c _ (positive _ (eqb-false _ _ e)) refl) in
+        rw (read, b) (sym (append-assoc (bytesOf d) (endToEnd ds) behind))
+
+left-accepted : (refusal : ℕ) (d : DumpCall) (ds : List DumpCall) → Accepted d → Every Accepted ds → Every Accepted (cond (eqb refusal 0) ds (d ∷ ds))
+unfolding Every
+left-accepted refusal d ds a rest = by (eqb refusal 0)
+  where
+    by : (none : Bool) → Every Accepted (cond none ds (d ∷ ds))
+    by true = rest
+    by false = (a, rest)
+
+session-law : {slice : List ℕ} {place : ℕ} (cs : Calls slice place) (ds : List DumpCall) (behind : List ℕ) → Every Accepted ds → drop place slice ≡ endToEnd ds ++ behind → Session cs ds
+unfolding Session endToEnd Every
+session-law Calls.done ds behind a e = tt
+session-law (Calls.call c cs) [] behind a e = tt
+session-law {slice} {place} (Calls.call c cs) (d ∷ ds) behind a e =
+    let b : drop place slice ≡ bytesOf d ++ (endToEnd ds ++ behind) = e ∙ append-assoc (bytesOf d) (endToEnd ds) behind in (
+      step-law d (a .0) (drop place slice) (endToEnd ds ++ behind) b c,
+      session-law cs _ behind (left-accepted (c .answer .refusal) d ds (a .0) (a .1)) (sym (drop-drop _ place slice) ∙ moved-on d (a .0) ds behind (drop place slice) b c),
+    )
+
+-- ---- refused dump calls
+
+dumps-accepted : (ds : List DumpCall) → Every Accepted (dumpsOf ds)
+unfolding dumpsOf Every
+dumps-accepted [] = tt
+dumps-accepted (d ∷ ds) = by (dumps-accepted ds) (eqb (d .answer .refusal) 0) refl
+  where
+    by : Every Accepted (dumpsOf ds) → (b : Bool) → eqb (d .answer .refusal) 0 ≡ b → Every Accepted (cond b (d ∷ dumpsOf ds) (dumpsOf ds))
+    by i true e = (eqb-true _ _ e, i)
+    by i false e = i
+
+dumps-bytes : (ds : List DumpCall) → endToEnd (dumpsOf ds) ≡ endToEnd ds
+unfolding dumpsOf endToEnd
+dumps-bytes [] = refl
+dumps-bytes (d ∷ ds) = by (dumps-bytes ds) (eqb (d .answer .refusal) 0) refl
+  where
+    by : endToEnd (dumpsOf ds) ≡ endToEnd ds → (b : Bool) → eqb (d .answer .refusal) 0 ≡ b → endToEnd (cond b (d ∷ dumpsOf ds) (dumpsOf ds)) ≡ bytesOf d ++ endToEnd ds
+    by i true e = rw i
+    by i false e = rw (i, refused-bytes d (eqb-false _ _ e))
+
+-- ---- what the bytes tell
+
+-- two dumps that begin alike are read alike
+alike : (d e : DumpCall) (a : Accepted d) (b : Accepted e) (s t : List ℕ) → bytesOf d ++ s ≡ bytesOf e ++ t
+    → (readBack (dump-of d a .tree) (d .strip) [] (d .name) ≡ readBack (dump-of e b .tree) (e .strip) [] (e .name)) × (s ≡ t)
+alike d e a b s t h = got-both (sym (dump-of d a .reads .run s) ∙ ap loadChunk h ∙ dump-of e b .reads .run t)
+
+-- under the empty name the tree read is the tree dumped
+refilled : (d : DumpCall) (a : Accepted d) → d .strip ≡ false → fill (readBack (dump-of d a .tree) (d .strip) [] (d .name)) [] ≡ fill (dump-of d a .tree) (d .name)
+refilled d a s = found-filled (dump-of d a .tree) (d .strip) [] (d .name) [] (λ h. sym h) ∙ rw (stripped-by (dump-of d a .tree) (d .strip) s)
+
+differ-law : (d e : DumpCall) → Accepted d → Accepted e → d .strip ≡ false → e .strip ≡ false → bytesOf d ≡ bytesOf e → HoldOne (d .words) (d .text) (d .name) (e .words) (e .text) (e .name)
+differ-law d e a b sd se h =
+    record {
+      tree = dump-of d a .tree;
+      tree′ = dump-of e b .tree;
+      holds = dump-of d a .holds;
+      holds′ = dump-of e b .holds;
+      one = sym (refilled d a sd) ∙ ap (λ (f : Function). fill f []) (alike d e a b [] [] (ap (λ (l : List ℕ). l ++ []) h) .0) ∙ refilled e b se;
+    }
+
+none-begins-law : (d e : DumpCall) (more : List ℕ) → Accepted d → Accepted e → bytesOf d ++ more ≡ bytesOf e → bytesOf d ≡ bytesOf e
+none-begins-law d e more a b h =
+    let m : more ≡ [] = alike d e a b more [] (h ∙ sym (append-nil _)) .1 in
+    sym (append-nil _) ∙ ap (λ (t : List ℕ). bytesOf d ++ t) (sym m) ∙ h
+
+-- a dump is not empty: it begins with the header
+some-bytes : (d : DumpCall) → Accepted d → (t : List ℕ) → [] ≡ bytesOf d ++ t → ⊥
+some-bytes d a t h = let h′ = rw (dump-of d a .bytes) at h in let z : _≡_ {A = ℕ} 0 1 = cc in omega arith
+
+same-law : (ds es : List DumpCall) → Every Accepted ds → Every Accepted es → endToEnd ds ≡ endToEnd es → map bytesOf ds ≡ map bytesOf es
+unfolding endToEnd Every
+same-law [] [] a b h = refl
+same-law [] (e ∷ es) a b h = absurd (some-bytes e (b .0) _ h)
+same-law (d ∷ ds) [] a b h = absurd (some-bytes d (a .0) _ (sym h))
+same-law (d ∷ ds) (e ∷ es) a b h =
+    let t : endToEnd ds ≡ endToEnd es = alike d e (a .0) (b .0) (endToEnd ds) (endToEnd es) h .1 in
+    cc (same-law ds es (a .1) (b .1) t, append-cancel-right (bytesOf d) (bytesOf e) (endToEnd ds) (h ∙ rw t))
+
+pub demand3 : Demand3
+demand3 =
+    record {
+      session = λ ds behind cs. session-law cs (dumpsOf ds) behind (dumps-accepted ds) (rw dumps-bytes);
+      differ = differ-law;
+      none-begins = none-begins-law;
+      same-dumps = λ ds es h. same-law (dumpsOf ds) (dumpsOf es) (dumps-accepted ds) (dumps-accepted es) (dumps-bytes ds ∙ h ∙ sym (dumps-bytes es));
+    }

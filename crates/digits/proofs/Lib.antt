@@ -1,0 +1,3 @@
+pub mod Cases
+pub mod Numbers
+pub mod Strings

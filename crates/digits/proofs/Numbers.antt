@@ -1,0 +1,56 @@
+-- Laws of digits: how many there are, and storing them from the last to the first.
+use Prim.Native.Nat.{ℕ, zero, suc, _+_, _-_, _/_, _%_, _^_, _≤_, _<_}
+use mathlib.Core.Path.{_≡_, refl, ap, _∙_}
+use mathlib.Core.Bool.{cond}
+use mathlib.Core.List.{List, [], _∷_}
+use native.Mathlib.Omega.{arith}
+use lib.ListN.{length, set, length-append}
+use lib.Seq.{sets, set-comm}
+use lib.Dec.{ltb}
+use borrow.Author.Tests.{lt-ltb, le-ltb}
+use Rattle.lent.proofs.Writes.{sets-append}
+use Rattle.digits.specs.Digits.{digit, digits, places, placesWithin}
+
+-- ---- how many digits a number has
+
+-- it matters not up to how many are counted, if there are no more
+within-any : (f g n : ℕ) → n < 10 ^ f → n < 10 ^ g → placesWithin f n ≡ placesWithin g n
+unfolding placesWithin
+within-any zero zero n h k = refl
+within-any zero (suc g) n h k = rw (lt-ltb n 10 (omega arith))
+within-any (suc f) zero n h k = rw (lt-ltb n 10 (omega arith))
+within-any (suc f) (suc g) n h k = ap (λ p. cond (ltb n 10) 1 (suc p)) (within-any f g (n / 10) (omega arith) (omega arith))
+
+pub places-one : (n : ℕ) → n < 10 → places n ≡ 1
+unfolding placesWithin
+places-one n h = rw (lt-ltb n 10 h)
+
+pub places-more : (n : ℕ) → 10 ≤ n → n < 2 ^ 64 → places n ≡ suc (places (n / 10))
+unfolding placesWithin
+places-more n h k = rw (le-ltb n 10 h) (ap suc (within-any 19 20 (n / 10) (omega arith) (omega arith)))
+
+-- ---- storing digits
+
+pub length-digits : (base k n : ℕ) → length (digits base k n) ≡ k
+unfolding digits
+length-digits base zero n = refl
+length-digits base (suc k) n = length-append (digits base k (n / base)) (digit (n % base) ∷ []) ∙ rw (length-digits base k (n / base)) (omega arith)
+
+-- a store behind a run of stores may come first
+sets-set : (a l : List ℕ) (i j v : ℕ) → i + length a ≤ j → sets (set l j v) i a ≡ set (sets l i a) j v
+sets-set [] l i j v h = refl
+sets-set (x ∷ a) l i j v h = rw (← set-comm l i j x v (λ e. omega arith)) (sets-set a (set l i x) (suc i) j v (omega arith))
+
+-- the last digit is stored, then those in front of it
+last-digit : (base k n at : ℕ) (out : List ℕ) → sets (set out (at + k) (digit (n % base))) at (digits base k (n / base)) ≡ sets out at (digits base (suc k) n)
+unfolding digits
+last-digit base k n at out =
+    let l : length (digits base k (n / base)) ≡ k = length-digits base k (n / base) in
+    sets-set (digits base k (n / base)) out at (at + k) (digit (n % base)) (omega arith)
+    ∙ rw l at (sets-append (digits base k (n / base)) out (digit (n % base) ∷ []) at)
+
+-- a turn of storing: the last digit is stored
+pub store-last : (base n at i : ℕ) (out : List ℕ) {out′ all : List ℕ} → 0 < i → out′ ≡ set out (at + (i - 1)) (digit (n % base)) → sets out at (digits base i n) ≡ all → sets out′ at (digits base (i - 1) (n / base)) ≡ all
+store-last base n at i out h e a =
+    let j : i ≡ suc (i - 1) = omega arith in
+    rw e (last-digit base (i - 1) n at out) ∙ rw j at a

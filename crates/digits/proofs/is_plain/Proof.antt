@@ -1,0 +1,22 @@
+-- Past the two tests only a byte with no letter is left.
+use borrow.Author.Needs.{needs}
+use mathlib.Core.Path.{sym, _∙_}
+use mathlib.Core.Bool.{false≢true}
+use Rattle.digits.proofs.Strings.{escape-plain}
+use Rattle.digits.proofs.is_plain.Statement.{statement}
+use Rattle.digits.proofs.is_plain.Tie as tie
+
+returns : tie.Need-returns
+returns c e = absurd (false≢true e)
+
+returns-2 : tie.Need-returns-2
+returns-2 c e = absurd (false≢true e)
+
+is-print-requires : tie.Need-is-print-requires
+is-print-requires c κs = search needs
+
+returns-3 : tie.Need-returns-3
+returns-3 c e = escape-plain _ (c .before .before .if1 .left) (c .before .if2 .left) (sym (c .is-print .ensures) ∙ e)
+
+pub is-plain-spec : {M : Type 1} → statement M
+is-plain-spec = tie.close (tie.spec returns returns-2 is-print-requires returns-3)

@@ -1,0 +1,56 @@
+-- The bytes passed are each written as itself, since `is_plain` said so.
+use Prim.Native.Nat.{_-_}
+use native.Mathlib.Omega.{arith}
+use lib.ListN.{length}
+use borrow.Author.Tests.{not-false}
+use Rattle.digits.specs.Digits.{Plain}
+use Rattle.digits.proofs.Strings.{plain-none, plain-more}
+use Rattle.digits.proofs.plain_end.Statement.{statement}
+use Rattle.digits.proofs.plain_end.Tie as tie
+
+abbrev Inv-loop : tie.InvT-loop
+Inv-loop s at i₀ i = Plain s at i
+
+abbrev μ-loop : tie.MeasureT-loop
+μ-loop s at i₀ i = length s - i
+
+loop-holds : tie.Need-loop-holds Inv-loop μ-loop
+loop-holds c = plain-none _ _ (omega arith)
+
+shared-slice-read-is-plain : tie.Need-shared-slice-read-is-plain Inv-loop μ-loop
+shared-slice-read-is-plain c = omega arith
+
+is-plain-requires : tie.Need-is-plain-requires Inv-loop μ-loop
+is-plain-requires c κs = omega arith
+
+returns : tie.Need-returns Inv-loop μ-loop
+returns c = c .before .before .before .before .loop .inv
+
+add-i : tie.Need-add-i Inv-loop μ-loop
+add-i c = omega arith
+
+loop-less : tie.Need-loop-less Inv-loop μ-loop
+loop-less c = omega arith
+
+loop-again : tie.Need-loop-again Inv-loop μ-loop
+loop-again c =
+    let l = c .before .before .before .before .loop in
+    plain-more _ _ _ (l .inv) (omega arith) (c .before .is-plain .ensures (not-false _ (c .if1 .left)))
+
+returns-2 : tie.Need-returns-2 Inv-loop μ-loop
+returns-2 c = c .before .loop .inv
+
+pub plain-end-spec : {M : Type 1} → statement M
+plain-end-spec =
+    tie.close
+    (tie.spec
+    Inv-loop
+    μ-loop
+    loop-holds
+    shared-slice-read-is-plain
+    is-plain-requires
+    returns
+    add-i
+    loop-less
+    loop-again
+    returns-2)

@@ -1,0 +1,136 @@
+-- The bytes of integers, sizes and strings: stored one by one, and in a loop.
+use Prim.Native.Nat.{ℕ, suc, _+_, _*_, _/_, _%_, _≤_, _<_, min}
+use mathlib.Core.Path.{_≡_, refl, sym, ap, _∙_}
+use mathlib.Core.List.{List, [], _∷_, _++_, append-assoc, append-nil}
+use native.Mathlib.Omega.{arith}
+use native.Mathlib.Nat.{mul-suc}
+use native.Mathlib.Numerals.{add-one}
+use lib.ListN.{length, take, drop, getD, set, length-append, drop-of-length-le}
+use lib.Seq.{sets, take-suc, take-length, length-take-le}
+use Rattle.lent.specs.Memory.{far, Puts}
+use Rattle.lent.proofs.Lists.{drop-more}
+use Rattle.lent.proofs.Writes.{sets-append, put-stored, put-lost, put-then}
+use Rattle.format.specs.Write.{dumpNumber, dumpInt, dumpSize, dumpText, each}
+
+-- ---- one integer
+
+-- its bytes, low byte first
+pub int-bytes : (n : ℕ) → dumpInt n ≡ n % 256 ∷ n / 256 % 256 ∷ n / 65536 % 256 ∷ n / 16777216 % 256 ∷ []
+unfolding dumpNumber
+int-bytes n =
+    let a : n / 256 / 256 % 256 ≡ n / 65536 % 256 = omega arith in
+    let b : n / 256 / 256 / 256 % 256 ≡ n / 16777216 % 256 = omega arith in
+    rw (a, b)
+
+pub int-length : (n : ℕ) → length (dumpInt n) ≡ 4
+int-length n = ap length (int-bytes n)
+
+-- its four bytes, each at its place
+pub int-stored : (out : List ℕ) (at n : ℕ) → set (set (set (set out at (n % 256)) (at + 1) (n / 256 % 256)) (at + 2) (n / 65536 % 256)) (at + 3) (n / 16777216 % 256) ≡ sets out at (dumpInt n)
+int-stored out at n =
+    let a : at + 1 ≡ suc at = omega arith in
+    let b : at + 2 ≡ suc (suc at) = omega arith in
+    let c : at + 3 ≡ suc (suc (suc at)) = omega arith in
+    rw (a, b, c, int-bytes n)
+
+-- four bytes that are all of a list
+pub int-array : {bytes : List ℕ} (n : ℕ) → bytes ≡ sets (0 ∷ 0 ∷ 0 ∷ 0 ∷ []) 0 (dumpInt n) → bytes ≡ dumpInt n
+int-array n e = e ∙ rw (int-bytes n)
+
+-- a number whose upper part is a multiple of 256
+next-byte : (n a b : ℕ) → n ≡ a + 256 * b → (n % 256 ≡ a % 256) × (n / 256 ≡ a / 256 + b)
+next-byte n a b e = omega arith
+
+-- a size is two integers, the low one first
+pub size-ints : (n : ℕ) → dumpSize n ≡ dumpInt (n % 4294967296) ++ dumpInt (n / 4294967296)
+unfolding dumpNumber
+size-ints n =
+    let low = n % 4294967296 in
+    let high = n / 4294967296 in
+    let a = next-byte n low (16777216 * high) (omega arith) in
+    let b = next-byte (n / 256) (low / 256) (65536 * high) (omega (arith, a .1)) in
+    let c = next-byte (n / 256 / 256) (low / 256 / 256) (256 * high) (omega (arith, b .1)) in
+    let d = next-byte (n / 256 / 256 / 256) (low / 256 / 256 / 256) high (omega (arith, c .1)) in
+    let e : n / 256 / 256 / 256 / 256 ≡ high = d .1 ∙ omega arith in
+    rw (a .0, b .0, c .0, d .0, e)
+
+-- ---- a string
+
+pub string-puts : {at a b r : ℕ} {out out₁ out₂ out′ : List ℕ} (s : List ℕ) → Puts (dumpSize (length s + 1)) at out a out₁ → Puts s a out₁ b out₂ → Puts (0 ∷ []) b out₂ r out′ → Puts (dumpText s) at out r out′
+string-puts s p q t = put-then (put-then p q) t
+
+size-length : (n : ℕ) → length (dumpSize n) ≡ 8
+size-length n = rw (size-ints n) (length-append (dumpInt (n % 4294967296)) _ ∙ rw (int-length (n % 4294967296), int-length (n / 4294967296)))
+
+string-length : (s : List ℕ) → length (dumpText s) ≡ length s + 9
+string-length s =
+    let a : length (dumpSize (length s + 1) ++ s) ≡ 8 + length s = length-append (dumpSize (length s + 1)) s ∙ rw (size-length (length s + 1)) in
+    length-append (dumpSize (length s + 1) ++ s) (0 ∷ []) ∙ omega (arith, a)
+
+-- b is stored behind a
+stored-then : {l m : List ℕ} (a b out : List ℕ) (at k : ℕ) → length a ≡ k → l ≡ sets out at a → m ≡ sets l (at + k) b → m ≡ sets out at (a ++ b)
+stored-then a b out at k n e f = f ∙ rw (e, ← n) (sets-append a out b at)
+
+pub string-stored : {out₁ out₂ out₃ : List ℕ} (out s : List ℕ) (at : ℕ) → out₁ ≡ sets out at (dumpInt ((length s + 1) % 4294967296)) → out₂ ≡ sets out₁ (at + 4) (dumpInt ((length s + 1) / 4294967296))
+    → out₃ ≡ sets out₂ (at + 8) (take (length s) s) → set out₃ (at + 8 + length s) 0 ≡ sets out at (dumpText s)
+string-stored {out₂ = out₂} {out₃ = out₃} out s at e f g =
+    let size = length s + 1 in
+    let a : out₂ ≡ sets out at (dumpSize size) = rw (size-ints size) (stored-then (dumpInt (size % 4294967296)) (dumpInt (size / 4294967296)) out at 4 (int-length (size % 4294967296)) e f) in
+    let b : out₃ ≡ sets out at (dumpSize size ++ s) = stored-then (dumpSize size) s out at 8 (size-length size) a (g ∙ rw (take-length s)) in
+    let n : length (dumpSize size ++ s) ≡ 8 + length s = length-append (dumpSize size) s ∙ rw (size-length size) in
+    let i : at + 8 + length s ≡ at + (8 + length s) = omega arith in
+    stored-then (dumpSize size ++ s) (0 ∷ []) out at (8 + length s) n b (rw i)
+
+pub string-fits : {at : ℕ} {out out′ : List ℕ} (s : List ℕ) → at + (length s + 9) ≤ far → out′ ≡ sets out at (dumpText s) → Puts (dumpText s) at out (at + length s + 9) out′
+string-fits s h e = put-stored (omega (arith, string-length s)) e
+
+pub string-lost : {at a r : ℕ} {out : List ℕ} (s : List ℕ) → length out ≤ at → a ≡ min (at + length s) far → r ≡ min (a + 9) far → Puts (dumpText s) at out r out
+string-lost s h p q = put-lost (omega (arith, string-length s)) h refl
+
+-- ---- a list
+
+pub each-append : {A : Type 0} (e : A → List ℕ) (s t : List A) → each e (s ++ t) ≡ each e s ++ each e t
+unfolding each
+each-append e [] t = refl
+each-append e (a ∷ s) t = rw (each-append e s t) (sym (append-assoc (e a) (each e s) (each e t)))
+
+pub each-length : {A : Type 0} (e : A → List ℕ) (k : ℕ) → ((a : A) → length (e a) ≡ k) → (l : List A) → length (each e l) ≡ k * length l
+unfolding each
+each-length e k h [] = omega arith
+each-length e k h (a ∷ l) = length-append (e a) (each e l) ∙ rw (h a, each-length e k h l, mul-suc k (length l)) (omega arith)
+
+pub ints-length : (l : List ℕ) → length (each dumpInt l) ≡ 4 * length l
+ints-length l = each-length dumpInt 4 int-length l
+
+each-one : (n : ℕ) → each dumpInt (n ∷ []) ≡ dumpInt n
+unfolding each
+each-one n = append-nil (dumpInt n)
+
+pub ints-start : (out l : List ℕ) (at : ℕ) → out ≡ sets out at (each dumpInt (take 0 l))
+unfolding each
+ints-start out l at = refl
+
+-- one integer more is stored
+pub ints-turn : {out out′ : List ℕ} (out₀ l : List ℕ) (at i : ℕ) → i < length l → out ≡ sets out₀ at (each dumpInt (take i l)) → out′ ≡ sets out (at + 4 * i) (dumpInt (getD l i 0))
+    → out′ ≡ sets out₀ at (each dumpInt (take (i + 1) l))
+ints-turn out₀ l at i h e q =
+    let n : length (each dumpInt (take i l)) ≡ 4 * i = ints-length (take i l) ∙ rw (length-take-le i l (omega arith)) in
+    let t : each dumpInt (take (i + 1) l) ≡ each dumpInt (take i l) ++ dumpInt (getD l i 0) = rw (add-one i, take-suc l i 0 h) (each-append dumpInt (take i l) (getD l i 0 ∷ []) ∙ rw (each-one (getD l i 0))) in
+    rw (q, e, t) (rw n at (sets-append (each dumpInt (take i l)) out₀ (dumpInt (getD l i 0)) at))
+
+-- the next integer of those that are left
+pub ints-next : (l : List ℕ) (i : ℕ) → i < length l → each dumpInt (drop i l) ≡ dumpInt (getD l i 0) ++ each dumpInt (drop (i + 1) l)
+unfolding each
+ints-next l i h = rw (drop-more l i h)
+
+pub ints-none : (l : List ℕ) (i : ℕ) → length l ≤ i → each dumpInt (drop i l) ≡ []
+unfolding each
+ints-none l i h = rw (drop-of-length-le l h)
+
+-- integers that fit, and integers for which there is no room
+pub ints-stored : {at : ℕ} {out out′ : List ℕ} (l : List ℕ) → at + 4 * length l ≤ far → out′ ≡ sets out at (each dumpInt l) → Puts (each dumpInt l) at out (at + 4 * length l) out′
+ints-stored l h e = put-stored (omega (arith, ints-length l)) e
+
+pub ints-lost : {at a b c r : ℕ} {out : List ℕ} (l : List ℕ) → length out ≤ at → a ≡ min (at + length l) far → b ≡ min (a + length l) far → c ≡ min (b + length l) far → r ≡ min (c + length l) far
+    → Puts (each dumpInt l) at out r out
+ints-lost l h p q s t = put-lost (omega (arith, ints-length l)) h refl

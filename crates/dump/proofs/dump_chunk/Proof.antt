@@ -1,0 +1,33 @@
+use borrow.Author.Needs.{needs}
+use native.Mathlib.Omega.{arith}
+use Rattle.dump.proofs.Calls.{chunk-puts}
+use Rattle.dump.proofs.dump_chunk.Statement.{statement}
+use Rattle.dump.proofs.dump_chunk.Tie as tie
+
+-- The header, and behind it the root.
+
+-- The header, and behind it the root.
+
+-- The header, and behind it the root.
+
+-- The header, and behind it the root.
+
+dump-header-requires : tie.Need-dump-header-requires
+dump-header-requires c κs = search needs
+
+dump-function-requires : tie.Need-dump-function-requires
+dump-function-requires c κs = search needs
+
+same-length : tie.Need-same-length
+same-length c = search needs
+
+returns : tie.Need-returns
+returns c =
+    let c₁ = c .before .before in
+    let c₂ = c₁ .before .before .before .before in
+    let c₃ = c₂ .before .before .before .before .before .before in
+    chunk-puts (c₃ .args .strip) (c₃ .args .name .now) (c₂ .dump-header .ensures) (c₁ .dump-function .ensures)
+
+pub dump-chunk-spec : {M : Type 1} → statement M
+dump-chunk-spec =
+    tie.close (tie.spec dump-header-requires dump-function-requires same-length returns)

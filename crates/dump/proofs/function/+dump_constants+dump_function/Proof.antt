@@ -1,0 +1,508 @@
+use borrow.Author.Needs.{needs}
+use native.Mathlib.Omega.{arith}
+use Prim.Native.Nat.{ℕ, suc, _+_, _-_, _<_}
+use mathlib.Core.Path.{_≡_, refl, _∙_}
+use lib.ListN.{length}
+use Rattle.format.specs.Store.{functionPiece}
+use Rattle.format.specs.Valid.{Valid}
+use Rattle.format.specs.Write.{dumpFunction}
+use Rattle.proto.proofs.Loops.{Loop, loop-start, loop-turn, loop-end}
+use Rattle.proto.proofs.Walks.{none-deep}
+use Rattle.dump.specs.Step.{reached}
+use Rattle.dump.proofs.Steps.{DumpsAll, all-none, all-more}
+use Rattle.dump.proofs.Functions.{constants-dumped, function-dumped}
+use borrow.Fn.Kinds.{In}
+use borrow.Fn.PlainCycle.{Measures, is, falls, and}
+use Rattle.dump.proofs.function.dump_constants.Reads as dump-constants
+use Rattle.dump.proofs.function.dump_constants.Kinds as dump-constants-kinds
+use Rattle.dump.proofs.function.+dump_constants+dump_function.Lts-dump_constants as dump-constants-lts
+use Rattle.dump.proofs.function.dump_function.Reads as dump-function
+use Rattle.dump.proofs.function.dump_function.Kinds as dump-function-kinds
+use Rattle.dump.proofs.function.+dump_constants+dump_function.Lts-dump_function as dump-function-lts
+use Rattle.dump.proofs.function.dump_source.Reads as dump-source-reads
+use Rattle.dump.proofs.list.dump_code.Reads as dump-code-reads
+use Rattle.dump.proofs.list.dump_debug.Reads as dump-debug-reads
+use Rattle.dump.proofs.list.dump_packed.Reads as dump-packed-reads
+use Rattle.dump.proofs.list.dump_values.Reads as dump-values-reads
+use Rattle.dump.proofs.list.dump_word.Reads as dump-word-reads
+use Rattle.proto.proofs.walk.own_source.Reads as own-source-reads
+use Rattle.proto.proofs.walk.word_at.Reads as word-at-reads
+use Rattle.dump.proofs.function.+dump_constants+dump_function.{statement}
+use Rattle.dump.proofs.function.+dump_constants+dump_function.Tie.{close}
+
+-- The parts of a function one behind the other. The loop's invariant: whatever writes the other functions from here writes all of them.
+-- The measure is twice the allowance, and one more for dump_constants, which calls dump_function at the same allowance.
+
+abbrev μ-dump-constants : Measures 3 dump-constants-kinds.ps ℕ
+μ-dump-constants κs a = a .1 .1 .1 .1 .1 .1 .0 + a .1 .1 .1 .1 .1 .1 .0 + 1
+
+abbrev μ-dump-function : Measures 3 dump-function-kinds.ps ℕ
+μ-dump-function κs a = a .1 .1 .1 .1 .1 .1 .1 .0 + a .1 .1 .1 .1 .1 .1 .1 .0
+
+abbrev dump-constants-at : ℕ → In 3 dump-constants-kinds.ps
+dump-constants-at t =
+    and
+    3
+    dump-constants-kinds.ps
+    (is 3 dump-constants-kinds.ps μ-dump-constants t)
+    dump-constants.Pre
+
+abbrev dump-constants-below : ℕ → In 3 dump-constants-kinds.ps
+dump-constants-below t =
+    and
+    3
+    dump-constants-kinds.ps
+    (falls 3 dump-constants-kinds.ps _<_ μ-dump-constants t)
+    dump-constants.Pre
+
+abbrev dump-function-at : ℕ → In 3 dump-function-kinds.ps
+dump-function-at t =
+    and 3 dump-function-kinds.ps (is 3 dump-function-kinds.ps μ-dump-function t) dump-function.Pre
+
+abbrev dump-function-below : ℕ → In 3 dump-function-kinds.ps
+dump-function-below t =
+    and
+    3
+    dump-function-kinds.ps
+    (falls 3 dump-function-kinds.ps _<_ μ-dump-function t)
+    dump-function.Pre
+
+abbrev dump-constants-Inv-loop : dump-constants-lts.InvT-loop
+dump-constants-Inv-loop words text strip source out₀ allowance n p₀ i₀ out p i = (length out ≡ length out₀) × Loop (DumpsAll words text (λ f. Valid f allowance) functionPiece (λ f. dumpFunction f strip source source)) n (reached p₀ out₀) i (reached p out)
+
+abbrev dump-constants-μ-loop : dump-constants-lts.MeasureT-loop
+dump-constants-μ-loop words text strip source out₀ allowance n p₀ i₀ out p i = n - i
+
+dump-constants-dump-values-requires : (t : ℕ) → dump-constants-lts.Need-dump-values-requires (
+  dump-values-reads.Asked,
+  dump-values-reads.Learnt,
+  word-at-reads.Asked,
+  word-at-reads.Learnt,
+  dump-word-reads.Asked,
+  dump-word-reads.Learnt,
+  dump-function-below t,
+  dump-function.Post,
+) (dump-constants-at t) dump-constants.Post dump-constants-Inv-loop dump-constants-μ-loop
+dump-constants-dump-values-requires t c κs = search needs
+
+dump-constants-word-at-requires : (t : ℕ) → dump-constants-lts.Need-word-at-requires (
+  dump-values-reads.Asked,
+  dump-values-reads.Learnt,
+  word-at-reads.Asked,
+  word-at-reads.Learnt,
+  dump-word-reads.Asked,
+  dump-word-reads.Learnt,
+  dump-function-below t,
+  dump-function.Post,
+) (dump-constants-at t) dump-constants.Post dump-constants-Inv-loop dump-constants-μ-loop
+dump-constants-word-at-requires t c κs = search needs
+
+dump-constants-dump-word-requires : (t : ℕ) → dump-constants-lts.Need-dump-word-requires (
+  dump-values-reads.Asked,
+  dump-values-reads.Learnt,
+  word-at-reads.Asked,
+  word-at-reads.Learnt,
+  dump-word-reads.Asked,
+  dump-word-reads.Learnt,
+  dump-function-below t,
+  dump-function.Post,
+) (dump-constants-at t) dump-constants.Post dump-constants-Inv-loop dump-constants-μ-loop
+dump-constants-dump-word-requires t c κs = search needs
+
+dump-constants-loop-holds : (t : ℕ) → dump-constants-lts.Need-loop-holds (
+  dump-values-reads.Asked,
+  dump-values-reads.Learnt,
+  word-at-reads.Asked,
+  word-at-reads.Learnt,
+  dump-word-reads.Asked,
+  dump-word-reads.Learnt,
+  dump-function-below t,
+  dump-function.Post,
+) (dump-constants-at t) dump-constants.Post dump-constants-Inv-loop dump-constants-μ-loop
+dump-constants-loop-holds t c = (refl, loop-start)
+
+dump-constants-dump-function-requires : (t : ℕ) → dump-constants-lts.Need-dump-function-requires (
+  dump-values-reads.Asked,
+  dump-values-reads.Learnt,
+  word-at-reads.Asked,
+  word-at-reads.Learnt,
+  dump-word-reads.Asked,
+  dump-word-reads.Learnt,
+  dump-function-below t,
+  dump-function.Post,
+) (dump-constants-at t) dump-constants.Post dump-constants-Inv-loop dump-constants-μ-loop
+dump-constants-dump-function-requires t c κs =
+    let c₁ = c .before .before .before .before .before .before .before .before .before .before .before .before .before .before .before .before in
+    (omega (arith, c₁ .pre .0), tt)
+
+dump-constants-add-i : (t : ℕ) → dump-constants-lts.Need-add-i (
+  dump-values-reads.Asked,
+  dump-values-reads.Learnt,
+  word-at-reads.Asked,
+  word-at-reads.Learnt,
+  dump-word-reads.Asked,
+  dump-word-reads.Learnt,
+  dump-function-below t,
+  dump-function.Post,
+) (dump-constants-at t) dump-constants.Post dump-constants-Inv-loop dump-constants-μ-loop
+dump-constants-add-i t c = omega arith
+
+dump-constants-loop-less : (t : ℕ) → dump-constants-lts.Need-loop-less (
+  dump-values-reads.Asked,
+  dump-values-reads.Learnt,
+  word-at-reads.Asked,
+  word-at-reads.Learnt,
+  dump-word-reads.Asked,
+  dump-word-reads.Learnt,
+  dump-function-below t,
+  dump-function.Post,
+) (dump-constants-at t) dump-constants.Post dump-constants-Inv-loop dump-constants-μ-loop
+dump-constants-loop-less t c = omega arith
+
+dump-constants-loop-again : (t : ℕ) → dump-constants-lts.Need-loop-again (
+  dump-values-reads.Asked,
+  dump-values-reads.Learnt,
+  word-at-reads.Asked,
+  word-at-reads.Learnt,
+  dump-word-reads.Asked,
+  dump-word-reads.Learnt,
+  dump-function-below t,
+  dump-function.Post,
+) (dump-constants-at t) dump-constants.Post dump-constants-Inv-loop dump-constants-μ-loop
+dump-constants-loop-again t c =
+    let c₁ = c .before .before in
+    let c₂ = c₁ .before .before .before in
+    (c₁ .dump-function .kept .1 .1 .1 .1 .1 .0 ∙ c₂ .loop .inv .0, loop-turn (omega arith) (c₂ .loop .inv .1) (all-more (c₁ .dump-function .ensures)))
+
+dump-constants-same-length : (t : ℕ) → dump-constants-lts.Need-same-length (
+  dump-values-reads.Asked,
+  dump-values-reads.Learnt,
+  word-at-reads.Asked,
+  word-at-reads.Learnt,
+  dump-word-reads.Asked,
+  dump-word-reads.Learnt,
+  dump-function-below t,
+  dump-function.Post,
+) (dump-constants-at t) dump-constants.Post dump-constants-Inv-loop dump-constants-μ-loop
+dump-constants-same-length t c =
+    let c₁ = c .before in
+    let c₂ = c₁ .before .before .before in
+    let c₃ = c₂ .before .before .before .before .before in
+    c₁ .loop .inv .0 ∙ c₂ .dump-word .kept .1 .0 ∙ c₃ .dump-values .kept .1 .1 .0
+
+dump-constants-returns : (t : ℕ) → dump-constants-lts.Need-returns (
+  dump-values-reads.Asked,
+  dump-values-reads.Learnt,
+  word-at-reads.Asked,
+  word-at-reads.Learnt,
+  dump-word-reads.Asked,
+  dump-word-reads.Learnt,
+  dump-function-below t,
+  dump-function.Post,
+) (dump-constants-at t) dump-constants.Post dump-constants-Inv-loop dump-constants-μ-loop
+dump-constants-returns t c =
+    let c₁ = c .before in
+    let c₂ = c₁ .before .before .before in
+    let c₃ = c₂ .before .before in
+    let c₄ = c₃ .before .before .before in
+    let c₅ = c₄ .before .before .before .before .before .before in
+    constants-dumped (c₅ .args .allowance) (c₅ .args .strip) (c₅ .args .source .now) (c₄ .dump-values .ensures) (c₃ .word-at .ensures) (c₂ .dump-word .ensures) (loop-end (omega arith) (c₁ .loop .inv .1) all-none)
+
+dump-function-returns : (t : ℕ) → dump-function-lts.Need-returns (
+  own-source-reads.Asked,
+  own-source-reads.Learnt,
+  dump-source-reads.Asked,
+  dump-source-reads.Learnt,
+  dump-word-reads.Asked,
+  dump-word-reads.Learnt,
+  dump-packed-reads.Asked,
+  dump-packed-reads.Learnt,
+  dump-code-reads.Asked,
+  dump-code-reads.Learnt,
+  dump-constants-below t,
+  dump-constants.Post,
+  dump-debug-reads.Asked,
+  dump-debug-reads.Learnt,
+) (dump-function-at t) dump-function.Post
+dump-function-returns t c = λ f v. absurd (none-deep (c .if1 .taken) f v)
+
+dump-function-own-source-requires : (t : ℕ) → dump-function-lts.Need-own-source-requires (
+  own-source-reads.Asked,
+  own-source-reads.Learnt,
+  dump-source-reads.Asked,
+  dump-source-reads.Learnt,
+  dump-word-reads.Asked,
+  dump-word-reads.Learnt,
+  dump-packed-reads.Asked,
+  dump-packed-reads.Learnt,
+  dump-code-reads.Asked,
+  dump-code-reads.Learnt,
+  dump-constants-below t,
+  dump-constants.Post,
+  dump-debug-reads.Asked,
+  dump-debug-reads.Learnt,
+) (dump-function-at t) dump-function.Post
+dump-function-own-source-requires t c κs = search needs
+
+dump-function-dump-source-requires : (t : ℕ) → dump-function-lts.Need-dump-source-requires (
+  own-source-reads.Asked,
+  own-source-reads.Learnt,
+  dump-source-reads.Asked,
+  dump-source-reads.Learnt,
+  dump-word-reads.Asked,
+  dump-word-reads.Learnt,
+  dump-packed-reads.Asked,
+  dump-packed-reads.Learnt,
+  dump-code-reads.Asked,
+  dump-code-reads.Learnt,
+  dump-constants-below t,
+  dump-constants.Post,
+  dump-debug-reads.Asked,
+  dump-debug-reads.Learnt,
+) (dump-function-at t) dump-function.Post
+dump-function-dump-source-requires t c κs = search needs
+
+dump-function-dump-word-requires : (t : ℕ) → dump-function-lts.Need-dump-word-requires (
+  own-source-reads.Asked,
+  own-source-reads.Learnt,
+  dump-source-reads.Asked,
+  dump-source-reads.Learnt,
+  dump-word-reads.Asked,
+  dump-word-reads.Learnt,
+  dump-packed-reads.Asked,
+  dump-packed-reads.Learnt,
+  dump-code-reads.Asked,
+  dump-code-reads.Learnt,
+  dump-constants-below t,
+  dump-constants.Post,
+  dump-debug-reads.Asked,
+  dump-debug-reads.Learnt,
+) (dump-function-at t) dump-function.Post
+dump-function-dump-word-requires t c κs = search needs
+
+dump-function-dump-word-requires-2 : (t : ℕ) → dump-function-lts.Need-dump-word-requires-2 (
+  own-source-reads.Asked,
+  own-source-reads.Learnt,
+  dump-source-reads.Asked,
+  dump-source-reads.Learnt,
+  dump-word-reads.Asked,
+  dump-word-reads.Learnt,
+  dump-packed-reads.Asked,
+  dump-packed-reads.Learnt,
+  dump-code-reads.Asked,
+  dump-code-reads.Learnt,
+  dump-constants-below t,
+  dump-constants.Post,
+  dump-debug-reads.Asked,
+  dump-debug-reads.Learnt,
+) (dump-function-at t) dump-function.Post
+dump-function-dump-word-requires-2 t c κs = search needs
+
+dump-function-dump-packed-requires : (t : ℕ) → dump-function-lts.Need-dump-packed-requires (
+  own-source-reads.Asked,
+  own-source-reads.Learnt,
+  dump-source-reads.Asked,
+  dump-source-reads.Learnt,
+  dump-word-reads.Asked,
+  dump-word-reads.Learnt,
+  dump-packed-reads.Asked,
+  dump-packed-reads.Learnt,
+  dump-code-reads.Asked,
+  dump-code-reads.Learnt,
+  dump-constants-below t,
+  dump-constants.Post,
+  dump-debug-reads.Asked,
+  dump-debug-reads.Learnt,
+) (dump-function-at t) dump-function.Post
+dump-function-dump-packed-requires t c κs = search needs
+
+dump-function-dump-code-requires : (t : ℕ) → dump-function-lts.Need-dump-code-requires (
+  own-source-reads.Asked,
+  own-source-reads.Learnt,
+  dump-source-reads.Asked,
+  dump-source-reads.Learnt,
+  dump-word-reads.Asked,
+  dump-word-reads.Learnt,
+  dump-packed-reads.Asked,
+  dump-packed-reads.Learnt,
+  dump-code-reads.Asked,
+  dump-code-reads.Learnt,
+  dump-constants-below t,
+  dump-constants.Post,
+  dump-debug-reads.Asked,
+  dump-debug-reads.Learnt,
+) (dump-function-at t) dump-function.Post
+dump-function-dump-code-requires t c κs = search needs
+
+dump-function-sub-dump-constants : (t : ℕ) → dump-function-lts.Need-sub-dump-constants (
+  own-source-reads.Asked,
+  own-source-reads.Learnt,
+  dump-source-reads.Asked,
+  dump-source-reads.Learnt,
+  dump-word-reads.Asked,
+  dump-word-reads.Learnt,
+  dump-packed-reads.Asked,
+  dump-packed-reads.Learnt,
+  dump-code-reads.Asked,
+  dump-code-reads.Learnt,
+  dump-constants-below t,
+  dump-constants.Post,
+  dump-debug-reads.Asked,
+  dump-debug-reads.Learnt,
+) (dump-function-at t) dump-function.Post
+dump-function-sub-dump-constants t c =
+    let c₁ = c .before .before .before .before .before .before .before .before .before .before .before .before .before .before .before .before .before .before .before .before .before .before in
+    omega (arith, c₁ .if1 .left)
+
+dump-function-dump-constants-requires : (t : ℕ) → dump-function-lts.Need-dump-constants-requires (
+  own-source-reads.Asked,
+  own-source-reads.Learnt,
+  dump-source-reads.Asked,
+  dump-source-reads.Learnt,
+  dump-word-reads.Asked,
+  dump-word-reads.Learnt,
+  dump-packed-reads.Asked,
+  dump-packed-reads.Learnt,
+  dump-code-reads.Asked,
+  dump-code-reads.Learnt,
+  dump-constants-below t,
+  dump-constants.Post,
+  dump-debug-reads.Asked,
+  dump-debug-reads.Learnt,
+) (dump-function-at t) dump-function.Post
+dump-function-dump-constants-requires t c κs =
+    let c₁ = c .before .before .before .before .before .before .before .before .before .before .before .before .before .before .before .before .before .before .before .before .before .before in
+    let c₂ = c₁ .before .before .before .before .before in
+    (omega (arith, c₂ .pre .0, c₁ .if1 .left), tt)
+
+dump-function-dump-debug-requires : (t : ℕ) → dump-function-lts.Need-dump-debug-requires (
+  own-source-reads.Asked,
+  own-source-reads.Learnt,
+  dump-source-reads.Asked,
+  dump-source-reads.Learnt,
+  dump-word-reads.Asked,
+  dump-word-reads.Learnt,
+  dump-packed-reads.Asked,
+  dump-packed-reads.Learnt,
+  dump-code-reads.Asked,
+  dump-code-reads.Learnt,
+  dump-constants-below t,
+  dump-constants.Post,
+  dump-debug-reads.Asked,
+  dump-debug-reads.Learnt,
+) (dump-function-at t) dump-function.Post
+dump-function-dump-debug-requires t c κs = search needs
+
+dump-function-same-length : (t : ℕ) → dump-function-lts.Need-same-length (
+  own-source-reads.Asked,
+  own-source-reads.Learnt,
+  dump-source-reads.Asked,
+  dump-source-reads.Learnt,
+  dump-word-reads.Asked,
+  dump-word-reads.Learnt,
+  dump-packed-reads.Asked,
+  dump-packed-reads.Learnt,
+  dump-code-reads.Asked,
+  dump-code-reads.Learnt,
+  dump-constants-below t,
+  dump-constants.Post,
+  dump-debug-reads.Asked,
+  dump-debug-reads.Learnt,
+) (dump-function-at t) dump-function.Post
+dump-function-same-length t c =
+    let c₁ = c .before .before in
+    let c₂ = c₁ .before .before .before .before in
+    let c₃ = c₂ .before .before .before .before in
+    let c₄ = c₃ .before .before .before .before in
+    let c₅ = c₄ .before .before .before .before in
+    let c₆ = c₅ .before .before .before .before in
+    let c₇ = c₆ .before .before .before .before in
+    c₁ .dump-debug .kept .1 .1 .1 .0 ∙ c₂ .dump-constants .kept .1 .1 .1 .1 .0 ∙ c₃ .dump-code .kept .1 .0 ∙ c₄ .dump-packed .kept .1 .0 ∙ c₅ .dump-word2 .kept .1 .0 ∙ c₆ .dump-word .kept .1 .0 ∙ c₇ .dump-source .kept .1 .1 .1 .1 .0
+
+dump-function-returns-2 : (t : ℕ) → dump-function-lts.Need-returns-2 (
+  own-source-reads.Asked,
+  own-source-reads.Learnt,
+  dump-source-reads.Asked,
+  dump-source-reads.Learnt,
+  dump-word-reads.Asked,
+  dump-word-reads.Learnt,
+  dump-packed-reads.Asked,
+  dump-packed-reads.Learnt,
+  dump-code-reads.Asked,
+  dump-code-reads.Learnt,
+  dump-constants-below t,
+  dump-constants.Post,
+  dump-debug-reads.Asked,
+  dump-debug-reads.Learnt,
+) (dump-function-at t) dump-function.Post
+dump-function-returns-2 t c =
+    let c₁ = c .before .before in
+    let c₂ = c₁ .before .before .before .before in
+    let c₃ = c₂ .before .before .before .before in
+    let c₄ = c₃ .before .before .before .before in
+    let c₅ = c₄ .before .before .before .before in
+    let c₆ = c₅ .before .before .before .before in
+    let c₇ = c₆ .before .before .before .before in
+    let c₈ = c₇ .before .before in
+    let c₉ = c₈ .before in
+    let c₁₀ = c₉ .before .before .before .before .before in
+    let n = c₁₀ .args .allowance - 1 in
+    let e : c₁₀ .args .allowance ≡ suc n = omega (arith, c₉ .if1 .left) in
+    rw e (function-dumped n (c₁₀ .args .strip) (c₁₀ .args .root) (c₁₀ .args .outer .now) (c₈ .own-source .result .now) (c₈ .own-source .ensures) (c₇ .dump-source .ensures) (c₆ .dump-word .ensures) (c₅ .dump-word2 .ensures) (c₄ .dump-packed .ensures) (c₃ .dump-code .ensures) (c₂ .dump-constants .ensures) (c₁ .dump-debug .ensures))
+
+pub +dump-constants+dump-function-spec : {M : Type 1} → statement M
++dump-constants+dump-function-spec =
+    close μ-dump-constants μ-dump-function (λ t. dump-constants-lts.spec (
+      dump-values-reads.Asked,
+      dump-values-reads.Learnt,
+      word-at-reads.Asked,
+      word-at-reads.Learnt,
+      dump-word-reads.Asked,
+      dump-word-reads.Learnt,
+      dump-function-below t,
+      dump-function.Post,
+    )
+    (dump-constants-at t)
+    dump-constants.Post
+    dump-constants-Inv-loop
+    dump-constants-μ-loop
+    (dump-constants-dump-values-requires t)
+    (dump-constants-word-at-requires t)
+    (dump-constants-dump-word-requires t)
+    (dump-constants-loop-holds t)
+    (dump-constants-dump-function-requires t)
+    (dump-constants-add-i t)
+    (dump-constants-loop-less t)
+    (dump-constants-loop-again t)
+    (dump-constants-same-length t)
+    (dump-constants-returns t))
+    λ t. dump-function-lts.spec (
+      own-source-reads.Asked,
+      own-source-reads.Learnt,
+      dump-source-reads.Asked,
+      dump-source-reads.Learnt,
+      dump-word-reads.Asked,
+      dump-word-reads.Learnt,
+      dump-packed-reads.Asked,
+      dump-packed-reads.Learnt,
+      dump-code-reads.Asked,
+      dump-code-reads.Learnt,
+      dump-constants-below t,
+      dump-constants.Post,
+      dump-debug-reads.Asked,
+      dump-debug-reads.Learnt,
+    )
+    (dump-function-at t)
+    dump-function.Post
+    (dump-function-returns t)
+    (dump-function-own-source-requires t)
+    (dump-function-dump-source-requires t)
+    (dump-function-dump-word-requires t)
+    (dump-function-dump-word-requires-2 t)
+    (dump-function-dump-packed-requires t)
+    (dump-function-dump-code-requires t)
+    (dump-function-sub-dump-constants t)
+    (dump-function-dump-constants-requires t)
+    (dump-function-dump-debug-requires t)
+    (dump-function-same-length t)
+    (dump-function-returns-2 t)

@@ -1,0 +1,31 @@
+use borrow.Author.Needs.{needs}
+use native.Mathlib.Omega.{arith}
+use Rattle.dump.proofs.Steps.{local-dumped}
+use Rattle.dump.proofs.list.dump_local.Statement.{statement}
+use Rattle.dump.proofs.list.dump_local.Tie as tie
+
+-- Three pieces one behind the other.
+
+dump-name-requires : tie.Need-dump-name-requires
+dump-name-requires c κs = search needs
+
+dump-word-requires : tie.Need-dump-word-requires
+dump-word-requires c κs = search needs
+
+dump-word-requires-2 : tie.Need-dump-word-requires-2
+dump-word-requires-2 c κs = search needs
+
+same-length : tie.Need-same-length
+same-length c = search needs
+
+returns : tie.Need-returns
+returns c =
+    let c₁ = c .before .before in
+    let c₂ = c₁ .before .before .before .before in
+    let c₃ = c₂ .before .before .before .before in
+    local-dumped (c₃ .dump-name .ensures) (c₂ .dump-word .ensures) (c₁ .dump-word2 .ensures)
+
+pub dump-local-spec : {M : Type 1} → statement M
+dump-local-spec =
+    tie.close
+    (tie.spec dump-name-requires dump-word-requires dump-word-requires-2 same-length returns)

@@ -1,0 +1,76 @@
+// Writing a chunk from a tree in lent memory (ldump.c; in the Rust, dump.rs).
+pub mod block;
+pub mod function;
+pub mod list;
+
+use block::dump_block;
+use format::Written;
+use format::name_ok;
+use function::dump_function;
+use list::DumpState;
+use proto::formed::DEPTH;
+use proto::formed::check_store;
+ghost use mathlib.Core.Path.{_≡_};
+ghost use mathlib.Core.List.{[]};
+ghost use Rattle.lent.specs.Memory.{Puts};
+ghost use Rattle.format.specs.Tree.{Function};
+ghost use Rattle.format.specs.Valid.{Holds};
+ghost use Rattle.format.specs.Write.{dumpHeader, dumpChunk};
+ghost use Rattle.format.specs.Dump.{writeRefused, dumped};
+ghost use Rattle.dump.specs.Step.{writeLeft};
+
+fn refused(n: u32) -> Written
+    ensures { λ r. ⌜ r ≡ writeRefused n [] .answer ⌝ }
+{
+    Written { refusal: n, len: 0 }
+}
+
+// The signature, then the version, the format and the sizes: 12 bytes.
+fn dump_header(out: &mut [u8]) -> usize
+    ensures { λ r. ⌜ Puts dumpHeader 0 (now (out .entry)) r (now (out .exit)) ⌝ }
+{
+    dump_block(out, 0, b"\x1bLua\x51\x00\x01\x04\x08\x04\x08\x00")
+}
+
+// The chunk of the tree that a store holds. Answers how many bytes it has.
+fn dump_chunk<'a>(
+    words: &[u32],
+    text: &'a [u8],
+    name: &'a [u8],
+    strip: bool,
+    out: &mut [u8],
+) -> usize
+    ensures { λ r. ⌜ ((f : Function) → Holds (now (words .entry)) (now (text .entry)) f → Puts (dumpChunk strip (now (name .entry)) f) 0 (now (out .entry)) r (now (out .exit))) ⌝ }
+{
+    let start = DumpState {
+        at: 0,
+        len: dump_header(out),
+    };
+    let end = dump_function(words, text, strip, name, true, out, start, DEPTH);
+    end.len
+}
+
+// Writes the chunk of a store to lent memory: once with no space, to count, then, where all fits, to write. Refused by 1, 10, 11.
+pub fn dump<'a>(
+    words: &[u32],
+    text: &'a [u8],
+    name: &'a [u8],
+    strip: bool,
+    out: &mut [u8],
+) -> Written
+    ensures { λ r. ⌜ writeLeft r (now (out .exit)) ≡ dumped (now (words .entry)) (now (text .entry)) (now (name .entry)) strip (now (out .entry)) ⌝ }
+{
+    if !name_ok(name) {
+        return refused(1);
+    }
+    if !check_store(words, text) {
+        return refused(10);
+    }
+    let mut no_space = [0u8; 0];
+    let len = dump_chunk(words, text, name, strip, &mut no_space);
+    if out.len() < len {
+        return refused(11);
+    }
+    dump_chunk(words, text, name, strip, out);
+    Written { refusal: 0, len }
+}

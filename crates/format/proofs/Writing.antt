@@ -1,0 +1,24 @@
+-- A call that counts its bytes with no space, and writes them where they fit.
+use Prim.Native.Nat.{ℕ, _+_, _≤_, _<_, min}
+use mathlib.Core.Path.{_≡_, _∙_}
+use mathlib.Core.List.{List, []}
+use native.Mathlib.Omega.{arith}
+use native.Mathlib.Nat.{zero-add}
+use lib.ListN.{length}
+use borrow.Author.Tests.{le-leb, lt-leb}
+use Rattle.lent.specs.Memory.{far, Puts}
+use Rattle.lent.proofs.Writes.{put-fits}
+use Rattle.format.specs.Dump.{WriteLeft, writeRefused, written}
+
+counted : {bytes last : List ℕ} {n : ℕ} → Puts bytes 0 [] n last → n ≡ min (length bytes) far
+counted p = p .puts (omega arith) (omega arith) .0 ∙ omega arith
+
+module _ {bytes last : List ℕ} {n : ℕ} (out : List ℕ) (counts : Puts bytes 0 [] n last) (fits : length out < far) where
+  -- there is too little room: 11
+  pub written-short : length out < n → writeRefused 11 out ≡ written bytes out
+  written-short h = rw (lt-leb (length bytes) (length out) (omega (arith, counted counts)))
+
+  pub written-all : {r : ℕ} {out′ : List ℕ} → n ≤ length out → Puts bytes 0 out r out′ → record { answer = record { refusal = 0; len = n }; out = out′ } ≡ written bytes out
+  written-all h p =
+      let e : n ≡ length bytes = omega (arith, counted counts) in
+      rw (le-leb (length bytes) (length out) (omega (arith, e)), e, put-fits p (omega (arith, e)) (omega arith) .1, zero-add)

@@ -1,0 +1,34 @@
+use borrow.Author.Needs.{needs}
+use native.Mathlib.Omega.{arith}
+use Rattle.lines.proofs.Shows.{shows-put, shows-then}
+use Rattle.lines.proofs.comment.comment_both.Statement.{statement}
+use Rattle.lines.proofs.comment.comment_both.Tie as tie
+
+put-comment-requires : tie.Need-put-comment-requires
+put-comment-requires c κs = search needs
+
+operand-constant-requires : tie.Need-operand-constant-requires
+operand-constant-requires c κs = search needs
+
+put-byte-requires : tie.Need-put-byte-requires
+put-byte-requires c κs = search needs
+
+operand-constant-requires-2 : tie.Need-operand-constant-requires-2
+operand-constant-requires-2 c κs = search needs
+
+same-length : tie.Need-same-length
+same-length c = search needs
+
+returns : tie.Need-returns
+returns c = shows-then (shows-put (c .before .before .before .before .before .before .before .before .before .before .before .before .before .before .put-comment .ensures)) (shows-then (shows-then (c .before .before .before .before .before .before .before .before .before .before .operand-constant .ensures) (shows-put (c .before .before .before .before .before .before .put-byte .ensures))) (c .before .before .operand-constant2 .ensures))
+
+pub comment-both-spec : {M : Type 1} → statement M
+comment-both-spec =
+    tie.close
+    (tie.spec
+    put-comment-requires
+    operand-constant-requires
+    put-byte-requires
+    operand-constant-requires-2
+    same-length
+    returns)

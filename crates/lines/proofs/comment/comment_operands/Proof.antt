@@ -1,0 +1,48 @@
+use borrow.Author.Needs.{needs}
+use native.Mathlib.Omega.{arith}
+use mathlib.Core.Path.{sym, _∙_}
+use Rattle.lent.proofs.Writes.{put-none}
+use Rattle.lines.proofs.Shows.{shows-put, shows-is}
+use Rattle.lines.proofs.comment.comment_operands.Statement.{statement}
+use Rattle.lines.proofs.comment.comment_operands.Tie as tie
+
+is-k-requires : tie.Need-is-k-requires
+is-k-requires c κs = search needs
+
+comment-both-requires : tie.Need-comment-both-requires
+comment-both-requires c κs = search needs
+
+same-length : tie.Need-same-length
+same-length c = search needs
+
+returns : tie.Need-returns
+returns c = shows-is (c .before .before .comment-both .ensures) (λ l. rw (sym (c .before .before .before .before .before .is-k .ensures) ∙ c .before .before .before .before .if1 .taken))
+
+is-k-requires-2 : tie.Need-is-k-requires-2
+is-k-requires-2 c κs = search needs
+
+comment-both-requires-2 : tie.Need-comment-both-requires-2
+comment-both-requires-2 c κs = search needs
+
+same-length-2 : tie.Need-same-length-2
+same-length-2 c = search needs
+
+returns-2 : tie.Need-returns-2
+returns-2 c = shows-is (c .before .before .comment-both2 .ensures) (λ l. rw (sym (c .before .before .before .before .before .before .before .is-k .ensures) ∙ c .before .before .before .before .before .before .if1 .left, sym (c .before .before .before .before .before .is-k2 .ensures) ∙ c .before .before .before .before .if2 .taken))
+
+returns-3 : tie.Need-returns-3
+returns-3 c = shows-is (shows-put put-none) (λ l. rw (sym (c .before .before .before .is-k .ensures) ∙ c .before .before .if1 .left, sym (c .before .is-k2 .ensures) ∙ c .if2 .left))
+
+pub comment-operands-spec : {M : Type 1} → statement M
+comment-operands-spec =
+    tie.close
+    (tie.spec
+    is-k-requires
+    comment-both-requires
+    same-length
+    returns
+    is-k-requires-2
+    comment-both-requires-2
+    same-length-2
+    returns-2
+    returns-3)

@@ -1,0 +1,69 @@
+use borrow.Author.Needs.{needs}
+use native.Mathlib.Omega.{arith}
+use mathlib.Core.Path.{refl}
+use mathlib.Core.Option.{some}
+use Rattle.format.specs.Store.{word}
+use Rattle.lent.proofs.Writes.{put-none}
+use borrow.Author.Tests.{eq-eqb, ne-eqb}
+use Prim.Native.Nat.{_+_}
+use Rattle.lines.specs.Line.{extraText}
+use Rattle.lines.proofs.Shows.{shows-put, shows-is, shows-ints, shows-past, shows-item, word-shown}
+use Rattle.lines.proofs.comment.comment_set_list.Statement.{statement}
+use Rattle.lines.proofs.comment.comment_set_list.Tie as tie
+
+comment-items-requires : tie.Need-comment-items-requires
+comment-items-requires c κs = search needs
+
+same-length : tie.Need-same-length
+same-length c = search needs
+
+returns : tie.Need-returns
+returns c = λ t. shows-is (shows-put (c .before .before .comment-items .ensures)) (λ l. rw (ne-eqb _ _ (c .before .before .before .before .if1 .taken)))
+
+word-at-requires : tie.Need-word-at-requires
+word-at-requires c κs = search needs
+
+returns-2 : tie.Need-returns-2
+returns-2 c = λ t. shows-is (shows-ints (shows-past word extraText {i = c .before .before .before .before .before .args .pc + 1} (c .before .word-at .ensures) (omega arith) put-none)) (λ l. rw (eq-eqb _ _ (c .before .before .if1 .left)))
+
+sub-if3 : tie.Need-sub-if3
+sub-if3 c = omega arith
+
+returns-3 : tie.Need-returns-3
+returns-3 c = λ t. shows-is (shows-ints (shows-past word extraText {i = c .before .before .before .before .before .before .args .pc + 1} (c .before .before .word-at .ensures) (omega arith) put-none)) (λ l. rw (eq-eqb _ _ (c .before .before .before .if1 .left)))
+
+add-item-at : tie.Need-add-item-at
+add-item-at c = omega arith
+
+item-at-requires : tie.Need-item-at-requires
+item-at-requires c κs = search needs
+
+word-at-requires-2 : tie.Need-word-at-requires-2
+word-at-requires-2 c κs = search needs
+
+comment-items-requires-2 : tie.Need-comment-items-requires-2
+comment-items-requires-2 c κs = search needs
+
+same-length-2 : tie.Need-same-length-2
+same-length-2 c = search needs
+
+returns-4 : tie.Need-returns-4
+returns-4 c = λ t. shows-is (shows-ints (shows-item word 1 (λ a to. refl) extraText {i = c .before .before .before .before .before .before .before .before .before .before .before .before .args .pc + 1} (c .before .before .before .before .before .before .before .before .word-at .ensures) (omega arith) (c .before .before .before .before .before .item-at .ensures) (word-shown (λ w. extraText (some w)) (c .before .before .before .before .word-at2 .ensures) (c .before .before .comment-items2 .ensures)))) (λ l. rw (eq-eqb _ _ (c .before .before .before .before .before .before .before .before .before .if1 .left)))
+
+pub comment-set-list-spec : {M : Type 1} → statement M
+comment-set-list-spec =
+    tie.close
+    (tie.spec
+    comment-items-requires
+    same-length
+    returns
+    word-at-requires
+    returns-2
+    sub-if3
+    returns-3
+    add-item-at
+    item-at-requires
+    word-at-requires-2
+    comment-items-requires-2
+    same-length-2
+    returns-4)

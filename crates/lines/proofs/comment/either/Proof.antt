@@ -1,0 +1,15 @@
+use borrow.Author.Needs.{needs}
+use native.Mathlib.Omega.{arith}
+use borrow.Author.Tests.{eq-eqb, ne-eqb}
+use Rattle.lines.proofs.Shows.{or-false}
+use Rattle.lines.proofs.comment.either.Statement.{statement}
+use Rattle.lines.proofs.comment.either.Tie as tie
+
+returns : tie.Need-returns
+returns c = rw (eq-eqb _ _ (c .if1 .taken))
+
+returns-2 : tie.Need-returns-2
+returns-2 c = rw (ne-eqb _ _ (c .if1 .left), or-false)
+
+pub either-spec : {M : Type 1} → statement M
+either-spec = tie.close (tie.spec returns returns-2)

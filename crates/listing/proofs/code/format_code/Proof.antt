@@ -1,0 +1,69 @@
+use borrow.Author.Needs.{needs}
+use native.Mathlib.Omega.{arith}
+use Prim.Native.Nat.{_-_}
+use mathlib.Core.Path.{_≡_, refl, _∙_}
+use lib.ListN.{length}
+use Rattle.listing.proofs.Codes.{Codes, codes-start, codes-turn, codes-end}
+use Rattle.listing.proofs.code.format_code.Statement.{statement}
+use Rattle.listing.proofs.code.format_code.Tie as tie
+
+abbrev Inv-loop : tie.InvT-loop
+Inv-loop words text lists number allowance out₀ at n kept₀ o₀ pc₀ out kept o pc = (length out ≡ length out₀) × Codes words text lists allowance number kept pc o out o₀ out₀
+
+abbrev μ-loop : tie.MeasureT-loop
+μ-loop words text lists number allowance out₀ at n kept₀ o₀ pc₀ out kept o pc = n - pc
+
+word-at-requires : tie.Need-word-at-requires Inv-loop μ-loop
+word-at-requires c κs = search needs
+
+first-child-requires : tie.Need-first-child-requires Inv-loop μ-loop
+first-child-requires c κs = search needs
+
+loop-holds : tie.Need-loop-holds Inv-loop μ-loop
+loop-holds c = (refl, codes-start (λ x k. c .first-child .ensures .0 (c .before .before .before .before .before .args .allowance) (x .functions) (c .before .before .before .before .before .args .text .now) (k .at-lists .functions) (k .valid) (k .small)))
+
+item-at-requires : tie.Need-item-at-requires Inv-loop μ-loop
+item-at-requires c κs = search needs
+
+word-at-requires-2 : tie.Need-word-at-requires-2 Inv-loop μ-loop
+word-at-requires-2 c κs = search needs
+
+closure-child-requires : tie.Need-closure-child-requires Inv-loop μ-loop
+closure-child-requires c κs = search needs
+
+format-instruction-requires : tie.Need-format-instruction-requires Inv-loop μ-loop
+format-instruction-requires c κs = search needs
+
+add-pc : tie.Need-add-pc Inv-loop μ-loop
+add-pc c = omega arith
+
+loop-less : tie.Need-loop-less Inv-loop μ-loop
+loop-less c = omega arith
+
+loop-again : tie.Need-loop-again Inv-loop μ-loop
+loop-again c = (c .before .before .format-instruction .kept .1 .1 .1 .1 .1 .1 .0 ∙ c .before .before .before .before .before .before .before .before .loop .inv .0, codes-turn (c .before .before .before .before .before .before .before .before .before .before .word-at .ensures) (omega arith) (c .before .before .before .before .before .before .before .before .loop .inv .1) (c .before .before .before .before .before .before .item-at .ensures) (c .before .before .before .before .before .word-at2 .ensures) (c .before .before .before .before .closure-child .ensures) (c .before .before .format-instruction .ensures))
+
+same-length : tie.Need-same-length Inv-loop μ-loop
+same-length c = c .before .loop .inv .0
+
+returns : tie.Need-returns Inv-loop μ-loop
+returns c = codes-end (c .before .before .before .word-at .ensures) (omega arith) (c .before .loop .inv .1)
+
+pub format-code-spec : {M : Type 1} → statement M
+format-code-spec =
+    tie.close
+    (tie.spec
+    Inv-loop
+    μ-loop
+    word-at-requires
+    first-child-requires
+    loop-holds
+    item-at-requires
+    word-at-requires-2
+    closure-child-requires
+    format-instruction-requires
+    add-pc
+    loop-less
+    loop-again
+    same-length
+    returns)

@@ -1,0 +1,131 @@
+use borrow.Author.Needs.{needs}
+use native.Mathlib.Omega.{arith}
+use Prim.Native.Nat.{ℕ, suc, _-_, _<_}
+use mathlib.Core.Path.{_≡_, refl, _∙_}
+use lib.ListN.{length}
+use Rattle.proto.proofs.Loops.{Loop, loop-start, loop-turn, loop-end}
+use Rattle.proto.proofs.Walks.{none-deep}
+use Rattle.listing.specs.Lister.{reached}
+use Rattle.listing.proofs.Listers.{ListsAll, lists-none, lists-more, lists-function}
+use borrow.Fn.Kinds.{In}
+use borrow.Fn.PlainCycle.{Measures, is, falls, and}
+use Rattle.listing.proofs.function.list_function_recursive.Reads as list-function-recursive
+use Rattle.listing.proofs.function.list_function_recursive.Kinds as list-function-recursive-kinds
+use Rattle.listing.proofs.function.+list_function_recursive.Lts-list_function_recursive as list-function-recursive-lts
+use Rattle.lent.proofs.further.Reads as further-reads
+use Rattle.lent.proofs.put_byte.Reads as put-byte-reads
+use Rattle.listing.proofs.function.format_function.Reads as format-function-reads
+use Rattle.proto.proofs.walk.after_debug.Reads as after-debug-reads
+use Rattle.proto.proofs.walk.functions_at.Reads as functions-at-reads
+use Rattle.proto.proofs.walk.own_source.Reads as own-source-reads
+use Rattle.proto.proofs.walk.skip.Reads as skip-reads
+use Rattle.proto.proofs.walk.word_at.Reads as word-at-reads
+use Rattle.listing.proofs.function.+list_function_recursive.{statement}
+use Rattle.listing.proofs.function.+list_function_recursive.Tie.{close}
+
+abbrev μ-list-function-recursive : Measures 3 list-function-recursive-kinds.ps ℕ
+μ-list-function-recursive κs a = a .1 .1 .1 .1 .1 .1 .0
+
+abbrev list-function-recursive-at : ℕ → In 3 list-function-recursive-kinds.ps
+list-function-recursive-at t =
+    and
+    3
+    list-function-recursive-kinds.ps
+    (is 3 list-function-recursive-kinds.ps μ-list-function-recursive t)
+    list-function-recursive.Pre
+
+abbrev list-function-recursive-below : ℕ → In 3 list-function-recursive-kinds.ps
+list-function-recursive-below t =
+    and
+    3
+    list-function-recursive-kinds.ps
+    (falls 3 list-function-recursive-kinds.ps _<_ μ-list-function-recursive t)
+    list-function-recursive.Pre
+
+abbrev list-function-recursive-calls : ℕ → list-function-recursive-lts.Claims
+list-function-recursive-calls t = (own-source-reads.Asked, own-source-reads.Learnt, format-function-reads.Asked, format-function-reads.Learnt, functions-at-reads.Asked, functions-at-reads.Learnt, word-at-reads.Asked, word-at-reads.Learnt, skip-reads.Asked, skip-reads.Learnt, further-reads.Asked, further-reads.Learnt, put-byte-reads.Asked, put-byte-reads.Learnt, list-function-recursive-below t, list-function-recursive.Post, after-debug-reads.Asked, after-debug-reads.Learnt)
+
+abbrev list-function-recursive-Inv-loop : list-function-recursive-lts.InvT-loop
+list-function-recursive-Inv-loop words text outer full out₀ allowance source own list n r₀ i₀ out r i = (length out ≡ length out₀) × Loop (ListsAll words text full source (allowance - 1)) n (reached r₀ out₀) i (reached r out)
+
+abbrev list-function-recursive-μ-loop : list-function-recursive-lts.MeasureT-loop
+list-function-recursive-μ-loop words text outer full out₀ allowance source own list n r₀ i₀ out r i = n - i
+
+list-function-recursive-returns : (t : ℕ) → list-function-recursive-lts.Need-returns (list-function-recursive-calls t) (list-function-recursive-at t) list-function-recursive.Post list-function-recursive-Inv-loop list-function-recursive-μ-loop
+list-function-recursive-returns t c = λ f v. absurd (none-deep (c .if1 .taken) f v)
+
+list-function-recursive-own-source-requires : (t : ℕ) → list-function-recursive-lts.Need-own-source-requires (list-function-recursive-calls t) (list-function-recursive-at t) list-function-recursive.Post list-function-recursive-Inv-loop list-function-recursive-μ-loop
+list-function-recursive-own-source-requires t c κs = search needs
+
+list-function-recursive-sub-format-function : (t : ℕ) → list-function-recursive-lts.Need-sub-format-function (list-function-recursive-calls t) (list-function-recursive-at t) list-function-recursive.Post list-function-recursive-Inv-loop list-function-recursive-μ-loop
+list-function-recursive-sub-format-function t c = omega (arith, c .before .before .if1 .left)
+
+list-function-recursive-format-function-requires : (t : ℕ) → list-function-recursive-lts.Need-format-function-requires (list-function-recursive-calls t) (list-function-recursive-at t) list-function-recursive.Post list-function-recursive-Inv-loop list-function-recursive-μ-loop
+list-function-recursive-format-function-requires t c κs = search needs
+
+list-function-recursive-functions-at-requires : (t : ℕ) → list-function-recursive-lts.Need-functions-at-requires (list-function-recursive-calls t) (list-function-recursive-at t) list-function-recursive.Post list-function-recursive-Inv-loop list-function-recursive-μ-loop
+list-function-recursive-functions-at-requires t c κs = search needs
+
+list-function-recursive-word-at-requires : (t : ℕ) → list-function-recursive-lts.Need-word-at-requires (list-function-recursive-calls t) (list-function-recursive-at t) list-function-recursive.Post list-function-recursive-Inv-loop list-function-recursive-μ-loop
+list-function-recursive-word-at-requires t c κs = search needs
+
+list-function-recursive-skip-requires : (t : ℕ) → list-function-recursive-lts.Need-skip-requires (list-function-recursive-calls t) (list-function-recursive-at t) list-function-recursive.Post list-function-recursive-Inv-loop list-function-recursive-μ-loop
+list-function-recursive-skip-requires t c κs = search needs
+
+list-function-recursive-further-requires : (t : ℕ) → list-function-recursive-lts.Need-further-requires (list-function-recursive-calls t) (list-function-recursive-at t) list-function-recursive.Post list-function-recursive-Inv-loop list-function-recursive-μ-loop
+list-function-recursive-further-requires t c κs = search needs
+
+list-function-recursive-loop-holds : (t : ℕ) → list-function-recursive-lts.Need-loop-holds (list-function-recursive-calls t) (list-function-recursive-at t) list-function-recursive.Post list-function-recursive-Inv-loop list-function-recursive-μ-loop
+list-function-recursive-loop-holds t c = (refl, loop-start)
+
+list-function-recursive-put-byte-requires : (t : ℕ) → list-function-recursive-lts.Need-put-byte-requires (list-function-recursive-calls t) (list-function-recursive-at t) list-function-recursive.Post list-function-recursive-Inv-loop list-function-recursive-μ-loop
+list-function-recursive-put-byte-requires t c κs = search needs
+
+list-function-recursive-sub-list-function-recursive : (t : ℕ) → list-function-recursive-lts.Need-sub-list-function-recursive (list-function-recursive-calls t) (list-function-recursive-at t) list-function-recursive.Post list-function-recursive-Inv-loop list-function-recursive-μ-loop
+list-function-recursive-sub-list-function-recursive t c = omega (arith, c .before .before .before .before .before .before .before .before .before .before .before .before .before .before .before .before .if1 .left)
+
+list-function-recursive-list-function-recursive-requires : (t : ℕ) → list-function-recursive-lts.Need-list-function-recursive-requires (list-function-recursive-calls t) (list-function-recursive-at t) list-function-recursive.Post list-function-recursive-Inv-loop list-function-recursive-μ-loop
+list-function-recursive-list-function-recursive-requires t c κs = (omega (arith, c .before .before .before .before .before .before .before .before .before .before .before .before .before .before .before .before .before .before .before .before .before .pre .0, c .before .before .before .before .before .before .before .before .before .before .before .before .before .before .before .before .if1 .left), tt)
+
+list-function-recursive-add-i : (t : ℕ) → list-function-recursive-lts.Need-add-i (list-function-recursive-calls t) (list-function-recursive-at t) list-function-recursive.Post list-function-recursive-Inv-loop list-function-recursive-μ-loop
+list-function-recursive-add-i t c = omega arith
+
+list-function-recursive-loop-less : (t : ℕ) → list-function-recursive-lts.Need-loop-less (list-function-recursive-calls t) (list-function-recursive-at t) list-function-recursive.Post list-function-recursive-Inv-loop list-function-recursive-μ-loop
+list-function-recursive-loop-less t c = omega arith
+
+list-function-recursive-loop-again : (t : ℕ) → list-function-recursive-lts.Need-loop-again (list-function-recursive-calls t) (list-function-recursive-at t) list-function-recursive.Post list-function-recursive-Inv-loop list-function-recursive-μ-loop
+list-function-recursive-loop-again t c = (c .before .before .list-function-recursive .kept .1 .1 .1 .1 .0 ∙ c .before .before .before .before .before .before .put-byte .kept .0 ∙ c .before .before .before .before .before .before .before .before .before .loop .inv .0, loop-turn (omega arith) (c .before .before .before .before .before .before .before .before .before .loop .inv .1) (lists-more (c .before .before .before .before .before .before .put-byte .ensures) (c .before .before .list-function-recursive .ensures)))
+
+list-function-recursive-after-debug-requires : (t : ℕ) → list-function-recursive-lts.Need-after-debug-requires (list-function-recursive-calls t) (list-function-recursive-at t) list-function-recursive.Post list-function-recursive-Inv-loop list-function-recursive-μ-loop
+list-function-recursive-after-debug-requires t c κs = search needs
+
+list-function-recursive-same-length : (t : ℕ) → list-function-recursive-lts.Need-same-length (list-function-recursive-calls t) (list-function-recursive-at t) list-function-recursive.Post list-function-recursive-Inv-loop list-function-recursive-μ-loop
+list-function-recursive-same-length t c = c .before .before .loop .inv .0 ∙ c .before .before .before .before .before .before .before .before .before .format-function .kept .1 .1 .1 .1 .0
+
+list-function-recursive-returns-2 : (t : ℕ) → list-function-recursive-lts.Need-returns-2 (list-function-recursive-calls t) (list-function-recursive-at t) list-function-recursive.Post list-function-recursive-Inv-loop list-function-recursive-μ-loop
+list-function-recursive-returns-2 t c =
+    let n = c .before .before .before .before .before .before .before .before .before .before .before .before .before .before .before .before .before .args .allowance - 1 in
+    let e : c .before .before .before .before .before .before .before .before .before .before .before .before .before .before .before .before .before .args .allowance ≡ suc n = omega (arith, c .before .before .before .before .before .before .before .before .before .before .before .before .if1 .left) in
+    rw e (lists-function n (c .before .before .before .before .before .before .before .before .before .before .before .own-source .ensures) (c .before .before .before .before .before .before .before .before .before .format-function .ensures) (c .before .before .before .before .before .before .functions-at .ensures) (c .before .before .before .before .before .word-at .ensures) (c .before .before .before .before .skip .ensures) (c .before .before .before .further .ensures) (loop-end (omega arith) (c .before .before .loop .inv .1) lists-none) (c .after-debug .ensures))
+
+pub +list-function-recursive-spec : {M : Type 1} → statement M
++list-function-recursive-spec =
+    close μ-list-function-recursive λ t. list-function-recursive-lts.spec (list-function-recursive-calls t) (list-function-recursive-at t) list-function-recursive.Post list-function-recursive-Inv-loop list-function-recursive-μ-loop
+    (list-function-recursive-returns t)
+    (list-function-recursive-own-source-requires t)
+    (list-function-recursive-sub-format-function t)
+    (list-function-recursive-format-function-requires t)
+    (list-function-recursive-functions-at-requires t)
+    (list-function-recursive-word-at-requires t)
+    (list-function-recursive-skip-requires t)
+    (list-function-recursive-further-requires t)
+    (list-function-recursive-loop-holds t)
+    (list-function-recursive-put-byte-requires t)
+    (list-function-recursive-sub-list-function-recursive t)
+    (list-function-recursive-list-function-recursive-requires t)
+    (list-function-recursive-add-i t)
+    (list-function-recursive-loop-less t)
+    (list-function-recursive-loop-again t)
+    (list-function-recursive-after-debug-requires t)
+    (list-function-recursive-same-length t)
+    (list-function-recursive-returns-2 t)

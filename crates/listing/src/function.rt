@@ -1,0 +1,115 @@
+// Functions, one inside the other (listing.rs: list_function_recursive).
+use crate::code::format_code;
+use crate::code::lists_at;
+use crate::header::format_header;
+use crate::list::format_constants;
+use crate::list::format_locals;
+use crate::list::format_upvalues;
+use lent::further;
+use lent::put_byte;
+use lines::Lists;
+use proto::head::head_at;
+use proto::walk::after_debug;
+use proto::walk::functions_at;
+use proto::walk::own_source;
+use proto::walk::skip;
+use proto::walk::word_at;
+ghost use Prim.Native.Nat.{ℕ, _+_, _≤_};
+ghost use mathlib.Core.List.{List};
+ghost use Rattle.lent.specs.Memory.{Puts, far};
+ghost use Rattle.format.specs.Tree.{Parts, Function, Functions};
+ghost use Rattle.format.specs.Store.{functionPiece};
+ghost use Rattle.format.specs.Valid.{Valid, ValidParts, ValidAll};
+ghost use Rattle.proto.specs.Walk.{totalAll};
+ghost use Rattle.proto.proofs.Items.{StandsAt};
+ghost use Rattle.lines.specs.Shown.{ListsAt};
+ghost use Rattle.listing.specs.Listing.{formatLists, formatFunction};
+ghost use Rattle.listing.specs.Lister.{ListsFunction, reached};
+
+// Where the listing stands: a place in the words, the number of the function there, and a place in the output.
+pub struct ListState {
+    pub at: usize,
+    pub number: usize,
+    pub out: usize,
+}
+
+// What a full listing adds.
+fn format_lists(
+    words: &[u32],
+    text: &[u8],
+    lists: Lists,
+    full: bool,
+    number: usize,
+    out: &mut [u8],
+    at: usize,
+) -> usize
+    ensures { λ r. ⌜ ((p : Parts) (fs : Functions) → ListsAt (now (words .entry)) (now (text .entry)) lists p fs → Puts (formatLists full p number) at (now (out .entry)) r (now (out .exit))) ⌝ }
+{
+    if full {
+        let a = format_constants(words, text, lists.constants, number, out, at);
+        let b = format_locals(words, text, lists.locals, number, out, a);
+        return format_upvalues(words, text, lists.upvalues, number, out, b);
+    }
+    at
+}
+
+// A function without those in it.
+fn format_function(
+    words: &[u32],
+    text: &[u8],
+    source: &[u8],
+    full: bool,
+    out: &mut [u8],
+    s: ListState,
+    allowance: u32,
+) -> usize
+    ensures { λ r. ⌜ ((p : Parts) (fs : Functions) → ValidParts p → ValidAll fs allowance → StandsAt (now (words .entry)) (now (text .entry)) (s .at) (functionPiece (Function.function p fs)) → s .number + 1 + totalAll fs ≤ far → Puts (formatFunction p fs full (now (source .entry)) (s .number)) (s .out) (now (out .entry)) r (now (out .exit))) ⌝ }
+{
+    let lists = lists_at(words, s.at, allowance);
+    let head = head_at(words, s.at);
+    let a = format_header(words, head, lists, source, s.number, out, s.out);
+    let b = format_code(words, text, lists, s.number, allowance, out, a);
+    format_lists(words, text, lists, full, s.number, out, b)
+}
+
+// The function at s, and those in it, with so many nested at most. outer is the source that an inherited one stands for.
+pub fn list_function_recursive<'a>(
+    words: &[u32],
+    text: &'a [u8],
+    outer: &'a [u8],
+    full: bool,
+    out: &mut [u8],
+    s: ListState,
+    allowance: u32,
+) -> ListState
+    ensures { λ r. ⌜ ((f : Function) → Valid f allowance → ListsFunction (now (words .entry)) (now (text .entry)) full (now (outer .entry)) f (reached s (now (out .entry))) (reached r (now (out .exit)))) ⌝ }
+{
+    if allowance == 0 {
+        return s;
+    }
+    let source = own_source(words, text, outer, s.at);
+    let own = format_function(words, text, source, full, out, s, allowance - 1);
+    let list = functions_at(words, s.at);
+    let n = word_at(words, list);
+    let mut r = ListState {
+        at: skip(words, list, 1),
+        number: further(s.number, 1),
+        out: own,
+    };
+    let mut i: u32 = 0;
+    while i < n {
+        let line = put_byte(out, r.out, b'\n');
+        let next = ListState {
+            at: r.at,
+            number: r.number,
+            out: line,
+        };
+        r = list_function_recursive(words, text, source, full, out, next, allowance - 1);
+        i += 1;
+    }
+    ListState {
+        at: after_debug(words, r.at),
+        number: r.number,
+        out: r.out,
+    }
+}

@@ -1,0 +1,88 @@
+-- Integers in a row: what reading them gives, and what storing them leaves.
+use Prim.Native.Nat.{ℕ, zero, suc, _+_, _-_, _*_, _≤_, _<_, min}
+use mathlib.Core.Path.{_≡_, refl, ap}
+use mathlib.Core.List.{List, [], _∷_}
+use native.Mathlib.Omega.{arith}
+use native.Mathlib.Decide.{decLe}
+use lib.ListN.{length, take, drop, getD}
+use lib.Seq.{sets}
+use Rattle.lent.specs.Memory.{far, Puts}
+use Rattle.lent.proofs.Writes.{sets-suc, put-lost, put-part, put-none}
+use Rattle.format.specs.Read.{got, refused, loadInt, many, loadCount, loadList}
+use Rattle.format.specs.Store.{plain, word, ints}
+use Rattle.load.specs.declared.Load.{Load}
+use Rattle.load.specs.Step.{Step, fourAt, fours, space, Does, world, Loads}
+use Rattle.load.proofs.Bytes.{int-got, int-none}
+use Rattle.load.proofs.Steps.{passed, takes, stops, bind}
+use Rattle.load.proofs.Stores.{join}
+
+pub fours-length : (bs : List ℕ) (at n : ℕ) → length (fours bs at n) ≡ n
+unfolding fours
+fours-length bs at zero = refl
+fours-length bs at (suc n) = ap suc (fours-length bs (at + 4) n)
+
+fours-at : (bs : List ℕ) (at n i : ℕ) → i < n → getD (fours bs at n) i 0 ≡ fourAt bs (at + 4 * i)
+unfolding fours
+fours-at bs at zero i h = absurd (omega arith)
+fours-at bs at (suc n) zero h = let e : at + 4 * 0 ≡ at = omega arith in rw e
+fours-at bs at (suc n) (suc i) h = let e : at + 4 * suc i ≡ at + 4 + 4 * i = omega arith in rw e (fours-at bs (at + 4) n i (omega arith))
+
+fours-take : (bs : List ℕ) (at n k : ℕ) → k ≤ n → take k (fours bs at n) ≡ fours bs at k
+unfolding fours
+fours-take bs at n zero h = refl
+fours-take bs at zero (suc k) h = absurd (omega arith)
+fours-take bs at (suc n) (suc k) h = ap (λ (l : List ℕ). fourAt bs at ∷ l) (fours-take bs (at + 4) n k (omega arith))
+
+-- ---- storing
+
+-- one more, in a loop
+pub fill-more : (bs l : List ℕ) (from at i : ℕ) {v : ℕ} {l′ : List ℕ} → v ≡ fourAt bs (from + 4 * i) → l′ ≡ sets l at (fours bs from i) → sets l′ (at + i) (v ∷ []) ≡ sets l at (fours bs from (i + 1))
+fill-more bs l from at i e f =
+    let t : take i (fours bs from (i + 1)) ≡ fours bs from i = fours-take bs from (i + 1) i (omega arith) in
+    let u : take (i + 1) (fours bs from (i + 1)) ≡ fours bs from (i + 1) = fours-take bs from (i + 1) (i + 1) (omega arith) in
+    let g : getD (fours bs from (i + 1)) i 0 ≡ fourAt bs (from + 4 * i) = fours-at bs from (i + 1) i (omega arith) in
+    let s = sets-suc l (fours bs from (i + 1)) at i (rw fours-length (omega arith)) in
+    rw (f, e) (rw (t, u, g) at s)
+
+module _ (bs : List ℕ) (from n at : ℕ) {at′ : ℕ} {ws ws′ : List ℕ} (p : at′ ≡ min (at + n) far) where
+  pub ints-stored : (k : ℕ) → k ≡ min n (length ws - at) → ws′ ≡ sets ws at (fours bs from k) → Puts (fours bs from n) at ws at′ ws′
+  ints-stored k e f =
+      let l : length (fours bs from n) ≡ n = fours-length bs from n in
+      put-part k (rw l p) (rw l e) (rw (fours-take bs from n k (omega arith)) f)
+
+  pub ints-lost : length ws ≤ at → ws′ ≡ ws → Puts (fours bs from n) at ws at′ ws′
+  ints-lost h f = put-lost (rw (fours-length bs from n) p) h f
+
+-- ---- reading
+
+pub many-got : (bs : List ℕ) (at n : ℕ) → 4 * n ≤ length bs - at → many loadInt n (drop at bs) ≡ got (fours bs at n) (drop (at + 4 * n) bs)
+unfolding many fours
+many-got bs at zero h = let e : at + 4 * 0 ≡ at = omega arith in rw e
+many-got bs at (suc n) h = let e : at + 4 * suc n ≡ at + 4 + 4 * n = omega arith in rw (int-got bs at (omega arith), many-got bs (at + 4) n (omega arith), e)
+
+pub many-none : (bs : List ℕ) (at n : ℕ) → length bs - at < 4 * n → many loadInt n (drop at bs) ≡ refused 2
+unfolding many
+many-none bs at zero h = absurd (omega arith)
+many-none bs at (suc n) h = elim (decLe 4 (length bs - at)) [
+  | yes k ↦ rw (int-got bs at k, many-none bs (at + 4) n (omega arith))
+  | no k ↦ rw (int-none bs at (omega arith))
+]
+
+-- ---- a list of integers, after its count
+
+module _ {bs : List ℕ} {s p : Load} {n : ℕ} {ws ws₁ t : List ℕ}
+    (h : Step bs loadCount (λ a. (a ≡ n) × Does (word a) (space s ws t) (space p ws₁ t)) (s .cursor) (p .cursor)) where
+  pub ints-refused : 0 < p .cursor .refusal → Loads bs (loadList loadInt) ints (world s ws t) (world p ws₁ t)
+  ints-refused z = bind (many loadInt) h (λ y. refl) (λ a e. passed z refl)
+
+  pub ints-short : {r : Load} {ws₂ : List ℕ} → p .cursor .refusal ≤ 0 → length bs - p .cursor .next < 4 * n → r .cursor .refusal ≡ 2 → Loads bs (loadList loadInt) ints (world s ws t) (world r ws₂ t)
+  ints-short z k f = bind (many loadInt) h (λ y. absurd (omega arith)) (λ a e. stops z (rw (e .0) (many-none bs (p .cursor .next) n k)) f (omega arith))
+
+  pub ints-loaded : {r : Load} {ws₂ : List ℕ} → p .cursor .refusal ≤ 0 → 4 * n ≤ length bs - p .cursor .next → r .cursor .refusal ≡ 0 → r .cursor .next ≡ p .cursor .next + 4 * n → r .text ≡ p .text
+      → Puts (fours bs (p .cursor .next) n) (p .words) ws₁ (r .words) ws₂ → Loads bs (loadList loadInt) ints (world s ws t) (world r ws₂ t)
+  ints-loaded {r} {ws₂} z k f g u w =
+      bind (many loadInt) h (λ y. absurd (omega arith))
+      (λ a e. takes {a = fours bs (p .cursor .next) n} {rest = drop (p .cursor .next + 4 * n) bs} z (rw (e .0) (many-got bs (p .cursor .next) n k)) f (rw g) (rw (fours-length bs (p .cursor .next) n) (join (rw (e .0) at (e .1)) stored)))
+    where
+      stored : Does (plain (fours bs (p .cursor .next) n)) (space p ws₁ t) (space r ws₂ t)
+      stored = record { does = λ τ e h. record { stored = fours bs (p .cursor .next) n; many = refl; exact = λ x. refl; words = w; text = rw u put-none } }

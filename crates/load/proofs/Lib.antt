@@ -1,0 +1,6 @@
+pub mod Bytes
+pub mod Steps
+pub mod Strings
+pub mod Stores
+pub mod Loads
+pub mod Fours

@@ -1,0 +1,86 @@
+-- Steps of the reader, one after the other.
+use Prim.Native.Nat.{ℕ, _+_, _-_, _*_, _≤_, _<_}
+use mathlib.Core.Path.{_≡_, refl, sym, _∙_}
+use mathlib.Core.List.{List}
+use native.Mathlib.Omega.{arith}
+use borrow.Author.Tests.{le-leb, lt-leb}
+use lib.ListN.{length, drop, getD}
+use Rattle.format.specs.Read.{Read, Reader, got, refused, andThen, _>>=_, return, loadByte, loadInt, loadSize, limit, countOf, loadCount}
+use Rattle.load.specs.declared.cursor.Cursor.{Cursor}
+use Rattle.load.specs.Step.{Stands, Step, fourAt}
+use Rattle.load.proofs.Bytes.{byte-got, byte-none, int-got, int-none, size-got, size-none}
+
+module _ {A : Type 0} {bs : List ℕ} {R : Reader A} {P : A → Type 0} {s r : Cursor} where
+  -- a refusal is passed on
+  pub passed : 0 < s .refusal → r .refusal ≡ s .refusal → Step bs R P s r
+  passed h e = record { stays = λ z. e; goes = λ z. absurd (omega arith) }
+
+  -- a value is read
+  pub takes : {a : A} {rest : List ℕ} → s .refusal ≤ 0 → R (drop (s .next) bs) ≡ got a rest → r .refusal ≡ 0 → rest ≡ drop (r .next) bs → P a → Step bs R P s r
+  takes z e f g p = record { stays = λ y. absurd (omega arith); goes = λ y. rw e (f, g, p) }
+
+  -- a refusal is met
+  pub stops : {k : ℕ} → s .refusal ≤ 0 → R (drop (s .next) bs) ≡ refused k → r .refusal ≡ k → 0 < k → Step bs R P s r
+  stops z e f h = record { stays = λ y. absurd (omega arith); goes = λ y. rw e (f, h) }
+
+  pub weaken : {Q : A → Type 0} → ((a : A) → P a → Q a) → Step bs R P s r → Step bs R Q s r
+  weaken {Q} k h = record { stays = h .stays; goes = λ z. by (R (drop (s .next) bs)) (h .goes z) }
+    where
+      by : (x : Read A) → Stands bs x P r → Stands bs x Q r
+      by (got a rest) t = (t .0, t .1, k a (t .2))
+      by (refused n) t = t
+
+-- a step, and what follows it
+pub bind : {A B : Type 0} {bs : List ℕ} {R : Reader A} {P : A → Type 0} {Q : B → Type 0} {s m r : Cursor} (f : A → Reader B)
+    → Step bs R P s m → (0 < m .refusal → r .refusal ≡ m .refusal) → ((a : A) → P a → Step bs (f a) Q m r) → Step bs (R >>= f) Q s r
+bind {A} {B} {bs} {R} {P} {Q} {s} {m} {r} f h keep k =
+    record { stays = λ z. keep (omega (arith, h .stays z)) ∙ h .stays z; goes = λ z. by (R (drop (s .next) bs)) (h .goes z) }
+  where
+    by : (x : Read A) → Stands bs x P m → Stands bs (andThen x f) Q r
+    by (got a rest) t = rw (t .1) (k a (t .2) .goes (t .0))
+    by (refused n) t = (keep (omega arith) ∙ t .0, t .1)
+
+pub done : {A : Type 0} {bs : List ℕ} {P : A → Type 0} {r : Cursor} (a : A) → P a → Step bs (return a) P r r
+done a p = record { stays = λ z. refl; goes = λ z. (z, refl, p) }
+
+-- what is read is changed by g
+pub mapped : {A B : Type 0} {bs : List ℕ} {R : Reader A} {P : A → Type 0} {Q : B → Type 0} {s r : Cursor} (g : A → B)
+    → ((a : A) → P a → Q (g a)) → Step bs R P s r → Step bs (R >>= λ a. return (g a)) Q s r
+mapped g k h = bind _ h (λ z. refl) (λ a p. done (g a) (k a p))
+
+-- two steps that pass refusals on do
+pub stays-then : {a b c : ℕ} → (0 < a → b ≡ a) → (0 < b → c ≡ b) → 0 < a → c ≡ a
+stays-then h k z = k (omega (arith, h z)) ∙ h z
+
+-- ---- bytes and numbers
+
+module _ {bs : List ℕ} {s r : Cursor} {v : ℕ} where
+  pub byte-taken : s .refusal ≤ 0 → s .next < length bs → v ≡ getD bs (s .next) 0 → r .refusal ≡ 0 → r .next ≡ s .next + 1 → Step bs loadByte (λ a. a ≡ v) s r
+  byte-taken z h e f g = takes z (byte-got bs (s .next) h) f (rw g) (sym e)
+
+  pub byte-missing : s .refusal ≤ 0 → length bs ≤ s .next → r .refusal ≡ 2 → Step bs loadByte (λ a. a ≡ v) s r
+  byte-missing z h e = stops z (byte-none bs (s .next) h) e (omega arith)
+
+  pub int-taken : s .refusal ≤ 0 → 4 ≤ length bs - s .next → v ≡ fourAt bs (s .next) → r .refusal ≡ 0 → r .next ≡ s .next + 4 → Step bs loadInt (λ a. a ≡ v) s r
+  int-taken z h e f g = takes z (int-got bs (s .next) h) f (rw g) (sym e)
+
+  pub int-missing : s .refusal ≤ 0 → length bs - s .next < 4 → r .refusal ≡ 2 → Step bs loadInt (λ a. a ≡ v) s r
+  int-missing z h e = stops z (int-none bs (s .next) h) e (omega arith)
+
+  pub size-taken : s .refusal ≤ 0 → 8 ≤ length bs - s .next → v ≡ fourAt bs (s .next) + 4294967296 * fourAt bs (s .next + 4) → r .refusal ≡ 0 → r .next ≡ s .next + 8 → Step bs loadSize (λ a. a ≡ v) s r
+  size-taken z h e f g = takes z (size-got bs (s .next) h) f (rw g) (sym e)
+
+  pub size-missing : s .refusal ≤ 0 → length bs - s .next < 8 → r .refusal ≡ 2 → Step bs loadSize (λ a. a ≡ v) s r
+  size-missing z h e = stops z (size-none bs (s .next) h) e (omega arith)
+
+-- ---- a list's count
+
+module _ {bs : List ℕ} {s m : Cursor} {n : ℕ} (h : Step bs loadInt (λ a. a ≡ n) s m) where
+  pub count-refused : 0 < m .refusal → Step bs loadCount (λ a. a ≡ n) s m
+  count-refused z = bind countOf h (λ y. refl) (λ a e. passed z refl)
+
+  pub count-large : {r : Cursor} {v : ℕ} → m .refusal ≤ 0 → limit < n → r .refusal ≡ 6 → Step bs loadCount (λ a. a ≡ v) s r
+  count-large z k f = bind countOf h (λ y. absurd (omega arith)) (λ a e. stops z (rw (e, lt-leb n limit k)) f (omega arith))
+
+  pub count-taken : m .refusal ≤ 0 → n ≤ limit → Step bs loadCount (λ a. a ≡ n) s m
+  count-taken z k = bind countOf h (λ y. refl) (λ a e. takes {a = a} z (rw (e, le-leb n limit k)) (omega arith) refl e)

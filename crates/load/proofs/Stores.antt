@@ -1,0 +1,73 @@
+-- Pieces stored one after the other.
+use Prim.Native.Nat.{ℕ, _+_, _-_, _<_, min}
+use mathlib.Core.Path.{_≡_, refl, ap, _∙_}
+use mathlib.Core.List.{List, [], _∷_, _++_, append-assoc}
+use native.Mathlib.Omega.{arith}
+use lib.ListN.{length, length-append}
+use Rattle.lent.specs.Memory.{far, Puts}
+use Rattle.lent.proofs.Writes.{put-none, put-then, put-length}
+use Rattle.format.specs.Store.{Piece, plain, word, _⊕_, string}
+use Rattle.load.specs.Step.{Space, Wrote, Does}
+
+pub nothing : {σ : Space} → Does (plain []) σ σ
+nothing = record { does = λ τ e h. record { stored = []; many = refl; exact = λ k. refl; words = put-none; text = put-none } }
+
+-- two pieces: the second stands where the first ended
+pub join : {p q : Piece} {σ m σ′ : Space} → Does p σ m → Does q m σ′ → Does (p ⊕ q) σ σ′
+join {p} {q} {σ} {m} {σ′} d e =
+    record {
+      does = λ τ f h.
+          let a : Wrote τ p σ m = d .does τ f h in
+          let t : m .textAt ≡ min (σ .textAt + length (p .text)) far = a .text .puts (omega arith) h .0 in
+          let l : length (m .text) ≡ length (σ .text) = put-length (a .text) (omega arith) h in
+          let b : Wrote (τ + length (p .text)) q m σ′ = e .does (τ + length (p .text)) (omega arith) (omega arith) in
+          let lt : length (p .text ++ q .text) ≡ length (p .text) + length (q .text) = length-append (p .text) (q .text) in
+          record {
+            stored = a .stored ++ b .stored;
+            many = simp length-append (rw (a .many, b .many));
+            exact = λ k. rw (a .exact (omega arith), b .exact (omega arith));
+            words = put-then {b = b .stored} (a .words) (b .words);
+            text = put-then (a .text) (b .text);
+          };
+    }
+
+-- a piece with the same words and the same text
+same-piece : {p q : Piece} {σ σ′ : Space} → ((τ : ℕ) → p .words τ ≡ q .words τ) → p .text ≡ q .text → Does p σ σ′ → Does q σ σ′
+same-piece {p} {q} {σ} {σ′} e f d =
+    record {
+      does = λ τ g h.
+          let a : Wrote τ p σ σ′ = d .does τ g h in
+          record { stored = a .stored; many = rw (← e τ) (a .many); exact = λ k. rw (← e τ) (a .exact (rw f k)); words = a .words; text = rw (← f) (a .text) };
+    }
+
+pub regroup : {σ σ′ : Space} (p q r : Piece) → Does ((p ⊕ q) ⊕ r) σ σ′ → Does (p ⊕ (q ⊕ r)) σ σ′
+regroup p q r d =
+    same-piece
+    (λ τ. let e : τ + length (p .text ++ q .text) ≡ τ + length (p .text) + length (q .text) = simp length-append (omega arith) in rw e (append-assoc (p .words τ) _ _))
+    (append-assoc (p .text) (q .text) (r .text)) d
+
+-- one word
+pub word-does : {σ : Space} {v n : ℕ} {ws′ : List ℕ} → Puts (v ∷ []) (σ .wordsAt) (σ .words) n ws′ → Does (word v) σ (record { wordsAt = n; textAt = σ .textAt; words = ws′; text = σ .text })
+word-does {σ} {v} p = record { does = λ τ f h. record { stored = v ∷ []; many = refl; exact = λ k. refl; words = p; text = put-none } }
+
+-- a string's place and length, its bytes in the text
+pub string-does : {σ m μ : Space} {x y t : ℕ} {b ts′ : List ℕ}
+    → (σ .textAt < 4294967296 → x ≡ σ .textAt) → (t - σ .textAt < 4294967296 → y ≡ t - σ .textAt)
+    → Does (word x) σ m → Does (word y) m μ → Puts b (σ .textAt) (σ .text) t ts′
+    → Does (string b) σ (record { wordsAt = μ .wordsAt; textAt = t; words = μ .words; text = ts′ })
+string-does {σ} {m} {μ} {x} {y} {t} {b} ex ey d e g =
+    record {
+      does = λ τ f h.
+          let a = join d e .does τ f h in
+          let l : t ≡ min (σ .textAt + length b) far = g .puts (omega arith) h .0 in
+          record {
+            stored = a .stored;
+            many = a .many;
+            exact = λ k.
+                let i : x ≡ τ = ex (omega arith) ∙ omega arith in
+                let j : y ≡ length b = ey (omega arith) ∙ omega arith in
+                a .exact (omega arith) ∙ ap (λ (l : List ℕ). x ∷ l) (ap (λ (k : ℕ). k ∷ []) j) ∙ ap (λ (k : ℕ). k ∷ length b ∷ []) i;
+            words = a .words;
+            text = g;
+          };
+    }

@@ -1,0 +1,107 @@
+-- What reading a string gives at a place of the chunk, and a constant by its tag.
+use Prim.Native.Nat.{ℕ, zero, suc, _+_, _-_, _≤_, _<_}
+use mathlib.Core.Path.{_≡_, refl, sym, ap, _∙_}
+use mathlib.Core.List.{List, []}
+use mathlib.Core.Bool.{Bool, true, false, cond, not}
+use native.Mathlib.Omega.{arith}
+use native.Mathlib.Decide.{decLe}
+use lib.ListN.{length, drop, length-drop}
+use lib.Seq.{drop-drop}
+use lib.Dec.{eqb}
+use borrow.Author.Tests.{ne-eqb}
+use Rattle.format.specs.Tree.{Source, filled}
+use Rattle.format.specs.Tree.{Constant as Value}
+use Rattle.format.specs.Read.{got, refused, loadByte, loadInt, loadSize, stringOf, loadText, constantOf, loadConstant}
+use Rattle.format.specs.Stored.{part}
+use Rattle.load.specs.declared.cursor.Cursor.{Cursor}
+use Rattle.load.specs.declared.cursor.Span.{Span}
+use Rattle.load.specs.Step.{Step, spanned, NoString, Strings}
+use Rattle.load.proofs.Bytes.{byte-got, byte-none, block-got, block-none}
+use Rattle.load.proofs.Steps.{passed, takes, stops, bind, mapped, stays-then}
+
+pub string-got : (bs : List ℕ) (at n : ℕ) → n < length bs - at → stringOf (suc n) (drop at bs) ≡ got (Source.own (part bs at n)) (drop (at + suc n) bs)
+string-got bs at n h =
+    let k : n ≤ length (drop at bs) = rw length-drop (omega arith) in
+    let e : at + n + 1 ≡ at + suc n = omega arith in
+    rw (block-got n (drop at bs) k, drop-drop n at bs, byte-got bs (at + n) (omega arith), e)
+
+pub string-missing : (bs : List ℕ) (at n : ℕ) → length bs - at ≤ n → stringOf (suc n) (drop at bs) ≡ refused 2
+string-missing bs at n h = elim (decLe n (length bs - at)) [
+  | yes k ↦ let k′ : n ≤ length (drop at bs) = rw length-drop k in rw (block-got n (drop at bs) k′, drop-drop n at bs, byte-none bs (at + n) (omega arith))
+  | no k ↦ let k′ : length (drop at bs) < n = rw length-drop (omega arith) in rw (block-none n (drop at bs) k′)
+]
+
+none-within : {m : Cursor} {z : Span} (bs : List ℕ) → NoString m z → z .start + z .len ≤ length bs
+none-within bs n = omega (arith, n .start, n .len)
+
+none-spanned : {m : Cursor} {z : Span} (bs : List ℕ) → NoString m z → spanned bs z ≡ Source.inherited
+none-spanned bs n = rw (n .own)
+
+module _ {bs : List ℕ} {s m : Cursor} {size : ℕ} {z : Span} (h : Step bs loadSize (λ a. a ≡ size) s m) where
+  pub string-refused : 0 < m .refusal → NoString m z → Strings bs s z
+  string-refused y n = record { reads = rw (n .cursor) (bind stringOf h (λ x. refl) (λ a e. passed y refl)); within = none-within bs n; empty = λ e. n .len }
+
+  pub string-none : m .refusal ≤ 0 → size ≡ 0 → NoString m z → Strings bs s z
+  string-none y e n =
+      record {
+        reads = rw (n .cursor) (bind stringOf h (λ x. refl) (λ a f. takes y (rw (f, e)) (omega arith) refl (sym (none-spanned bs n))));
+        within = none-within bs n;
+        empty = λ e. n .len;
+      }
+
+  pub string-short : {r : Cursor} → m .refusal ≤ 0 → 0 < size → length bs - m .next < size → r .refusal ≡ 2 → NoString r z → Strings bs s z
+  string-short {r} y e k f n =
+      record {
+        reads = rw (n .cursor) (bind stringOf h (λ x. absurd (omega arith)) (λ a g. stops y (short a (omega arith)) f (omega arith)));
+        within = none-within bs n;
+        empty = λ e. n .len;
+      }
+    where
+      short : (a : ℕ) → (0 < a) × (length bs - m .next < a) → stringOf a (drop (m .next) bs) ≡ refused 2
+      short zero q = absurd (omega (arith, q .0))
+      short (suc a) q = string-missing bs (m .next) a (omega (arith, q .1))
+
+  pub string-own : m .refusal ≤ 0 → 0 < size → size ≤ length bs - m .next → z .own ≡ true → z .start ≡ m .next → z .len + 1 ≡ size → z .cursor .refusal ≡ 0 → z .cursor .next ≡ m .next + size → Strings bs s z
+  string-own y e k o st l f g =
+      record {
+        reads = bind stringOf h (λ x. absurd (omega arith)) (λ a q. takes y (long a (omega arith)) f (let n : m .next + suc (z .len) ≡ m .next + size = omega arith in rw (g, n)) (rw (o, st)));
+        within = omega arith;
+        empty = λ w. absurd (clash (sym o ∙ w));
+      }
+    where
+      long : (a : ℕ) → a ≡ suc (z .len) → stringOf a (drop (m .next) bs) ≡ got (Source.own (part bs (m .next) (z .len))) (drop (m .next + suc (z .len)) bs)
+      long a q = rw q (string-got bs (m .next) (z .len) (omega arith))
+
+      clash : true ≡ false → ⊥
+      clash q = let w : _≡_ {A = ℕ} 0 1 = cc in omega arith
+
+-- a name or a string constant: empty where there is no string
+pub text-of : {bs : List ℕ} {s : Cursor} {z : Span} → Strings bs s z → Step bs loadText (λ a. a ≡ part bs (z .start) (z .len)) s (z .cursor)
+text-of {bs} {s} {z} k = mapped (filled []) (λ x p. rw p (by (z .own) refl)) (k .reads)
+  where
+    by : (own : Bool) → z .own ≡ own → filled [] (cond own (Source.own (part bs (z .start) (z .len))) Source.inherited) ≡ part bs (z .start) (z .len)
+    by true e = refl
+    by false e = rw (k .empty e)
+
+-- ---- constants
+
+module _ {bs : List ℕ} {s m : Cursor} {tag : ℕ} (h : Step bs loadByte (λ a. a ≡ tag) s m) where
+  pub constant-refused : {P : Value → Type 0} → 0 < m .refusal → Step bs loadConstant P s m
+  constant-refused z = bind constantOf h (λ y. refl) (λ a e. passed z refl)
+
+  pub constant-nil : m .refusal ≤ 0 → tag ≡ 0 → Step bs loadConstant (λ v. v ≡ Value.nil) s m
+  constant-nil z t = bind constantOf h (λ y. refl) (λ a e. takes z (rw (e, t)) (omega arith) refl refl)
+
+  pub constant-bool : {r : Cursor} {v : ℕ} → tag ≡ 1 → Step bs loadByte (λ b. b ≡ v) m r → Step bs loadConstant (λ w. w ≡ Value.bool (not (eqb v 0))) s r
+  constant-bool t k = bind constantOf h (k .stays) (λ a e. rw (e, t) (mapped _ (λ b q. rw q) k))
+
+  pub constant-num : {l r : Cursor} {low high : ℕ} → tag ≡ 3 → Step bs loadInt (λ a. a ≡ low) m l → Step bs loadInt (λ a. a ≡ high) l r
+      → Step bs loadConstant (λ w. w ≡ Value.num high low) s r
+  constant-num {l} {r} t k j = bind constantOf h (stays-then (k .stays) (j .stays)) (λ a e. rw (e, t) (bind _ k (j .stays) (λ x p. mapped _ (λ y q. rw (p, q)) j)))
+
+  pub constant-str : {z : Span} → tag ≡ 4 → Strings bs m z → Step bs loadConstant (λ w. w ≡ Value.str (part bs (z .start) (z .len))) s (z .cursor)
+  constant-str t k = bind constantOf h (k .reads .stays) (λ a e. rw (e, t) (mapped _ (λ x p. ap Value.str p) (text-of k)))
+
+  pub constant-bad : {P : Value → Type 0} {r : Cursor} → m .refusal ≤ 0 → (tag ≡ 0 → ⊥) → (tag ≡ 1 → ⊥) → (tag ≡ 3 → ⊥) → (tag ≡ 4 → ⊥) → r .refusal ≡ 5 → Step bs loadConstant P s r
+  constant-bad z a b c d f =
+      bind constantOf h (λ y. absurd (omega arith)) (λ x e. stops z (rw (e, ne-eqb tag 0 a, ne-eqb tag 1 b, ne-eqb tag 3 c, ne-eqb tag 4 d)) f (omega arith))

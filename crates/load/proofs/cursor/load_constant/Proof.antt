@@ -1,0 +1,59 @@
+-- By the tag that was read, what the definition reads for it.
+use borrow.Author.Needs.{needs}
+use native.Mathlib.Omega.{arith}
+use Rattle.load.proofs.Strings.{constant-refused, constant-nil, constant-bool, constant-num, constant-str, constant-bad}
+use Rattle.load.proofs.cursor.load_constant.Statement.{statement}
+use Rattle.load.proofs.cursor.load_constant.Tie as tie
+
+load-byte-requires : tie.Need-load-byte-requires
+load-byte-requires c κs = search needs
+
+returns : tie.Need-returns
+returns c = (constant-refused (c .before .before .before .load-byte .ensures) (omega arith), tt)
+
+load-byte-requires-2 : tie.Need-load-byte-requires-2
+load-byte-requires-2 c κs = search needs
+
+load-int-requires : tie.Need-load-int-requires
+load-int-requires c κs = search needs
+
+load-int-requires-2 : tie.Need-load-int-requires-2
+load-int-requires-2 c κs = search needs
+
+load-string-requires : tie.Need-load-string-requires
+load-string-requires c κs = search needs
+
+refused-requires : tie.Need-refused-requires
+refused-requires c κs = search needs
+
+returns-2 : tie.Need-returns-2
+returns-2 c = (constant-nil (c .before .before .before .before .load-byte .ensures) (omega arith) (omega arith), tt)
+
+returns-3 : tie.Need-returns-3
+returns-3 c = (constant-bool (c .before .before .before .before .before .before .before .load-byte .ensures) (omega arith) (c .before .before .load-byte2 .ensures), tt)
+
+returns-4 : tie.Need-returns-4
+returns-4 c = (constant-num (c .before .before .before .before .before .before .before .load-byte .ensures) (omega arith) (c .before .before .load-int .ensures) (c .before .load-int2 .ensures), tt)
+
+returns-5 : tie.Need-returns-5
+returns-5 c = (constant-str (c .before .before .before .before .before .before .load-byte .ensures) (omega arith) (c .before .load-string .ensures), c .before .load-string .ensures .within)
+
+returns-6 : tie.Need-returns-6
+returns-6 c = (constant-bad (c .before .before .before .before .before .load-byte .ensures) (omega arith) (λ e. omega arith) (λ e. omega arith) (λ e. omega arith) (λ e. omega arith) (c .refused .ensures), tt)
+
+pub load-constant-spec : {M : Type 1} → statement M
+load-constant-spec =
+    tie.close
+    (tie.spec
+    load-byte-requires
+    returns
+    load-byte-requires-2
+    load-int-requires
+    load-int-requires-2
+    load-string-requires
+    refused-requires
+    returns-2
+    returns-3
+    returns-4
+    returns-5
+    returns-6)

@@ -1,0 +1,77 @@
+-- i integers are stored so far; each turn stores the next.
+use native.Mathlib.Omega.{arith}
+use Prim.Native.Nat.{_-_, _≤_}
+use mathlib.Core.Path.{_≡_, refl}
+use lib.ListN.{length, length-set}
+use lib.Seq.{sets}
+use Rattle.load.specs.Step.{fours}
+use Rattle.load.proofs.Fours.{fill-more}
+use Rattle.load.proofs.ints.fill.Statement.{statement}
+use Rattle.load.proofs.ints.fill.Tie as tie
+
+abbrev Inv-loop : tie.InvT-loop
+Inv-loop chunk from n words₀ at i₀ words i = (i ≤ n) × (length words ≡ length words₀) × (words ≡ sets words₀ at (fours chunk from i))
+
+abbrev μ-loop : tie.MeasureT-loop
+μ-loop chunk from n words₀ at i₀ words i = n - i
+
+loop-holds : tie.Need-loop-holds Inv-loop μ-loop
+unfolding fours
+loop-holds c = (omega arith, refl, refl)
+
+mul-four-at : tie.Need-mul-four-at Inv-loop μ-loop
+mul-four-at c = omega arith
+
+add-four-at : tie.Need-add-four-at Inv-loop μ-loop
+add-four-at c = omega arith
+
+four-at-requires : tie.Need-four-at-requires Inv-loop μ-loop
+four-at-requires c κs = omega arith
+
+add-words : tie.Need-add-words Inv-loop μ-loop
+add-words c = omega arith
+
+mul-words : tie.Need-mul-words Inv-loop μ-loop
+mul-words c = omega arith
+
+slice-write-words : tie.Need-slice-write-words Inv-loop μ-loop
+slice-write-words c = omega arith
+
+add-i : tie.Need-add-i Inv-loop μ-loop
+add-i c = omega arith
+
+loop-less : tie.Need-loop-less Inv-loop μ-loop
+loop-less c = omega arith
+
+loop-again : tie.Need-loop-again Inv-loop μ-loop
+loop-again c =
+    let c₁ = c .before .before in
+    let c₂ = c₁ .before .before .before in
+    (omega arith, simp length-set (c₁ .loop .inv .1), fill-more (c₂ .args .chunk .now) (c₂ .args .words .now) (c₂ .args .from) (c₂ .args .at) (c₁ .loop .i) (c .four-at .ensures) (c₁ .loop .inv .2))
+
+same-length : tie.Need-same-length Inv-loop μ-loop
+same-length c = c .before .loop .inv .1
+
+returns : tie.Need-returns Inv-loop μ-loop
+returns c =
+    let e : c .before .loop .i ≡ c .before .before .before .before .args .n = omega arith in
+    rw (← e) (c .before .loop .inv .2)
+
+pub fill-spec : {M : Type 1} → statement M
+fill-spec =
+    tie.close
+    (tie.spec
+    Inv-loop
+    μ-loop
+    loop-holds
+    mul-four-at
+    add-four-at
+    four-at-requires
+    add-words
+    mul-words
+    slice-write-words
+    add-i
+    loop-less
+    loop-again
+    same-length
+    returns)

@@ -1,0 +1,123 @@
+-- What a step of the reader does, against what reading gives (Read) and what a store holds (Store).
+use Prim.Native.Nat.{ℕ, zero, suc, _+_, _*_, _≤_, _<_, min}
+use mathlib.Core.Path.{_≡_}
+use mathlib.Core.Bool.{false, cond}
+use mathlib.Core.List.{List, [], _∷_}
+use lib.ListN.{length, drop, getD}
+use Rattle.lent.specs.Memory.{far, Puts}
+use Rattle.utf8.specs.Utf8.{repair}
+use Rattle.format.specs.Tree.{Source}
+use Rattle.format.specs.Tree.{Constant as Value}
+use Rattle.format.specs.Read.{Read, Reader, got, refused, loadString}
+use Rattle.format.specs.Store.{Piece, string, sourcePiece}
+use Rattle.format.specs.Valid.{most}
+use Rattle.format.specs.Stored.{part}
+use Rattle.format.specs.Undump.{repairedSource}
+use Rattle.load.specs.declared.cursor.Cursor.{Cursor}
+use Rattle.load.specs.declared.cursor.Span.{Span}
+use Rattle.load.specs.declared.cursor.Constant.{Constant}
+use Rattle.load.specs.declared.cursor.Constant.the-variants.{Nil, Bool as Truth, Num, String}
+use Rattle.load.specs.declared.Load.{Load}
+
+-- ---- reading
+
+-- the cursor r stands where a reading that gives x ends, with P of its value
+abbrev pub Stands : {A : Type 0} → List ℕ → Read A → (A → Type 0) → Cursor → Type 0
+Stands bs (got a rest) P r = (r .refusal ≡ 0) × (rest ≡ drop (r .next) bs) × P a
+Stands bs (refused k) P r = (r .refusal ≡ k) × (0 < k)
+
+-- from the cursor s to r by the reader R, with P of what it gives; a refusal is passed on
+pub record Step {A : Type 0} (bs : List ℕ) (R : Reader A) (P : A → Type 0) (s r : Cursor) : Type 0 where
+  pub stays : 0 < s .refusal → r .refusal ≡ s .refusal
+  pub goes : s .refusal ≡ 0 → Stands bs (R (drop (s .next) bs)) P r
+
+-- the number that four bytes from a place on stand for, low byte first; n such numbers, one after the other
+abbrev pub fourAt : List ℕ → ℕ → ℕ
+fourAt bs at = getD bs at 0 + 256 * (getD bs (at + 1) 0 + 256 * (getD bs (at + 2) 0 + 256 * getD bs (at + 3) 0))
+
+unfoldable pub fours : List ℕ → ℕ → ℕ → List ℕ
+fours bs at zero = []
+fours bs at (suc n) = fourAt bs at ∷ fours bs (at + 4) n
+
+-- the string that a span stands for
+abbrev pub spanned : List ℕ → Span → Source
+spanned bs z = cond (z .own) (Source.own (part bs (z .start) (z .len))) Source.inherited
+
+-- no string, at a cursor
+pub record NoString (m : Cursor) (z : Span) : Type 0 where
+  pub cursor : z .cursor ≡ m
+  pub own : z .own ≡ false
+  pub start : z .start ≡ 0
+  pub len : z .len ≡ 0
+
+-- a string: the span lies in the chunk, also where there is none
+pub record Strings (bs : List ℕ) (s : Cursor) (z : Span) : Type 0 where
+  pub reads : Step bs loadString (λ v. v ≡ spanned bs z) s (z .cursor)
+  pub within : z .start + z .len ≤ length bs
+  pub empty : z .own ≡ false → z .len ≡ 0
+
+-- the constant that the reader's enum stands for: Nil, Bool, Num by its halves, String by its bytes
+abbrev pub valueOf : List ℕ → Constant → Value
+valueOf bs Nil = Value.nil
+valueOf bs (Truth b) = Value.bool b
+valueOf bs (Num high low) = Value.num high low
+valueOf bs (String start len) = Value.str (part bs start len)
+
+-- a string lies in the chunk
+abbrev pub Within : List ℕ → Constant → Type 0
+Within bs Nil = Unit {0}
+Within bs (Truth b) = Unit {0}
+Within bs (Num high low) = Unit {0}
+Within bs (String start len) = start + len ≤ length bs
+
+-- ---- storing
+
+-- lent memory, with the words and text bytes so far
+pub record Space : Type 0 where
+  pub wordsAt : ℕ
+  pub textAt : ℕ
+  pub words : List ℕ
+  pub text : List ℕ
+
+abbrev pub space : Load → List ℕ → List ℕ → Space
+space s ws ts = record { wordsAt = s .words; textAt = s .text; words = ws; text = ts }
+
+-- a piece stored, τ text bytes standing so far: its text is written, and as many words as it has, which are its own where the text keeps within the limit
+pub record Wrote (τ : ℕ) (p : Piece) (σ σ′ : Space) : Type 0 where
+  pub stored : List ℕ
+  pub many : length stored ≡ length (p .words τ)
+  pub exact : τ + length (p .text) ≤ most → stored ≡ p .words τ
+  pub words : Puts stored (σ .wordsAt) (σ .words) (σ′ .wordsAt) (σ′ .words)
+  pub text : Puts (p .text) (σ .textAt) (σ .text) (σ′ .textAt) (σ′ .text)
+
+-- a place in the text is τ, or has stopped at the farthest
+pub record Does (p : Piece) (σ σ′ : Space) : Type 0 where
+  pub does : (τ : ℕ) → σ .textAt ≡ min τ far → length (σ .text) ≤ far → Wrote τ p σ σ′
+
+-- the state of the reader, with what lent memory holds
+pub record World : Type 0 where
+  pub load : Load
+  pub words : List ℕ
+  pub text : List ℕ
+
+abbrev pub world : Load → List ℕ → List ℕ → World
+world s ws ts = record { load = s; words = ws; text = ts }
+
+abbrev pub spaceOf : World → Space
+spaceOf σ = space (σ .load) (σ .words) (σ .text)
+
+-- the state with another cursor
+abbrev pub moved : Load → Cursor → Load
+moved s c = record { cursor = c; words = s .words; text = s .text }
+
+-- from σ to σ′ by the reader R, what it gives being stored as a piece
+abbrev pub Loads : {A : Type 0} → List ℕ → Reader A → (A → Piece) → World → World → Type 0
+Loads bs R piece σ σ′ = Step bs R (λ a. Does (piece a) (spaceOf σ) (spaceOf σ′)) (σ .load .cursor) (σ′ .load .cursor)
+
+-- ---- what is stored, names repaired
+
+abbrev pub repairedName : List ℕ → Piece
+repairedName s = string (repair s)
+
+abbrev pub repairedSourcePiece : Source → Piece
+repairedSourcePiece s = sourcePiece (repairedSource s)

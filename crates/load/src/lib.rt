@@ -1,0 +1,127 @@
+// What is read goes to lent memory: words and text by total writes, which also count.
+pub mod cursor;
+pub mod ints;
+
+use cursor::Cursor;
+use cursor::load_count;
+use cursor::load_int;
+use cursor::load_string;
+ghost use mathlib.Core.Path.{_≡_};
+ghost use mathlib.Core.List.{List};
+ghost use Prim.Native.Nat.{ℕ, _-_, _<_};
+ghost use Rattle.lent.specs.Memory.{Puts};
+ghost use Rattle.format.specs.Read.{loadInt, loadCount, loadString, loadText};
+ghost use Rattle.format.specs.Store.{string};
+ghost use Rattle.format.specs.Store.{word as wordPiece};
+ghost use Rattle.load.specs.Step.{Step, space, world, moved, Does, Loads, repairedName, repairedSourcePiece};
+
+// The state of the reader: the cursor, and the words and text bytes so far.
+pub struct Load {
+    pub cursor: Cursor,
+    pub words: usize,
+    pub text: usize,
+}
+
+// A count, and the state after it.
+pub struct Counted {
+    pub n: u32,
+    pub load: Load,
+}
+
+// A number as a word: any below 2^32 keeps its value.
+fn word(n: usize) -> u32
+    ensures { λ r. ⌜ (n < 4294967296 → r ≡ n) ⌝ }
+{
+    if n < 4294967296 { n as u32 } else { 0 }
+}
+
+// a - b, or 0.
+fn less(a: usize, b: usize) -> usize
+    ensures { λ r. ⌜ r ≡ a - b ⌝ }
+{
+    if b < a { a - b } else { 0 }
+}
+
+// The state with another cursor.
+pub fn at(s: Load, cursor: Cursor) -> Load
+    ensures { λ r. ⌜ r ≡ moved s cursor ⌝ }
+{
+    Load {
+        cursor,
+        words: s.words,
+        text: s.text,
+    }
+}
+
+// A word is stored.
+pub fn put(words: &mut [u32], s: Load, v: u32) -> Load
+    ensures { λ r. ⌜ (r .cursor ≡ s .cursor) × ((t : List ℕ) → Does (wordPiece v) (space s (now (words .entry)) t) (space r (now (words .exit)) t)) ⌝ }
+{
+    let w = lent::put_word(words, s.words, v);
+    let cursor = s.cursor;
+    Load {
+        cursor,
+        words: w,
+        text: s.text,
+    }
+}
+
+// The place and the length of a string are stored, whose bytes took the text from s on up to t.
+pub fn put_string(words: &mut [u32], s: Load, t: usize) -> Load
+    ensures { λ r. ⌜ (r .cursor ≡ s .cursor) × ((b u u′ : List ℕ) → Puts b (s .text) u t u′ → Does (string b) (space s (now (words .entry)) u) (space r (now (words .exit)) u′)) ⌝ }
+{
+    let p = put(words, s, word(s.text));
+    let q = put(words, p, word(less(t, s.text)));
+    let cursor = q.cursor;
+    Load {
+        cursor,
+        words: q.words,
+        text: t,
+    }
+}
+
+// A name: its bytes, repaired, go to the text, its place and its length to the words.
+pub fn load_name(chunk: &[u8], words: &mut [u32], text: &mut [u8], s: Load) -> Load
+    ensures { λ r. ⌜ Loads (now (chunk .entry)) loadText repairedName (world s (now (words .entry)) (now (text .entry))) (world r (now (words .exit)) (now (text .exit))) ⌝ }
+{
+    let z = load_string(chunk, s.cursor);
+    let start = z.start;
+    let end = start + z.len;
+    let t = utf8::repair(&chunk[start..end], text, s.text);
+    put_string(words, at(s, z.cursor), t)
+}
+
+// A source: whether it is the function's own, its place and its length.
+pub fn load_source(chunk: &[u8], words: &mut [u32], text: &mut [u8], s: Load) -> Load
+    ensures { λ r. ⌜ Loads (now (chunk .entry)) loadString repairedSourcePiece (world s (now (words .entry)) (now (text .entry))) (world r (now (words .exit)) (now (text .exit))) ⌝ }
+{
+    let z = load_string(chunk, s.cursor);
+    let p = at(s, z.cursor);
+    if !z.own {
+        let a = put(words, p, 0);
+        let b = put(words, a, 0);
+        return put(words, b, 0);
+    }
+    let start = z.start;
+    let end = start + z.len;
+    let q = put(words, p, 1);
+    let t = utf8::repair(&chunk[start..end], text, q.text);
+    put_string(words, q, t)
+}
+
+// An integer goes from the chunk to the words.
+pub fn copy_int(chunk: &[u8], words: &mut [u32], s: Load) -> Load
+    ensures { λ r. ⌜ ((t : List ℕ) → Loads (now (chunk .entry)) loadInt wordPiece (world s (now (words .entry)) t) (world r (now (words .exit)) t)) ⌝ }
+{
+    let v = load_int(chunk, s.cursor);
+    put(words, at(s, v.cursor), v.value)
+}
+
+// So does a count, which is answered too.
+pub fn copy_count(chunk: &[u8], words: &mut [u32], s: Load) -> Counted
+    ensures { λ r. ⌜ ((t : List ℕ) → Step (now (chunk .entry)) loadCount (λ a. (a ≡ r .n) × Does (wordPiece a) (space s (now (words .entry)) t) (space (r .load) (now (words .exit)) t)) (s .cursor) (r .load .cursor)) ⌝ }
+{
+    let v = load_count(chunk, s.cursor);
+    let load = put(words, at(s, v.cursor), v.value);
+    Counted { n: v.value, load }
+}

@@ -1,0 +1,295 @@
+-- A function's parts are read in the definition's order. The two call each other: load_function on a smaller allowance,
+-- load_constants on the same, which counts as one more.
+use borrow.Author.Needs.{needs}
+use native.Mathlib.Omega.{arith}
+use Prim.Native.Nat.{ℕ, suc, _+_, _-_, _≤_, _<_}
+use mathlib.Core.Path.{_≡_, refl, ap, _∙_}
+use lib.ListN.{length}
+use Rattle.format.specs.Tree.{count}
+use Rattle.format.specs.Read.{manyFunctions, loadFunction}
+use Rattle.format.specs.Store.{functionPieces}
+use Rattle.format.specs.Undump.{repairedAll}
+use Rattle.load.specs.declared.Load.{Load}
+use Rattle.load.specs.Step.{world}
+use Rattle.load.proofs.Steps.{passed}
+use Rattle.load_function.proofs.Lists.{Loop, function-items, loop-start, loop-stop, loop-turn, loop-end}
+use Rattle.load_function.proofs.Trees.{constants-loaded, function-too-deep, function-loaded}
+use borrow.Fn.Kinds.{In}
+use borrow.Fn.PlainCycle.{Measures, is, falls, and}
+use Rattle.load_function.proofs.load_constants.Reads as load-constants
+use Rattle.load_function.proofs.load_constants.Kinds as load-constants-kinds
+use Rattle.load_function.proofs.+load_constants+load_function.Lts-load_constants as load-constants-lts
+use Rattle.load_function.proofs.load_function.Reads as load-function
+use Rattle.load_function.proofs.load_function.Kinds as load-function-kinds
+use Rattle.load_function.proofs.+load_constants+load_function.Lts-load_function as load-function-lts
+use Rattle.load.proofs.cursor.joined.Reads as joined-reads
+use Rattle.load.proofs.cursor.load_byte.Reads as load-byte-reads
+use Rattle.load.proofs.cursor.refused.Reads as refused-reads
+use Rattle.load_function.proofs.load_code.Reads as load-code-reads
+use Rattle.load_function.proofs.load_debug.Reads as load-debug-reads
+use Rattle.load_function.proofs.list.load_pool.Reads as load-pool-reads
+use Rattle.load.proofs.at.Reads as at-reads
+use Rattle.load.proofs.copy_count.Reads as copy-count-reads
+use Rattle.load.proofs.copy_int.Reads as copy-int-reads
+use Rattle.load.proofs.load_source.Reads as load-source-reads
+use Rattle.load.proofs.put.Reads as put-reads
+use Rattle.load_function.proofs.+load_constants+load_function.{statement}
+use Rattle.load_function.proofs.+load_constants+load_function.Tie.{close}
+
+abbrev μ-load-constants : Measures 3 load-constants-kinds.ps ℕ
+μ-load-constants κs a = a .1 .1 .1 .1 .0 + a .1 .1 .1 .1 .0 + 1
+
+abbrev μ-load-function : Measures 3 load-function-kinds.ps ℕ
+μ-load-function κs a = a .1 .1 .1 .1 .0 + a .1 .1 .1 .1 .0
+
+abbrev load-constants-at : ℕ → In 3 load-constants-kinds.ps
+load-constants-at t =
+    and
+    3
+    load-constants-kinds.ps
+    (is 3 load-constants-kinds.ps μ-load-constants t)
+    load-constants.Pre
+
+abbrev load-constants-below : ℕ → In 3 load-constants-kinds.ps
+load-constants-below t =
+    and
+    3
+    load-constants-kinds.ps
+    (falls 3 load-constants-kinds.ps _<_ μ-load-constants t)
+    load-constants.Pre
+
+abbrev load-function-at : ℕ → In 3 load-function-kinds.ps
+load-function-at t =
+    and 3 load-function-kinds.ps (is 3 load-function-kinds.ps μ-load-function t) load-function.Pre
+
+abbrev load-function-below : ℕ → In 3 load-function-kinds.ps
+load-function-below t =
+    and
+    3
+    load-function-kinds.ps
+    (falls 3 load-function-kinds.ps _<_ μ-load-function t)
+    load-function.Pre
+
+abbrev load-constants-calls : ℕ → load-constants-lts.Claims
+load-constants-calls t = (load-pool-reads.Asked, load-pool-reads.Learnt, copy-count-reads.Asked, copy-count-reads.Learnt, load-function-below t, load-function.Post)
+
+abbrev load-function-calls : ℕ → load-function-lts.Claims
+load-function-calls t = (refused-reads.Asked, refused-reads.Learnt, at-reads.Asked, at-reads.Learnt, load-source-reads.Asked, load-source-reads.Learnt, copy-int-reads.Asked, copy-int-reads.Learnt, load-byte-reads.Asked, load-byte-reads.Learnt, joined-reads.Asked, joined-reads.Learnt, put-reads.Asked, put-reads.Learnt, load-code-reads.Asked, load-code-reads.Learnt, load-constants-below t, load-constants.Post, load-debug-reads.Asked, load-debug-reads.Learnt)
+
+abbrev load-constants-Inv-loop : load-constants-lts.InvT-loop
+load-constants-Inv-loop chunk words₀ text₀ allowance n p₀ i₀ words text p i =
+    (i ≤ n) × (length words ≡ length words₀) × (length text ≡ length text₀)
+    × Loop chunk (manyFunctions (loadFunction allowance)) (λ fs. count (repairedAll fs)) (λ fs. functionPieces (repairedAll fs)) n (world p₀ words₀ text₀) i (world p words text)
+
+abbrev load-constants-μ-loop : load-constants-lts.MeasureT-loop
+load-constants-μ-loop chunk words₀ text₀ allowance n p₀ i₀ words text p i = n - i
+
+load-constants-load-pool-requires : (t : ℕ) → load-constants-lts.Need-load-pool-requires (load-constants-calls t) (load-constants-at t) load-constants.Post load-constants-Inv-loop load-constants-μ-loop
+load-constants-load-pool-requires t c κs = search needs
+
+load-constants-copy-count-requires : (t : ℕ) → load-constants-lts.Need-copy-count-requires (load-constants-calls t) (load-constants-at t) load-constants.Post load-constants-Inv-loop load-constants-μ-loop
+load-constants-copy-count-requires t c κs = search needs
+
+load-constants-loop-holds : (t : ℕ) → load-constants-lts.Need-loop-holds (load-constants-calls t) (load-constants-at t) load-constants.Post load-constants-Inv-loop load-constants-μ-loop
+load-constants-loop-holds t c = (omega arith, refl, refl, loop-start)
+
+load-constants-same-length : (t : ℕ) → load-constants-lts.Need-same-length (load-constants-calls t) (load-constants-at t) load-constants.Post load-constants-Inv-loop load-constants-μ-loop
+load-constants-same-length t c =
+    let c₁ = c .before .before .before in
+    let c₂ = c₁ .before .before .before .before in
+    let c₃ = c₂ .before .before .before .before .before .before in
+    c₁ .loop .inv .1 ∙ c₂ .copy-count .kept .1 .0 ∙ c₃ .load-pool .kept .1 .0
+
+load-constants-same-length-2 : (t : ℕ) → load-constants-lts.Need-same-length-2 (load-constants-calls t) (load-constants-at t) load-constants.Post load-constants-Inv-loop load-constants-μ-loop
+load-constants-same-length-2 t c =
+    let c₁ = c .before .before .before in
+    let c₂ = c₁ .before .before .before .before .before .before .before .before .before .before in
+    c₁ .loop .inv .2 ∙ c₂ .load-pool .kept .1 .1 .0
+
+load-constants-returns : (t : ℕ) → load-constants-lts.Need-returns (load-constants-calls t) (load-constants-at t) load-constants.Post load-constants-Inv-loop load-constants-μ-loop
+load-constants-returns t c =
+    let c₁ = c .before .before .before in
+    let c₂ = c₁ .before .before .before .before in
+    let c₃ = c₂ .before .before .before .before .before .before in
+    let c₄ = c₃ .before .before .before .before .before .before in
+    constants-loaded (c₄ .args .allowance) (c₃ .load-pool .ensures) (c₂ .copy-count .ensures _) (loop-stop (omega arith) (c₁ .loop .inv .3))
+
+load-constants-load-function-requires : (t : ℕ) → load-constants-lts.Need-load-function-requires (load-constants-calls t) (load-constants-at t) load-constants.Post load-constants-Inv-loop load-constants-μ-loop
+load-constants-load-function-requires t c κs =
+    let c₁ = c .before .before .before .before .before .before .before .before .before .before .before .before .before .before .before .before .before .before .before .before .before in
+    (omega (arith, c₁ .pre .0), tt)
+
+load-constants-add-i : (t : ℕ) → load-constants-lts.Need-add-i (load-constants-calls t) (load-constants-at t) load-constants.Post load-constants-Inv-loop load-constants-μ-loop
+load-constants-add-i t c = omega arith
+
+load-constants-loop-less : (t : ℕ) → load-constants-lts.Need-loop-less (load-constants-calls t) (load-constants-at t) load-constants.Post load-constants-Inv-loop load-constants-μ-loop
+load-constants-loop-less t c = omega arith
+
+load-constants-loop-again : (t : ℕ) → load-constants-lts.Need-loop-again (load-constants-calls t) (load-constants-at t) load-constants.Post load-constants-Inv-loop load-constants-μ-loop
+load-constants-loop-again t c =
+    let c₁ = c .before .before .before .before in
+    let c₂ = c₁ .before .before .before .before .before .before in
+    let c₃ = c₂ .before .before .before .before .before .before .before .before .before .before .before .before .before .before .before .before in
+    (omega arith, c₁ .load-function .kept .1 .0 ∙ c₂ .loop .inv .1, c₁ .load-function .kept .1 .1 .0 ∙ c₂ .loop .inv .2, loop-turn (function-items (c₃ .args .allowance)) (omega arith) (c₂ .loop .inv .3) (c₁ .load-function .ensures))
+
+load-constants-same-length-3 : (t : ℕ) → load-constants-lts.Need-same-length-3 (load-constants-calls t) (load-constants-at t) load-constants.Post load-constants-Inv-loop load-constants-μ-loop
+load-constants-same-length-3 t c =
+    let c₁ = c .before in
+    let c₂ = c₁ .before .before .before .before in
+    let c₃ = c₂ .before .before .before .before .before .before in
+    c₁ .loop .inv .1 ∙ c₂ .copy-count .kept .1 .0 ∙ c₃ .load-pool .kept .1 .0
+
+load-constants-same-length-4 : (t : ℕ) → load-constants-lts.Need-same-length-4 (load-constants-calls t) (load-constants-at t) load-constants.Post load-constants-Inv-loop load-constants-μ-loop
+load-constants-same-length-4 t c =
+    let c₁ = c .before in
+    let c₂ = c₁ .before .before .before .before .before .before .before .before .before .before in
+    c₁ .loop .inv .2 ∙ c₂ .load-pool .kept .1 .1 .0
+
+load-constants-returns-2 : (t : ℕ) → load-constants-lts.Need-returns-2 (load-constants-calls t) (load-constants-at t) load-constants.Post load-constants-Inv-loop load-constants-μ-loop
+load-constants-returns-2 t c =
+    let c₁ = c .before in
+    let c₂ = c₁ .before .before .before .before in
+    let c₃ = c₂ .before .before .before .before .before .before in
+    let c₄ = c₃ .before .before .before .before .before .before in
+    constants-loaded (c₄ .args .allowance) (c₃ .load-pool .ensures) (c₂ .copy-count .ensures _) (loop-end (function-items (c₄ .args .allowance)) (omega arith) (c₁ .loop .inv .3))
+
+load-function-returns : (t : ℕ) → load-function-lts.Need-returns (load-function-calls t) (load-function-at t) load-function.Post
+load-function-returns t c = passed (omega arith) refl
+
+load-function-refused-requires : (t : ℕ) → load-function-lts.Need-refused-requires (load-function-calls t) (load-function-at t) load-function.Post
+load-function-refused-requires t c κs = search needs
+
+load-function-at-requires : (t : ℕ) → load-function-lts.Need-at-requires (load-function-calls t) (load-function-at t) load-function.Post
+load-function-at-requires t c κs = search needs
+
+load-function-returns-2 : (t : ℕ) → load-function-lts.Need-returns-2 (load-function-calls t) (load-function-at t) load-function.Post
+load-function-returns-2 t c = function-too-deep (c .before .before .if2 .taken) (omega arith) (ap (λ (l : Load). l .cursor .refusal) (c .at .ensures) ∙ c .before .refused .ensures)
+
+load-function-load-source-requires : (t : ℕ) → load-function-lts.Need-load-source-requires (load-function-calls t) (load-function-at t) load-function.Post
+load-function-load-source-requires t c κs = search needs
+
+load-function-copy-int-requires : (t : ℕ) → load-function-lts.Need-copy-int-requires (load-function-calls t) (load-function-at t) load-function.Post
+load-function-copy-int-requires t c κs = search needs
+
+load-function-copy-int-requires-2 : (t : ℕ) → load-function-lts.Need-copy-int-requires-2 (load-function-calls t) (load-function-at t) load-function.Post
+load-function-copy-int-requires-2 t c κs = search needs
+
+load-function-load-byte-requires : (t : ℕ) → load-function-lts.Need-load-byte-requires (load-function-calls t) (load-function-at t) load-function.Post
+load-function-load-byte-requires t c κs = search needs
+
+load-function-load-byte-requires-2 : (t : ℕ) → load-function-lts.Need-load-byte-requires-2 (load-function-calls t) (load-function-at t) load-function.Post
+load-function-load-byte-requires-2 t c κs = search needs
+
+load-function-load-byte-requires-3 : (t : ℕ) → load-function-lts.Need-load-byte-requires-3 (load-function-calls t) (load-function-at t) load-function.Post
+load-function-load-byte-requires-3 t c κs = search needs
+
+load-function-load-byte-requires-4 : (t : ℕ) → load-function-lts.Need-load-byte-requires-4 (load-function-calls t) (load-function-at t) load-function.Post
+load-function-load-byte-requires-4 t c κs = search needs
+
+load-function-at-requires-2 : (t : ℕ) → load-function-lts.Need-at-requires-2 (load-function-calls t) (load-function-at t) load-function.Post
+load-function-at-requires-2 t c κs = search needs
+
+load-function-joined-requires : (t : ℕ) → load-function-lts.Need-joined-requires (load-function-calls t) (load-function-at t) load-function.Post
+load-function-joined-requires t c κs = search needs
+
+load-function-put-requires : (t : ℕ) → load-function-lts.Need-put-requires (load-function-calls t) (load-function-at t) load-function.Post
+load-function-put-requires t c κs = search needs
+
+load-function-load-code-requires : (t : ℕ) → load-function-lts.Need-load-code-requires (load-function-calls t) (load-function-at t) load-function.Post
+load-function-load-code-requires t c κs = search needs
+
+load-function-sub-load-constants : (t : ℕ) → load-function-lts.Need-sub-load-constants (load-function-calls t) (load-function-at t) load-function.Post
+load-function-sub-load-constants t c =
+    let c₁ = c .before .before .before .before .before .before .before .before .before .before .before .before .before .before .before .before .before .before .before .before .before .before .before .before .before .before .before .before .before .before .before in
+    omega (arith, c₁ .if2 .left)
+
+load-function-load-constants-requires : (t : ℕ) → load-function-lts.Need-load-constants-requires (load-function-calls t) (load-function-at t) load-function.Post
+load-function-load-constants-requires t c κs =
+    let c₁ = c .before .before .before .before .before .before .before .before .before .before .before .before .before .before .before .before .before .before .before .before .before .before .before .before .before .before .before .before .before .before .before in
+    let c₂ = c₁ .before .before .before .before .before .before in
+    (omega (arith, c₂ .pre .0, c₁ .if2 .left), tt)
+
+load-function-load-debug-requires : (t : ℕ) → load-function-lts.Need-load-debug-requires (load-function-calls t) (load-function-at t) load-function.Post
+load-function-load-debug-requires t c κs = search needs
+
+load-function-same-length : (t : ℕ) → load-function-lts.Need-same-length (load-function-calls t) (load-function-at t) load-function.Post
+load-function-same-length t c =
+    let c₁ = c .before .before .before .before in
+    let c₂ = c₁ .before .before .before .before .before .before .before in
+    let c₃ = c₂ .before .before .before .before .before in
+    let c₄ = c₃ .before .before .before .before in
+    let c₅ = c₄ .before .before .before .before .before .before .before .before .before .before in
+    let c₆ = c₅ .before .before .before .before in
+    let c₇ = c₆ .before .before .before .before .before .before in
+    c₁ .load-debug .kept .1 .0 ∙ c₂ .load-constants .kept .1 .0 ∙ c₃ .load-code .kept .1 .0 ∙ c₄ .put .kept .0 ∙ c₅ .copy-int2 .kept .1 .0 ∙ c₆ .copy-int .kept .1 .0 ∙ c₇ .load-source .kept .1 .0
+
+load-function-same-length-2 : (t : ℕ) → load-function-lts.Need-same-length-2 (load-function-calls t) (load-function-at t) load-function.Post
+load-function-same-length-2 t c =
+    let c₁ = c .before .before .before .before in
+    let c₂ = c₁ .before .before .before .before .before .before .before in
+    let c₃ = c₂ .before .before .before .before .before .before .before .before .before .before .before .before .before .before .before .before .before .before .before .before .before .before .before .before .before .before .before .before .before in
+    c₁ .load-debug .kept .1 .1 .0 ∙ c₂ .load-constants .kept .1 .1 .0 ∙ c₃ .load-source .kept .1 .1 .0
+
+load-function-returns-3 : (t : ℕ) → load-function-lts.Need-returns-3 (load-function-calls t) (load-function-at t) load-function.Post
+load-function-returns-3 t c =
+    let c₁ = c .before .before .before .before in
+    let c₂ = c₁ .before .before .before .before .before .before .before in
+    let c₃ = c₂ .before .before .before .before .before in
+    let c₄ = c₃ .before .before .before .before in
+    let c₅ = c₄ .before in
+    let c₆ = c₅ .before in
+    let c₇ = c₆ .before .before in
+    let c₈ = c₇ .before in
+    let c₉ = c₈ .before in
+    let c₁₀ = c₉ .before in
+    let c₁₁ = c₁₀ .before .before .before in
+    let c₁₂ = c₁₁ .before .before .before .before in
+    let c₁₃ = c₁₂ .before .before .before .before .before .before in
+    let c₁₄ = c₁₃ .before .before .before in
+    let c₁₅ = c₁₄ .before .before .before .before .before .before in
+    let n = c₁₅ .args .allowance - 1 in
+    let e : c₁₅ .args .allowance ≡ suc n = omega (arith, c₁₄ .if2 .left) in
+    rw e (function-loaded n (c₁₃ .load-source .ensures) (c₁₂ .copy-int .ensures _) (c₁₁ .copy-int2 .ensures _) (c₁₀ .load-byte .ensures) (c₉ .load-byte2 .ensures) (c₈ .load-byte3 .ensures) (c₇ .load-byte4 .ensures) (c₆ .at2 .ensures) (c₅ .joined .ensures) (c₄ .put .ensures .0) (c₄ .put .ensures .1 _) (c₃ .load-code .ensures _) (c₂ .load-constants .ensures) (c₁ .load-debug .ensures))
+
+pub +load-constants+load-function-spec : {M : Type 1} → statement M
++load-constants+load-function-spec =
+    close μ-load-constants μ-load-function (λ t. load-constants-lts.spec (load-constants-calls t) (load-constants-at t)
+    load-constants.Post
+    load-constants-Inv-loop
+    load-constants-μ-loop
+    (load-constants-load-pool-requires t)
+    (load-constants-copy-count-requires t)
+    (load-constants-loop-holds t)
+    (load-constants-same-length t)
+    (load-constants-same-length-2 t)
+    (load-constants-returns t)
+    (load-constants-load-function-requires t)
+    (load-constants-add-i t)
+    (load-constants-loop-less t)
+    (load-constants-loop-again t)
+    (load-constants-same-length-3 t)
+    (load-constants-same-length-4 t)
+    (load-constants-returns-2 t))
+    λ t. load-function-lts.spec (load-function-calls t) (load-function-at t)
+    load-function.Post
+    (load-function-returns t)
+    (load-function-refused-requires t)
+    (load-function-at-requires t)
+    (load-function-returns-2 t)
+    (load-function-load-source-requires t)
+    (load-function-copy-int-requires t)
+    (load-function-copy-int-requires-2 t)
+    (load-function-load-byte-requires t)
+    (load-function-load-byte-requires-2 t)
+    (load-function-load-byte-requires-3 t)
+    (load-function-load-byte-requires-4 t)
+    (load-function-at-requires-2 t)
+    (load-function-joined-requires t)
+    (load-function-put-requires t)
+    (load-function-load-code-requires t)
+    (load-function-sub-load-constants t)
+    (load-function-load-constants-requires t)
+    (load-function-load-debug-requires t)
+    (load-function-same-length t)
+    (load-function-same-length-2 t)
+    (load-function-returns-3 t)

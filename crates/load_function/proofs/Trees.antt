@@ -1,0 +1,68 @@
+-- A function put together from its parts, as the definition reads it.
+use Prim.Native.Nat.{ℕ, suc, _+_, _*_, _≤_}
+use mathlib.Core.Path.{_≡_, refl, _∙_}
+use mathlib.Core.List.{List}
+use native.Mathlib.Omega.{arith}
+use Rattle.format.specs.Tree.{count}
+use Rattle.format.specs.Read.{loadByte, loadInt, loadString, loadText, loadList, loadLocal, loadCount, loadConstant, manyFunctions, loadCode, loadConstants, loadDebug, loadFunction}
+use Rattle.format.specs.Store.{word, list, ints, constantPiece, functionPiece, functionPieces}
+use Rattle.format.specs.Undump.{repaired, repairedAll}
+use Rattle.load.specs.declared.cursor.Cursor.{Cursor}
+use Rattle.load.specs.declared.Load.{Load}
+use Rattle.load.specs.Step.{Step, space, Does, World, spaceOf, moved, Loads, repairedSourcePiece}
+use Rattle.load_function.specs.Repaired.{functionsPiece, repairedLocals, repairedNames, repairedDebugPiece, repairedConstants, repairedFunction}
+use Rattle.load.proofs.Steps.{stops, bind, done, stays-then}
+use Rattle.load.proofs.Stores.{join, regroup}
+use Rattle.load_function.proofs.Lists.{LoadsAll, listed}
+
+pub debug-loaded : {bs : List ℕ} {σ a b ρ : World} → Loads bs (loadList loadInt) ints σ a → Loads bs (loadList loadLocal) repairedLocals a b → Loads bs (loadList loadText) repairedNames b ρ
+    → Loads bs loadDebug repairedDebugPiece σ ρ
+unfolding loadDebug
+debug-loaded h k l = bind _ h (stays-then (k .stays) (l .stays)) (λ li d. bind _ k (l .stays) (λ lo e. bind _ l (λ z. refl) (λ up f. done _ (join d (join e f)))))
+
+-- the constants, a count, and as many functions
+pub constants-loaded : {bs : List ℕ} {σ a m ρ : World} {k : ℕ} (allowance : ℕ) → Loads bs (loadList loadConstant) (list constantPiece) σ a
+    → Step bs loadCount (λ v. (v ≡ k) × Does (word v) (spaceOf a) (spaceOf m)) (a .load .cursor) (m .load .cursor)
+    → LoadsAll bs (manyFunctions (loadFunction allowance)) (λ fs. count (repairedAll fs)) (λ fs. functionPieces (repairedAll fs)) k m ρ
+    → Loads bs (loadConstants (loadFunction allowance)) repairedConstants σ ρ
+unfolding loadConstants
+constants-loaded allowance h c l =
+    let all = listed (manyFunctions (loadFunction allowance)) c l in
+    bind _ h (all .stays) (λ ks d. bind _ all (λ z. refl) (λ fs e. done _ (join d e)))
+
+-- 7
+pub function-too-deep : {bs : List ℕ} {σ ρ : World} {n : ℕ} → n ≡ 0 → σ .load .cursor .refusal ≤ 0 → ρ .load .cursor .refusal ≡ 7 → Loads bs (loadFunction n) repairedFunction σ ρ
+unfolding loadFunction
+function-too-deep e z f = rw e (stops z refl f (omega arith))
+
+pub function-loaded : {bs : List ℕ} {σ a b c d e f ρ : World} {m₁ m₂ m₃ m₄ : Cursor} {nu np va ms v : ℕ} {p : Load} (allowance : ℕ)
+    → Loads bs loadString repairedSourcePiece σ a → Loads bs loadInt word a b → Loads bs loadInt word b c
+    → Step bs loadByte (λ x. x ≡ nu) (c .load .cursor) m₁ → Step bs loadByte (λ x. x ≡ np) m₁ m₂ → Step bs loadByte (λ x. x ≡ va) m₂ m₃ → Step bs loadByte (λ x. x ≡ ms) m₃ m₄
+    → p ≡ moved (c .load) m₄ → v ≡ ms + 256 * (va + 256 * (np + 256 * nu)) → d .load .cursor ≡ p .cursor → Does (word v) (space p (c .words) (c .text)) (spaceOf d)
+    → Loads bs loadCode ints d e → Loads bs (loadConstants (loadFunction allowance)) repairedConstants e f → Loads bs loadDebug repairedDebugPiece f ρ
+    → Loads bs (loadFunction (suc allowance)) repairedFunction σ ρ
+unfolding loadFunction repaired functionPiece
+function-loaded {c = c} {d = d} {m₄ = m₄} {nu = nu} {np = np} {va = va} {ms = ms} {v = v} allowance h₁ h₂ h₃ b₁ b₂ b₃ b₄ at-m₄ is-v at-p put h₄ h₅ h₆ =
+    let q : d .load .cursor ≡ m₄ = at-p ∙ rw at-m₄ in
+    let w : Does (word v) (spaceOf c) (spaceOf d) = rw at-m₄ at put in
+    let k₅ = h₆ .stays in
+    let k₄ = stays-then (h₅ .stays) k₅ in
+    let c₄ = stays-then (rw q at (h₄ .stays)) k₄ in
+    let c₃ = stays-then (b₄ .stays) c₄ in
+    let c₂ = stays-then (b₃ .stays) c₃ in
+    let c₁ = stays-then (b₂ .stays) c₂ in
+    let k₃ = stays-then (b₁ .stays) c₁ in
+    let k₂ = stays-then (h₃ .stays) k₃ in
+    let k₁ = stays-then (h₂ .stays) k₂ in
+    let p : v ≡ ((nu * 256 + np) * 256 + va) * 256 + ms = is-v ∙ omega arith in
+    bind _ h₁ k₁ (λ src d₁.
+    bind _ h₂ k₂ (λ ld d₂.
+    bind _ h₃ k₃ (λ lld d₃.
+    bind _ b₁ c₁ (λ x₁ e₁.
+    bind _ b₂ c₂ (λ x₂ e₂.
+    bind _ b₃ c₃ (λ x₃ e₃.
+    bind _ b₄ c₄ (λ x₄ e₄.
+    bind _ (rw q at h₄) k₄ (λ code d₅.
+    bind _ h₅ k₅ (λ ks d₆.
+    bind _ h₆ (λ z. refl) (λ de d₇.
+    done _ (rw (e₁, e₂, e₃, e₄, ← p) (join d₁ (join d₂ (join d₃ (join w (join d₅ (regroup (list constantPiece (ks .constants)) (functionsPiece (repairedAll (ks .functions))) (repairedDebugPiece de) (join d₆ d₇))))))))))))))))))

@@ -1,0 +1,80 @@
+-- Reading the locals that are left ends the whole list; a refusal ends it at once.
+use borrow.Author.Needs.{needs}
+use native.Mathlib.Omega.{arith}
+use Prim.Native.Nat.{_≤_, _-_}
+use mathlib.Core.Path.{_≡_, refl, _∙_}
+use mathlib.Core.List.{map}
+use lib.ListN.{length}
+use Rattle.format.specs.Read.{many, loadLocal}
+use Rattle.format.specs.Store.{pieces, localPiece}
+use Rattle.format.specs.Undump.{repairedLocal}
+use Rattle.load.specs.Step.{world}
+use Rattle.load_function.proofs.Lists.{Loop, items, loop-start, loop-stop, loop-turn, loop-end, listed}
+use Rattle.load_function.proofs.list.load_locals.Statement.{statement}
+use Rattle.load_function.proofs.list.load_locals.Tie as tie
+
+abbrev Inv-loop : tie.InvT-loop
+Inv-loop chunk words₀ text₀ n p₀ i₀ words text p i =
+    (i ≤ n) × (length words ≡ length words₀) × (length text ≡ length text₀)
+    × Loop chunk (many loadLocal) (λ l. length (map repairedLocal l)) ((λ l. pieces localPiece (map repairedLocal l))) n (world p₀ words₀ text₀) i (world p words text)
+
+abbrev μ-loop : tie.MeasureT-loop
+μ-loop chunk words₀ text₀ n p₀ i₀ words text p i = n - i
+
+copy-count-requires : tie.Need-copy-count-requires Inv-loop μ-loop
+copy-count-requires c κs = search needs
+
+loop-holds : tie.Need-loop-holds Inv-loop μ-loop
+loop-holds c = (omega arith, refl, refl, loop-start)
+
+same-length : tie.Need-same-length Inv-loop μ-loop
+same-length c = c .before .before .before .loop .inv .1 ∙ c .before .before .before .before .before .before .before .copy-count .kept .1 .0
+
+same-length-2 : tie.Need-same-length-2 Inv-loop μ-loop
+same-length-2 c = c .before .before .before .loop .inv .2
+
+returns : tie.Need-returns Inv-loop μ-loop
+returns c = listed (many loadLocal) (c .before .before .before .before .before .before .before .copy-count .ensures _) (loop-stop (omega arith) (c .before .before .before .loop .inv .3))
+
+load-local-requires : tie.Need-load-local-requires Inv-loop μ-loop
+load-local-requires c κs = search needs
+
+add-i : tie.Need-add-i Inv-loop μ-loop
+add-i c = omega arith
+
+loop-less : tie.Need-loop-less Inv-loop μ-loop
+loop-less c = omega arith
+
+loop-again : tie.Need-loop-again Inv-loop μ-loop
+loop-again c =
+    let c₁ = c .before .before .before .before in
+    let c₂ = c₁ .before .before .before .before .before .before in
+    (omega arith, c₁ .load-local .kept .1 .0 ∙ c₂ .loop .inv .1, c₁ .load-local .kept .1 .1 .0 ∙ c₂ .loop .inv .2, loop-turn (items loadLocal repairedLocal localPiece) (omega arith) (c₂ .loop .inv .3) (c₁ .load-local .ensures))
+
+same-length-3 : tie.Need-same-length-3 Inv-loop μ-loop
+same-length-3 c = c .before .loop .inv .1 ∙ c .before .before .before .before .before .copy-count .kept .1 .0
+
+same-length-4 : tie.Need-same-length-4 Inv-loop μ-loop
+same-length-4 c = c .before .loop .inv .2
+
+returns-2 : tie.Need-returns-2 Inv-loop μ-loop
+returns-2 c = listed (many loadLocal) (c .before .before .before .before .before .copy-count .ensures _) (loop-end (items loadLocal repairedLocal localPiece) (omega arith) (c .before .loop .inv .3))
+
+pub load-locals-spec : {M : Type 1} → statement M
+load-locals-spec =
+    tie.close
+    (tie.spec
+    Inv-loop
+    μ-loop
+    copy-count-requires
+    loop-holds
+    same-length
+    same-length-2
+    returns
+    load-local-requires
+    add-i
+    loop-less
+    loop-again
+    same-length-3
+    same-length-4
+    returns-2)

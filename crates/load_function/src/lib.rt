@@ -1,0 +1,95 @@
+// Functions, one inside the other.
+pub mod list;
+
+use list::load_locals;
+use list::load_names;
+use list::load_pool;
+use load::Load;
+use load::at;
+use load::copy_count;
+use load::copy_int;
+use load::cursor::joined;
+use load::cursor::load_byte;
+use load::cursor::refused;
+use load::ints::load_ints;
+use load::load_source;
+use load::put;
+ghost use mathlib.Core.List.{List};
+ghost use Prim.Native.Nat.{ℕ};
+ghost use Rattle.format.specs.Read.{loadCode, loadConstants, loadDebug, loadFunction};
+ghost use Rattle.format.specs.Store.{ints};
+ghost use Rattle.load.specs.Step.{world, Loads};
+ghost use Rattle.load_function.specs.Repaired.{repairedConstants, repairedDebugPiece, repairedFunction};
+
+pub fn load_code(chunk: &[u8], words: &mut [u32], s: Load) -> Load
+    ensures { λ r. ⌜ ((t : List ℕ) → Loads (now (chunk .entry)) loadCode ints (world s (now (words .entry)) t) (world r (now (words .exit)) t)) ⌝ }
+{
+    load_ints(chunk, words, s)
+}
+
+// The lines, the locals and the upvalue names.
+pub fn load_debug(chunk: &[u8], words: &mut [u32], text: &mut [u8], s: Load) -> Load
+    ensures { λ r. ⌜ Loads (now (chunk .entry)) loadDebug repairedDebugPiece (world s (now (words .entry)) (now (text .entry))) (world r (now (words .exit)) (now (text .exit))) ⌝ }
+{
+    let a = load_ints(chunk, words, s);
+    let b = load_locals(chunk, words, text, a);
+    load_names(chunk, words, text, b)
+}
+
+// A function, with so many functions nested at most.
+pub fn load_function(
+    chunk: &[u8],
+    words: &mut [u32],
+    text: &mut [u8],
+    s: Load,
+    allowance: u32,
+) -> Load
+    ensures { λ r. ⌜ Loads (now (chunk .entry)) (loadFunction allowance) repairedFunction (world s (now (words .entry)) (now (text .entry))) (world r (now (words .exit)) (now (text .exit))) ⌝ }
+{
+    if 0 < s.cursor.refusal {
+        return s;
+    }
+    if allowance == 0 {
+        return at(s, refused(7));
+    }
+    let a = load_source(chunk, words, text, s);
+    let b = copy_int(chunk, words, a);
+    let c = copy_int(chunk, words, b);
+    let nu = load_byte(chunk, c.cursor);
+    let np = load_byte(chunk, nu.cursor);
+    let va = load_byte(chunk, np.cursor);
+    let ms = load_byte(chunk, va.cursor);
+    let d = put(
+        words,
+        at(c, ms.cursor),
+        joined(ms.value, va.value, np.value, nu.value),
+    );
+    let e = load_code(chunk, words, d);
+    let f = load_constants(chunk, words, text, e, allowance - 1);
+    load_debug(chunk, words, text, f)
+}
+
+// The constants of a function, then the functions inside it.
+pub fn load_constants(
+    chunk: &[u8],
+    words: &mut [u32],
+    text: &mut [u8],
+    s: Load,
+    allowance: u32,
+) -> Load
+    ensures { λ r. ⌜ Loads (now (chunk .entry)) (loadConstants (loadFunction allowance)) repairedConstants (world s (now (words .entry)) (now (text .entry))) (world r (now (words .exit)) (now (text .exit))) ⌝ }
+{
+    let a = load_pool(chunk, words, text, s);
+    let c = copy_count(chunk, words, a);
+    let n = c.n;
+    let mut p = c.load;
+    let mut i: u32 = 0;
+    while i < n {
+        if 0 < p.cursor.refusal {
+            return p;
+        }
+        p = load_function(chunk, words, text, p, allowance);
+        i += 1;
+    }
+    p
+}

@@ -1,0 +1,119 @@
+// The lists of a function whose items are read one by one, each after its count.
+use load::Load;
+use load::at;
+use load::copy_count;
+use load::copy_int;
+use load::cursor::Constant;
+use load::cursor::load_constant;
+use load::load_name;
+use load::put;
+use load::put_string;
+ghost use mathlib.Core.Path.{_≡_};
+ghost use mathlib.Core.Bool.{cond};
+ghost use mathlib.Core.List.{List, [], _∷_};
+ghost use Prim.Native.Nat.{ℕ};
+ghost use Rattle.format.specs.Read.{loadList, loadText, loadLocal, loadConstant};
+ghost use Rattle.format.specs.Store.{constantPiece, plain};
+ghost use Rattle.format.specs.Store.{list as listPiece};
+ghost use Rattle.load.specs.Step.{valueOf, Within, space, world, Does, Loads};
+ghost use Rattle.load_function.specs.Repaired.{repairedLocalPiece, repairedLocals, repairedNames};
+
+fn bit(b: bool) -> u32
+    ensures { λ r. ⌜ r ≡ cond b 1 0 ⌝ }
+{
+    if b { 1 } else { 0 }
+}
+
+// Three words are stored.
+fn put3(words: &mut [u32], s: Load, a: u32, b: u32, c: u32) -> Load
+    ensures { λ r. ⌜ (r .cursor ≡ s .cursor) × ((t : List ℕ) → Does (plain (a ∷ b ∷ c ∷ [])) (space s (now (words .entry)) t) (space r (now (words .exit)) t)) ⌝ }
+{
+    let p = put(words, s, a);
+    let q = put(words, p, b);
+    put(words, q, c)
+}
+
+// A constant that was read goes to the store.
+fn put_constant(chunk: &[u8], words: &mut [u32], text: &mut [u8], s: Load, k: Constant) -> Load
+    requires { ⌜ Within (now chunk) k ⌝ }
+    ensures { λ r. ⌜ (r .cursor ≡ s .cursor) × Does (constantPiece (valueOf (now (chunk .entry)) k)) (space s (now (words .entry)) (now (text .entry))) (space r (now (words .exit)) (now (text .exit))) ⌝ }
+{
+    match k {
+        Constant::Nil => put3(words, s, 0, 0, 0),
+        Constant::Bool(b) => put3(words, s, 1, bit(b), 0),
+        Constant::Num(high, low) => put3(words, s, 3, high, low),
+        Constant::String(start, len) => {
+            let p = put(words, s, 4);
+            let end = start + len;
+            let t = lent::put_bytes(text, p.text, &chunk[start..end]);
+            put_string(words, p, t)
+        }
+    }
+}
+
+fn copy_constant(chunk: &[u8], words: &mut [u32], text: &mut [u8], s: Load) -> Load
+    ensures { λ r. ⌜ Loads (now (chunk .entry)) loadConstant constantPiece (world s (now (words .entry)) (now (text .entry))) (world r (now (words .exit)) (now (text .exit))) ⌝ }
+{
+    let z = load_constant(chunk, s.cursor);
+    let k = z.constant;
+    put_constant(chunk, words, text, at(s, z.cursor), k)
+}
+
+pub fn load_pool(chunk: &[u8], words: &mut [u32], text: &mut [u8], s: Load) -> Load
+    ensures { λ r. ⌜ Loads (now (chunk .entry)) (loadList loadConstant) (listPiece constantPiece) (world s (now (words .entry)) (now (text .entry))) (world r (now (words .exit)) (now (text .exit))) ⌝ }
+{
+    let c = copy_count(chunk, words, s);
+    let n = c.n;
+    let mut p = c.load;
+    let mut i: u32 = 0;
+    while i < n {
+        if 0 < p.cursor.refusal {
+            return p;
+        }
+        p = copy_constant(chunk, words, text, p);
+        i += 1;
+    }
+    p
+}
+
+fn load_local(chunk: &[u8], words: &mut [u32], text: &mut [u8], s: Load) -> Load
+    ensures { λ r. ⌜ Loads (now (chunk .entry)) loadLocal repairedLocalPiece (world s (now (words .entry)) (now (text .entry))) (world r (now (words .exit)) (now (text .exit))) ⌝ }
+{
+    let p = load_name(chunk, words, text, s);
+    let q = copy_int(chunk, words, p);
+    copy_int(chunk, words, q)
+}
+
+pub fn load_locals(chunk: &[u8], words: &mut [u32], text: &mut [u8], s: Load) -> Load
+    ensures { λ r. ⌜ Loads (now (chunk .entry)) (loadList loadLocal) repairedLocals (world s (now (words .entry)) (now (text .entry))) (world r (now (words .exit)) (now (text .exit))) ⌝ }
+{
+    let c = copy_count(chunk, words, s);
+    let n = c.n;
+    let mut p = c.load;
+    let mut i: u32 = 0;
+    while i < n {
+        if 0 < p.cursor.refusal {
+            return p;
+        }
+        p = load_local(chunk, words, text, p);
+        i += 1;
+    }
+    p
+}
+
+pub fn load_names(chunk: &[u8], words: &mut [u32], text: &mut [u8], s: Load) -> Load
+    ensures { λ r. ⌜ Loads (now (chunk .entry)) (loadList loadText) repairedNames (world s (now (words .entry)) (now (text .entry))) (world r (now (words .exit)) (now (text .exit))) ⌝ }
+{
+    let c = copy_count(chunk, words, s);
+    let n = c.n;
+    let mut p = c.load;
+    let mut i: u32 = 0;
+    while i < n {
+        if 0 < p.cursor.refusal {
+            return p;
+        }
+        p = load_name(chunk, words, text, p);
+        i += 1;
+    }
+    p
+}

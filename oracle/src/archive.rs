@@ -1,0 +1,130 @@
+//! This library's exported calls, through its archive.
+
+use std::time::Instant;
+
+#[repr(C)]
+#[derive(Debug, Clone, Copy, PartialEq)]
+pub struct Undumped {
+    pub refusal: u32,
+    pub words: usize,
+    pub text: usize,
+    pub read: usize,
+}
+
+#[repr(C)]
+#[derive(Debug, Clone, Copy, PartialEq)]
+pub struct Written {
+    pub refusal: u32,
+    pub len: usize,
+}
+
+unsafe extern "C" {
+    fn lua_chunk_undump(
+        chunk: *const u8,
+        chunk_len: usize,
+        name: *const u8,
+        name_len: usize,
+        words: *mut u32,
+        words_len: usize,
+        text: *mut u8,
+        text_len: usize,
+    ) -> Undumped;
+
+    fn lua_chunk_dump(
+        words: *const u32,
+        words_len: usize,
+        text: *const u8,
+        text_len: usize,
+        name: *const u8,
+        name_len: usize,
+        strip: bool,
+        out: *mut u8,
+        out_len: usize,
+    ) -> Written;
+    fn lua_chunk_list_function(
+        words: *const u32,
+        words_len: usize,
+        text: *const u8,
+        text_len: usize,
+        name: *const u8,
+        name_len: usize,
+        full: bool,
+        out: *mut u8,
+        out_len: usize,
+    ) -> Written;
+}
+
+pub fn undump(chunk: &[u8], name: &[u8], words: &mut [u32], text: &mut [u8]) -> Undumped {
+    unsafe {
+        lua_chunk_undump(
+            chunk.as_ptr(),
+            chunk.len(),
+            name.as_ptr(),
+            name.len(),
+            words.as_mut_ptr(),
+            words.len(),
+            text.as_mut_ptr(),
+            text.len(),
+        )
+    }
+}
+
+pub fn dump(words: &[u32], text: &[u8], name: &[u8], strip: bool, out: &mut [u8]) -> Written {
+    unsafe {
+        lua_chunk_dump(
+            words.as_ptr(),
+            words.len(),
+            text.as_ptr(),
+            text.len(),
+            name.as_ptr(),
+            name.len(),
+            strip,
+            out.as_mut_ptr(),
+            out.len(),
+        )
+    }
+}
+
+pub fn list_function(words: &[u32], text: &[u8], name: &[u8], full: bool, out: &mut [u8]) -> Written {
+    unsafe {
+        lua_chunk_list_function(
+            words.as_ptr(),
+            words.len(),
+            text.as_ptr(),
+            text.len(),
+            name.as_ptr(),
+            name.len(),
+            full,
+            out.as_mut_ptr(),
+            out.len(),
+        )
+    }
+}
+
+/// The store of a chunk, where it is not refused.
+pub fn store(chunk: &[u8], name: &[u8]) -> Result<(Vec<u32>, Vec<u8>), u32> {
+    let (mut words, mut text) = (vec![0; chunk.len() + 64], vec![0; 3 * chunk.len() + 64]);
+    let r = undump(chunk, name, &mut words, &mut text);
+    if 0 < r.refusal {
+        return Err(r.refusal);
+    }
+    words.truncate(r.words);
+    text.truncate(r.text);
+    Ok((words, text))
+}
+
+/// The median time of 21 runs, in nanoseconds, after one that is not counted.
+pub fn median<T>(mut run: impl FnMut() -> T) -> f64 {
+    run();
+    let mut ns: Vec<u128> = (0..21)
+        .map(|_| {
+            let start = Instant::now();
+            let answer = run();
+            let ns = start.elapsed().as_nanos();
+            drop(answer);
+            ns
+        })
+        .collect();
+    ns.sort_unstable();
+    ns[10] as f64
+}
