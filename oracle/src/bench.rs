@@ -1,93 +1,134 @@
-//! bench FILE [RUNS]: times undump, dump and list in this process, without input or output.
-//! Prints minimum, median and maximum over RUNS runs, and the median in ns per chunk byte.
+//! bench RUNS PATH..: times this library's calls and the Rust's, in turn, over the same chunks.
+//!
+//! A path is a chunk, or a folder of chunks that are timed together. Prints the least, the middle and the greatest time of each in
+//! ns per chunk byte, and the ratio of the least times. `bench dump RUNS PATH..` runs this library's dump alone, for a profiler.
+//! The Rust's dump makes a vector and lets it grow, ours writes to lent memory; trees are dropped outside the time.
 
 use std::hint::black_box;
 use std::time::Instant;
 
+use oracle::archive;
+use oracle::hexnum;
 use oracle::requests::count;
-use oracle::vm::proto::Proto;
 use oracle::vm::dump::dump;
 use oracle::vm::listing::list_function;
+use oracle::vm::proto::ProtoRef;
 use oracle::vm::undump::undump;
 
-fn time<T>(label: &str, runs: usize, bytes: usize, f: impl Fn() -> T, size: impl Fn(&T) -> usize) {
-    let mut ns: Vec<u128> = Vec::new();
-    let mut out = 0;
-    for i in 0..=runs {
-        let start = Instant::now();
-        let r = black_box(f());
-        let t = start.elapsed().as_nanos();
-        out = size(&r);
-        if i > 0 {
-            ns.push(t); // the first run warms up
-        }
-        // r is dropped here, outside the time
-    }
-    ns.sort_unstable();
-    let median = ns[ns.len() / 2];
-    println!(
-        "{label:<22} min {:>9.3} ms  median {:>9.3} ms  max {:>9.3} ms  {:>7.3} ns/byte  (result {out})",
-        ns[0] as f64 / 1e6,
-        median as f64 / 1e6,
-        ns[ns.len() - 1] as f64 / 1e6,
-        median as f64 / bytes as f64
-    );
+const NAME: &str = "=bench";
+
+/// A chunk, with space for what the calls leave.
+struct Chunk {
+    bytes: Vec<u8>,
+    tree: ProtoRef,
+    /// The same with numbers that print as 16 digits.
+    hex: hexnum::proto::ProtoRef,
+    words: Vec<u32>,
+    text: Vec<u8>,
+    out: Vec<u8>,
 }
 
-/// Words and text bytes that the scope's store would take (sources counted as own only where they differ
-/// from the parent's), the longest list, and the deepest nesting.
-fn store(p: &Proto, parent: &str, depth: usize, sum: &mut [usize; 4]) {
-    let lists = [
-        p.code.len(),
-        p.constants.len(),
-        p.protos.len(),
-        p.line_info.len(),
-        p.local_vars.len(),
-        p.upvalue_names.len(),
-    ];
-    sum[0] += 12 + lists[0] + 3 * lists[1] + lists[3] + 4 * lists[4] + 2 * lists[5];
-    sum[1] += if p.source == parent { 0 } else { p.source.len() };
-    sum[1] += p.string_pool.iter().map(|(_, b)| b.len()).sum::<usize>();
-    sum[1] += p.local_vars.iter().map(|v| v.name.len()).sum::<usize>();
-    sum[1] += p.upvalue_names.iter().map(String::len).sum::<usize>();
-    sum[2] = sum[2].max(*lists.iter().max().unwrap());
-    sum[3] = sum[3].max(depth);
-    for c in &p.protos {
-        store(c, &p.source, depth + 1, sum);
+impl Chunk {
+    fn read(bytes: Vec<u8>) -> Chunk {
+        let tree = undump(&bytes, NAME).unwrap();
+        let hex = hexnum::undump::undump(&bytes, NAME).unwrap();
+        let (mut words, mut text) = (vec![0; bytes.len() + 64], vec![0; 3 * bytes.len() + 64]);
+        let u = archive::undump(&bytes, NAME.as_bytes(), &mut words, &mut text);
+        assert_eq!((u.refusal, u.read), (0, bytes.len()));
+        words.truncate(u.words);
+        text.truncate(u.text);
+        Chunk { out: vec![0; bytes.len()], bytes, tree, hex, words, text }
     }
+
+    fn undump(&mut self) -> usize {
+        archive::undump(black_box(&self.bytes), NAME.as_bytes(), &mut self.words, &mut self.text).read
+    }
+
+    fn dump(&mut self, strip: bool) -> usize {
+        let w = archive::dump(black_box(&self.words), &self.text, NAME.as_bytes(), strip, &mut self.out);
+        assert_eq!(w.refusal, 0);
+        w.len
+    }
+}
+
+fn chunks(path: &str) -> Vec<Chunk> {
+    let mut files = vec![path.into()];
+    if let Ok(dir) = std::fs::read_dir(path) {
+        files = dir.map(|f| f.unwrap().path()).collect();
+        files.sort();
+    }
+    files.iter().map(|f| Chunk::read(std::fs::read(f).unwrap())).collect()
+}
+
+/// The chunks of a path, and how often each time is taken.
+struct Bench {
+    chunks: Vec<Chunk>,
+    bytes: usize,
+    runs: usize,
+}
+
+impl Bench {
+    /// Nanoseconds a byte of f over all chunks, small ones several times; what it answers is dropped outside the time.
+    fn time<T>(&mut self, mut f: impl FnMut(&mut Chunk) -> T) -> f64 {
+        let times = 1_000_000 / self.bytes + 1;
+        let mut answers = Vec::with_capacity(times * self.chunks.len());
+        let start = Instant::now();
+        for _ in 0..times {
+            for chunk in &mut self.chunks {
+                answers.push(black_box(f(chunk)));
+            }
+        }
+        start.elapsed().as_nanos() as f64 / (times * self.bytes) as f64
+    }
+
+    /// Both in turn, after one run each to warm up.
+    fn both<T, U>(&mut self, call: &str, mut ours: impl FnMut(&mut Chunk) -> T, mut rust: impl FnMut(&mut Chunk) -> U) {
+        let (mut here, mut there) = (Vec::new(), Vec::new());
+        for _ in 0..=self.runs {
+            here.push(self.time(&mut ours));
+            there.push(self.time(&mut rust));
+        }
+        let ([a, b, c], [d, e, f]) = (sorted(here.split_off(1)), sorted(there.split_off(1)));
+        println!("  {call:<11} ours {a:>8.3} {b:>8.3} {c:>8.3}   the Rust {d:>9.3} {e:>9.3} {f:>9.3}   ratio {:.2}", a / d);
+    }
+
+    fn rust<T>(&mut self, call: &str, mut f: impl FnMut(&mut Chunk) -> T) {
+        let mut ns: Vec<f64> = (0..=self.runs).map(|_| self.time(&mut f)).collect();
+        let [a, b, c] = sorted(ns.split_off(1));
+        println!("  {call:<46} the Rust {a:>9.3} {b:>9.3} {c:>9.3}");
+    }
+}
+
+/// Least, middle and greatest.
+fn sorted(mut ns: Vec<f64>) -> [f64; 3] {
+    ns.sort_by(f64::total_cmp);
+    [ns[0], ns[ns.len() / 2], ns[ns.len() - 1]]
 }
 
 fn main() {
-    let mut args = std::env::args().skip(1);
-    let path = args.next().expect("bench FILE [RUNS]");
-    let runs: usize = args.next().map_or(11, |r| r.parse().unwrap());
-    let data = std::fs::read(&path).unwrap();
-    let n = data.len();
-    let p = undump(&data, "=bench").unwrap();
-    let mut sum = [0; 4];
-    store(&p, "=bench", 1, &mut sum);
-    println!(
-        "{path}: {n} bytes, {} functions, {runs} runs; store {} words, {} text bytes; longest list {}, depth {}",
-        count(&p), sum[0], sum[1], sum[2], sum[3]
-    );
-    time("undump", runs, n, || undump(black_box(&data), "=bench").unwrap(), |p| count(p));
-    time("dump", runs, n, || dump(black_box(&p), None, false), Vec::len);
-    time("dump strip", runs, n, || dump(black_box(&p), None, true), Vec::len);
-    time("list plain", runs, n, || list_function(black_box(&p), false), String::len);
-    time("list full", runs, n, || list_function(black_box(&p), true), String::len);
-    let h = oracle::hexnum::undump::undump(&data, "=bench").unwrap();
-    time(
-        "list plain, hex nums",
-        runs,
-        n,
-        || oracle::hexnum::listing::list_function(black_box(&h), false),
-        String::len,
-    );
-    time(
-        "list full, hex nums",
-        runs,
-        n,
-        || oracle::hexnum::listing::list_function(black_box(&h), true),
-        String::len,
-    );
+    let mut args: Vec<String> = std::env::args().skip(1).collect();
+    let alone = args.first().is_some_and(|a| a == "dump");
+    if alone {
+        args.remove(0);
+    }
+    let runs: usize = args.first().and_then(|n| n.parse().ok()).expect("bench [dump] RUNS PATH..");
+    for path in &args[1..] {
+        let chunks = chunks(path);
+        let bytes = chunks.iter().map(|c| c.bytes.len()).sum();
+        let mut b = Bench { chunks, bytes, runs };
+        if alone {
+            (0..runs).for_each(|_| _ = b.time(|c| c.dump(false)));
+            continue;
+        }
+        let functions: usize = b.chunks.iter().map(|c| count(&c.tree)).sum();
+        println!("{path}: {} chunks, {bytes} bytes, {functions} functions, {runs} runs, ns a byte", b.chunks.len());
+        b.both("undump", Chunk::undump, |c| undump(black_box(&c.bytes), NAME));
+        for (call, strip) in [("dump", false), ("dump strip", true)] {
+            b.both(call, |c| c.dump(strip), |c| dump(black_box(&c.tree), None, strip).len());
+        }
+        for (call, full) in [("list plain", false), ("list full", true)] {
+            b.rust(call, |c| list_function(black_box(&c.tree), full).len());
+            b.rust(&format!("{call}, hex numbers"), |c| hexnum::listing::list_function(black_box(&c.hex), full).len());
+        }
+    }
 }

@@ -59,10 +59,10 @@ size-ints n =
 pub string-puts : {at a b r : ℕ} {out out₁ out₂ out′ : List ℕ} (s : List ℕ) → Puts (dumpSize (length s + 1)) at out a out₁ → Puts s a out₁ b out₂ → Puts (0 ∷ []) b out₂ r out′ → Puts (dumpText s) at out r out′
 string-puts s p q t = put-then (put-then p q) t
 
-size-length : (n : ℕ) → length (dumpSize n) ≡ 8
+pub size-length : (n : ℕ) → length (dumpSize n) ≡ 8
 size-length n = rw (size-ints n) (length-append (dumpInt (n % 4294967296)) _ ∙ rw (int-length (n % 4294967296), int-length (n / 4294967296)))
 
-string-length : (s : List ℕ) → length (dumpText s) ≡ length s + 9
+pub string-length : (s : List ℕ) → length (dumpText s) ≡ length s + 9
 string-length s =
     let a : length (dumpSize (length s + 1) ++ s) ≡ 8 + length s = length-append (dumpSize (length s + 1)) s ∙ rw (size-length (length s + 1)) in
     length-append (dumpSize (length s + 1) ++ s) (0 ∷ []) ∙ omega (arith, a)

@@ -1,6 +1,7 @@
 -- The call: what is refused, and what is written.
-use Prim.Native.Nat.{ℕ, _≤_, _<_}
-use mathlib.Core.Path.{_≡_, refl}
+use Prim.Native.Nat.{ℕ, _+_, _*_, _≤_, _<_}
+use mathlib.Core.Path.{_≡_, refl, ap}
+use native.Mathlib.Omega.{arith}
 use mathlib.Core.List.{List, [], _++_}
 use mathlib.Core.Bool.{Bool, true, false}
 use mathlib.Core.Option.{Option}
@@ -14,12 +15,13 @@ use Rattle.format.specs.Undump.{nameOk}
 use Rattle.format.specs.Valid.{depth, Valid, Holds}
 use Rattle.format.specs.Write.{dumpHeader, dumpFunction, dumpChunk}
 use Rattle.format.specs.Dump.{WriteLeft, writeRefused, written, dumpedBy, dumped}
-use Rattle.format.proofs.Writing.{written-short, written-all}
+use Rattle.format.proofs.Writing.{written-short, written-all, written-fits}
 use Rattle.proto.specs.Formed.{isHeld}
 use Rattle.proto.specs.Walk.{Stands}
 use Rattle.proto.proofs.Heres.{whole-here}
 use Rattle.proto.proofs.Stores.{held-tree, no-tree}
 use Rattle.dump.specs.Step.{Reached, Dumps}
+use Rattle.dump.proofs.Bounds.{chunk-bound}
 
 -- the root stands at the beginning of its store
 root-stands : {words text : List ℕ} {f : Function} → Holds words text f → Stands words text 0 0 (functionPiece f)
@@ -38,6 +40,15 @@ module _ (words text name : List ℕ) (strip : Bool) (out : List ℕ) where
   pub refused-store : nameOk name ≡ true → isHeld (treeOf words text) ≡ false → writeRefused 10 out ≡ dumped words text name strip out
   unfolding dumped
   refused-store e h = rw e (no-tree words text (λ x. writeRefused 10 out ≡ dumpedBy x name strip out) h refl)
+
+  -- there is room for any chunk of this store
+  pub dumped-roomy : {r : ℕ} {out′ : List ℕ} → nameOk name ≡ true → isHeld (treeOf words text) ≡ true → length out < far → 12 + 5 * length words + length text + length name ≤ length out
+      → ((f : Function) → Holds words text f → Puts (dumpChunk strip name f) 0 out r out′) → record { answer = record { refusal = 0; len = r }; out = out′ } ≡ dumped words text name strip out
+  unfolding dumped
+  dumped-roomy {r} {out′} e h l k p =
+      rw e
+      (held-tree words text (λ x. record { answer = record { refusal = 0; len = r }; out = out′ } ≡ dumpedBy x name strip out) h
+      (λ f t. written-fits out l (let b = chunk-bound f strip name in omega (arith, b, ap length (t .words-are), ap length (t .text-is))) (p f t)))
 
   module _ {n : ℕ} {last : List ℕ} (e : nameOk name ≡ true) (h : isHeld (treeOf words text) ≡ true) (counts : (f : Function) → Holds words text f → Puts (dumpChunk strip name f) 0 [] n last)
       (l : length out < far) where

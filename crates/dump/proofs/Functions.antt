@@ -72,7 +72,7 @@ constants-dumped {words} {text} {a = a} {r = r} allowance strip source d e w all
 
 -- ---- a function
 
-regroup : (s a b c code ks fs d : Piece) → Same (s ⊕ a ⊕ b ⊕ c ⊕ code ⊕ ks ⊕ fs ⊕ d) ((((((s ⊕ a) ⊕ b) ⊕ c) ⊕ code) ⊕ (ks ⊕ fs)) ⊕ d)
+pub regroup : (s a b c code ks fs d : Piece) → Same (s ⊕ a ⊕ b ⊕ c ⊕ code ⊕ ks ⊕ fs ⊕ d) ((((((s ⊕ a) ⊕ b) ⊕ c) ⊕ code) ⊕ (ks ⊕ fs)) ⊕ d)
 regroup s a b c code ks fs d = record { words = λ to. simp (append-assoc, length-append, add-assoc); text = simp append-assoc }
 
 -- what stands behind its source

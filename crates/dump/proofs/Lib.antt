@@ -1,4 +1,5 @@
 pub mod Blocks
 pub mod Steps
 pub mod Functions
+pub mod Bounds
 pub mod Calls

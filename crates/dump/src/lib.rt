@@ -10,7 +10,9 @@ use function::dump_function;
 use list::DumpState;
 use proto::formed::DEPTH;
 use proto::formed::check_store;
+ghost use Prim.Native.Nat.{_+_, _*_, _≤_};
 ghost use mathlib.Core.Path.{_≡_};
+ghost use mathlib.Core.Bool.{true};
 ghost use mathlib.Core.List.{[]};
 ghost use Rattle.lent.specs.Memory.{Puts};
 ghost use Rattle.format.specs.Tree.{Function};
@@ -50,7 +52,25 @@ fn dump_chunk<'a>(
     end.len
 }
 
-// Writes the chunk of a store to lent memory: once with no space, to count, then, where all fits, to write. Refused by 1, 10, 11.
+// Whether a space has room for 12 bytes, five for each of so many words, and a and b bytes more.
+fn has_room(space: usize, words: usize, a: usize, b: usize) -> bool
+    ensures { λ r. ⌜ (r ≡ true → 12 + 5 * words + a + b ≤ space) ⌝ }
+{
+    if space < 12 {
+        return false;
+    }
+    if space - 12 < a {
+        return false;
+    }
+    let left = space - 12 - a;
+    if left < b {
+        return false;
+    }
+    words <= (left - b) / 5
+}
+
+// Writes the chunk of a store to lent memory. No chunk is longer than has_room asks for; where there is less room, a run with no
+// space counts first. Refused by 1, 10, 11.
 pub fn dump<'a>(
     words: &[u32],
     text: &'a [u8],
@@ -65,6 +85,10 @@ pub fn dump<'a>(
     }
     if !check_store(words, text) {
         return refused(10);
+    }
+    if has_room(out.len(), words.len(), text.len(), name.len()) {
+        let len = dump_chunk(words, text, name, strip, out);
+        return Written { refusal: 0, len };
     }
     let mut no_space = [0u8; 0];
     let len = dump_chunk(words, text, name, strip, &mut no_space);

@@ -22,3 +22,10 @@ module _ {bytes last : List ℕ} {n : ℕ} (out : List ℕ) (counts : Puts bytes
   written-all h p =
       let e : n ≡ length bytes = omega (arith, counted counts) in
       rw (le-leb (length bytes) (length out) (omega (arith, e)), e, put-fits p (omega (arith, e)) (omega arith) .1, zero-add)
+
+-- bytes that fit, written without being counted
+pub written-fits : {bytes : List ℕ} {r : ℕ} {out′ : List ℕ} (out : List ℕ) → length out < far → length bytes ≤ length out → Puts bytes 0 out r out′
+    → record { answer = record { refusal = 0; len = r }; out = out′ } ≡ written bytes out
+written-fits {bytes} out h k p =
+    let q = put-fits p (omega arith) (omega arith) in
+    rw (le-leb (length bytes) (length out) k, q .0, q .1, zero-add)

@@ -1,20 +1,15 @@
--- What the calls promise: the text of whatever stands where they look.
+-- What stands where a line is made from: the lists of a function, and the number of a child.
 use Prim.Native.Nat.{ℕ, _<_}
 use mathlib.Core.Path.{_≡_}
 use mathlib.Core.List.{List}
-use Rattle.lent.specs.Memory.{Puts}
 use Rattle.format.specs.Tree.{Parts, Functions, count}
-use Rattle.format.specs.Store.{Piece, list, ints, string, constantPiece, localPiece}
+use Rattle.format.specs.Store.{list, ints, string, constantPiece, localPiece}
 use Rattle.proto.specs.Walk.{childrenPiece}
 use Rattle.proto.proofs.Items.{StandsAt}
 use Rattle.instructions.specs.Fields.{GETARG-Bx}
 use Rattle.instructions.specs.OpCodes.{OP-CLOSURE}
 use Rattle.lines.specs.Line.{childNumber}
 use Rattle.lines.specs.declared.Lists.{Lists}
-
--- whatever stands at a place of the words, its text is written
-pub record Shows {A : Type 0} (words text : List ℕ) (place : ℕ) (piece : A → Piece) (say : A → List ℕ) (at : ℕ) (out : List ℕ) (at′ : ℕ) (out′ : List ℕ) : Type 0 where
-  pub shows : (a : A) → StandsAt words text place (piece a) → Puts (say a) at out at′ out′
 
 -- the lists of a function stand there
 pub record ListsAt (words text : List ℕ) (l : Lists) (p : Parts) (fs : Functions) : Type 0 where

@@ -1,9 +1,5 @@
 // The comment of an instruction.
 use crate::Lists;
-use crate::constant::format_constant;
-use crate::constant::format_constant_raw;
-use crate::operand::MAXARG_SBX;
-use crate::operand::put_difference;
 use digits::put_decimal;
 use instructions::Instruction;
 use instructions::OP_ADD;
@@ -33,6 +29,10 @@ use instructions::index_k;
 use instructions::is_k;
 use lent::put_byte;
 use lent::put_bytes;
+use operands::constant::format_constant;
+use operands::constant::format_constant_raw;
+use operands::operand::MAXARG_SBX;
+use operands::operand::put_difference;
 use proto::walk::item_at;
 use proto::walk::string_at;
 use proto::walk::word_at;
@@ -49,8 +49,10 @@ ghost use Rattle.format.specs.Store.{list, ints, string, constantPiece};
 ghost use Rattle.proto.specs.Walk.{item};
 ghost use Rattle.instructions.specs.Fields.{ISK, INDEXK};
 ghost use Rattle.instructions.specs.OpCodes.{ascii};
-ghost use Rattle.lines.specs.Line.{formatConstant, formatConstantRaw, address, comment, when, upvalueText, operandConstant, jumpTarget, formatSetList, formatComment, among, operandOps, jumpOps};
-ghost use Rattle.lines.specs.Shown.{Shows, ListsAt, ChildIs};
+ghost use Rattle.operands.specs.Operands.{formatConstant, formatConstantRaw};
+ghost use Rattle.lines.specs.Line.{address, comment, when, upvalueText, operandConstant, jumpTarget, formatSetList, formatComment, among, operandOps, jumpOps};
+ghost use Rattle.operands.specs.Shown.{Shows};
+ghost use Rattle.lines.specs.Shown.{ListsAt, ChildIs};
 
 // The number of a function, for its address.
 pub fn put_address(n: usize, out: &mut [u8], at: usize) -> usize

@@ -1,15 +1,13 @@
 // One instruction's line of a listing, and the constants that it names (listing.rs: format_constant, format_constant_raw, and the body of
 // format_code's loop). Each call writes its text at a place of lent bytes and answers the next place; what is past the end is not written.
 pub mod comment;
-pub mod constant;
-pub mod operand;
 
 use comment::format_comment;
 use digits::put_decimal;
 use instructions::Instruction;
 use lent::put_byte;
 use lent::put_bytes;
-use operand::format_operands;
+use operands::operand::format_operands;
 use proto::walk::item_at;
 use proto::walk::word_at;
 ghost use Prim.Native.Nat.{ℕ};
@@ -20,7 +18,8 @@ ghost use Rattle.format.specs.Store.{ints};
 ghost use Rattle.proto.specs.Walk.{item};
 ghost use Rattle.instructions.specs.OpCodes.{opcode, opName, padded};
 ghost use Rattle.lines.specs.Line.{index, formatLine, formatInstruction};
-ghost use Rattle.lines.specs.Shown.{Shows, ListsAt, ChildIs};
+ghost use Rattle.operands.specs.Shown.{Shows};
+ghost use Rattle.lines.specs.Shown.{ListsAt, ChildIs};
 
 // Where the lists of a function stand in the words.
 pub struct Lists {

@@ -3,7 +3,6 @@ use Prim.Native.Nat.{ℕ, _+_, _≤_, _<_}
 use mathlib.Core.Path.{_≡_, refl, ap}
 use mathlib.Core.Bool.{Bool, true, false}
 use mathlib.Core.List.{List, []}
-use mathlib.Core.Option.{Option}
 use native.Mathlib.Omega.{arith}
 use lib.ListN.{length, length-append}
 use Rattle.lent.specs.Memory.{far, Puts}
@@ -12,7 +11,7 @@ use Rattle.format.specs.Store.{wordsOf, textOf, debugPiece, functionPiece, func
 use Rattle.format.specs.Stored.{treeOf}
 use Rattle.format.specs.Undump.{nameOk}
 use Rattle.format.specs.Valid.{depth, Valid, Holds}
-use Rattle.format.specs.Dump.{WriteLeft, writeRefused, written}
+use Rattle.format.specs.Dump.{writeRefused, written}
 use Rattle.format.proofs.Writing.{written-short, written-all}
 use Rattle.proto.specs.Formed.{isHeld}
 use Rattle.proto.specs.Walk.{Stands, total, totalAll, childrenPiece, toFunctions, toLines}

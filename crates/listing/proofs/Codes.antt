@@ -1,27 +1,25 @@
 -- The loop over the code of a function: the line of each instruction, with the child that a CLOSURE names.
 use Prim.Native.Nat.{ℕ, _+_, _*_, _≤_, _<_}
-use mathlib.Core.Path.{_≡_, refl, sym, _∙_}
+use mathlib.Core.Path.{_≡_, refl, _∙_}
 use mathlib.Core.List.{List, []}
-use mathlib.Core.Option.{some}
-use native.Mathlib.Omega.{arith}
 use lib.ListN.{length, getD}
 use Rattle.lent.specs.Memory.{Puts, far}
 use Rattle.format.specs.Tree.{Parts, Functions}
 use Rattle.format.specs.Store.{word}
 use Rattle.format.specs.Valid.{ValidAll}
 use Rattle.instructions.specs.OpCodes.{opcode}
-use Rattle.proto.specs.Walk.{item, Skips, totalAll}
+use Rattle.proto.specs.Walk.{Skips, totalAll}
 use Rattle.proto.proofs.Heres.{here-get}
 use Rattle.proto.proofs.Pieces.{stands-same}
 use Rattle.proto.proofs.Items.{ints-count, list-item}
 use Rattle.lines.specs.declared.Lists.{Lists}
 use Rattle.lines.specs.Line.{formatInstruction}
 use Rattle.lines.specs.Shown.{ListsAt, ChildIs}
-use Rattle.lines.proofs.Shows.{ints-list}
+use Rattle.operands.proofs.Shows.{ints-list}
 use Rattle.listing.specs.declared.code.Kept.{Kept}
 use Rattle.listing.specs.Listing.{formatCode}
 use Rattle.listing.specs.Kept.{KeptAt, Closes}
-use Rattle.listing.proofs.Enumerates.{Enumerates, enumerates-start, enumerates-turn, enumerates-end}
+use Rattle.headers.proofs.Enumerates.{Enumerates, enumerates-start, enumerates-turn, enumerates-end}
 
 -- a function
 pub record Owner : Type 0 where

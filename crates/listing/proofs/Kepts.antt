@@ -1,27 +1,23 @@
 -- From a child of a function to the next: those behind it stand behind it, and its number is the next one's less the functions in it.
 use Prim.Native.Nat.{ℕ, suc, _+_, _*_, _≤_, _<_, min}
-use mathlib.Core.Path.{_≡_, refl, sym, ap, _∙_}
+use mathlib.Core.Path.{_≡_, refl, ap, _∙_}
 use mathlib.Core.List.{List}
 use native.Mathlib.Omega.{arith}
-use native.Mathlib.Nat.{add-zero, add-assoc}
-use native.Mathlib.Numerals.{add-one}
-use lib.ListN.{length, getD}
-use borrow.Author.Tests.{lt-ltb}
+use lib.ListN.{getD}
 use Rattle.lent.specs.Memory.{far}
 use Rattle.format.specs.Tree.{Parts, Function, Functions, count}
-use Rattle.format.specs.Store.{word, _⊕_, list, ints, functionPiece, functionPieces, localPiece}
+use Rattle.format.specs.Store.{word, list, ints, functionPiece, functionPieces, localPiece}
 use Rattle.format.specs.Valid.{Valid, ValidAll}
 use Rattle.instructions.specs.Fields.{GETARG-Bx}
 use Rattle.instructions.specs.OpCodes.{OP-CLOSURE, opcode}
 use Rattle.proto.specs.declared.walk.Next.{Next}
-use Rattle.proto.specs.Walk.{Stands, Skips, Past, Passes, total, totalAll, totalBefore, childrenPiece, toCode, toConstants, toFunctions, toLines, toLocals, toUpvalues}
+use Rattle.proto.specs.Walk.{Skips, Past, Passes, total, totalAll, totalBefore, childrenPiece, toCode, toConstants, toFunctions, toLines, toLocals}
 use Rattle.proto.proofs.Heres.{here-get}
-use Rattle.proto.proofs.Pieces.{stands-left, stands-right}
+use Rattle.proto.proofs.Pieces.{stands-left}
 use Rattle.proto.proofs.Walks.{past-then, past-word, past-stands, past-ints, past-locals, passes-past, skip-items}
 use Rattle.proto.proofs.Items.{StandsAt, code-stands, constants-stand, functions-stand, lines-stand, locals-stand, upvalues-stand}
-use Rattle.lines.specs.declared.Lists.{Lists}
 use Rattle.lines.specs.Line.{childNumber}
-use Rattle.lines.specs.Shown.{ListsAt, ChildIs}
+use Rattle.lines.specs.Shown.{ListsAt}
 use Rattle.listing.specs.declared.code.Kept.{Kept}
 use Rattle.listing.specs.Kept.{KeptAt, Reaches, Closes}
 

@@ -1,7 +1,4 @@
 pub mod Samples
-pub mod Headers
-pub mod Enumerates
-pub mod Locals
 pub mod Kepts
 pub mod Codes
 pub mod Listers

@@ -4,15 +4,15 @@ use mathlib.Core.Path.{_≡_, refl, sym, _∙_}
 use mathlib.Core.Bool.{Bool}
 use mathlib.Core.List.{List, [], _∷_}
 use native.Mathlib.Omega.{arith}
-use lib.ListN.{length, getD}
+use lib.ListN.{getD}
 use Rattle.lent.specs.Memory.{Puts, far}
 use Rattle.lent.proofs.Writes.{put-none, put-then}
 use Rattle.format.specs.Tree.{Source, Debug, Parts, Function, Functions, count, filled}
 use Rattle.format.specs.Store.{word, _⊕_, ints, list, packed, sourcePiece, constantPiece, debugPiece, functionPiece, functionPieces}
 use Rattle.format.specs.Valid.{ValidParts, Valid, ValidAll}
-use Rattle.proto.specs.Walk.{Stands, Skips, Past, Passes, total, totalAll, childrenPiece, toCode, toConstants, toFunctions, toLines}
+use Rattle.proto.specs.Walk.{Stands, Skips, Past, total, totalAll, childrenPiece, toCode, toConstants, toFunctions, toLines}
 use Rattle.proto.proofs.Heres.{here-get}
-use Rattle.proto.proofs.Pieces.{function-debug, stands-same, stands-left, stands-right}
+use Rattle.proto.proofs.Pieces.{function-debug, stands-same, stands-left}
 use Rattle.proto.proofs.Walks.{PassesAll, all-none, all-more, past-word, past-stands, passes-past, passes-child, passes-children, passes-function}
 use Rattle.proto.proofs.Items.{StandsAt, functions-stand}
 use Rattle.listing.specs.Listing.{formatFunction, listFunctionRecursive, listFunctions}

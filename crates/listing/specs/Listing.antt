@@ -1,120 +1,22 @@
--- The listing of a tree: listing.rs from display_source on, in its order, and what list_function answers and leaves in lent memory.
-use Prim.Native.Nat.{ℕ, suc, _+_, _*_, _/_, _%_, _^_}
-use Prim.Native.String.{String}
+-- The listing of a tree: format_code, list_function_recursive and list_function of listing.rs, and what list_function answers and leaves in lent memory.
+use Prim.Native.Nat.{ℕ, _+_}
 use mathlib.Core.Bool.{Bool, cond}
-use mathlib.Core.List.{List, [], _∷_, _++_}
-use mathlib.Core.Option.{some}
-use lib.ListN.{length}
-use lib.Dec.{eqb}
-use Rattle.digits.specs.Digits.{decimal}
+use mathlib.Core.List.{List, [], _++_}
 use Rattle.instructions.specs.OpCodes.{ascii}
-use Rattle.format.specs.Tree.{Constant, Local, Parts, Function, Functions, count, filled}
+use Rattle.format.specs.Tree.{Parts, Function, Functions, filled}
 use Rattle.format.specs.Stored.{treeOf}
 use Rattle.format.specs.Dump.{WriteLeft, writeRefused, written}
 use Rattle.proto.specs.Walk.{total}
 use Rattle.proto.specs.Places.{underName, onTree}
-use Rattle.lines.specs.Line.{constantText, address, index, formatInstruction}
+use Rattle.lines.specs.Line.{formatInstruction}
+use Rattle.headers.specs.Header.{formatHeader}
+use Rattle.headers.specs.Tables.{enumerated, formatConstants, formatLocals, formatUpvalues}
 
--- the items of a list from index i on, each written by e with its index
-unfoldable pub enumerated : {A : Type 0} → (ℕ → A → List ℕ) → ℕ → List A → List ℕ
-enumerated e i [] = []
-enumerated e i (a ∷ l) = e i a ++ enumerated e (suc i) l
-
--- ==== the header
-
--- display_source: without a leading @
-abbrev pub displaySource : List ℕ → List ℕ
-displaySource [] = []
-displaySource (c ∷ s) = cond (eqb c 64) s (c ∷ s)
-
--- s but for one
-abbrev pub plural : ℕ → List ℕ
-plural n = cond (eqb n 1) [] (ascii "s")
-
--- n of what a noun names
-abbrev pub amount : ℕ → String → List ℕ
-amount n noun = decimal n ++ (ascii noun ++ plural n)
-
--- behind other amounts
-abbrev pub andAmount : ℕ → String → List ℕ
-andAmount n noun = ascii ", " ++ amount n noun
-
--- + where is_vararg has the bit worth 2
-abbrev pub vararg : ℕ → List ℕ
-vararg v = cond (eqb (v / 2 % 2) 1) (ascii "+") []
-
--- main is defined at line 0
-abbrev pub kindOf : ℕ → List ℕ
-kindOf lineDefined = cond (eqb lineDefined 0) (ascii "main") (ascii "function")
-
--- source, defined lines
-abbrev pub sourceLines : List ℕ → ℕ → ℕ → List ℕ
-sourceLines source start end = ascii " <" ++ displaySource source ++ ascii ":" ++ decimal start ++ ascii "," ++ decimal end ++ ascii ">"
-
--- code words, bytes, number
-abbrev pub codeSize : ℕ → ℕ → List ℕ
-codeSize n number = ascii " (" ++ amount n " instruction" ++ ascii ", " ++ decimal (n * 4) ++ ascii " bytes at " ++ address number ++ ascii ")\n"
-
--- params, with + for vararg
-abbrev pub formatParams : ℕ → ℕ → List ℕ
-formatParams n v = decimal n ++ vararg v ++ (ascii " param" ++ plural n)
-
--- line one
-unfoldable pub headerKind : Parts → List ℕ → ℕ → List ℕ
-headerKind p source number = kindOf (p .lineDefined) ++ sourceLines source (p .lineDefined) (p .lastLineDefined) ++ codeSize (length (p .code)) number
-
--- line two: six counts
-unfoldable pub headerCounts : Parts → Functions → List ℕ
-headerCounts p fs =
-    formatParams (p .numParams) (p .isVararg)
-    ++ andAmount (p .maxStackSize) " slot"
-    ++ andAmount (p .numUpvalues) " upvalue"
-    ++ andAmount (length (p .debug .locals)) " local"
-    ++ andAmount (length (p .constants)) " constant"
-    ++ andAmount (count fs) " function"
-    ++ ascii "\n"
-
--- format_header
-abbrev pub formatHeader : Parts → Functions → List ℕ → ℕ → List ℕ
-formatHeader p fs source number = headerKind p source number ++ headerCounts p fs
-
--- ==== the lists
+-- ==== a function
 
 -- format_code
 abbrev pub formatCode : Parts → Functions → ℕ → List ℕ
 formatCode p fs number = enumerated (formatInstruction p fs number) 0 (p .code)
-
--- what a list holds, how many, and whose it is
-abbrev pub title : List ℕ → ℕ → ℕ → List ℕ
-title what n number = what ++ ascii " (" ++ decimal n ++ ascii ") for " ++ address number ++ ascii ":\n"
-
-abbrev pub formatConstantAt : ℕ → Constant → List ℕ
-formatConstantAt i k = index (i + 1) ++ constantText (some k) ++ ascii "\n"
-
--- format_constants
-abbrev pub formatConstants : List Constant → ℕ → List ℕ
-formatConstants constants number = title (ascii "constants") (length constants) number ++ enumerated formatConstantAt 0 constants
-
--- a pc raised by one, which wraps
-abbrev pub raised : ℕ → ℕ
-raised pc = (pc + 1) % 2 ^ 32
-
-abbrev pub tabbed : ℕ → List ℕ
-tabbed n = ascii "\t" ++ decimal n
-
-abbrev pub formatLocalAt : ℕ → Local → List ℕ
-formatLocalAt i v = index i ++ v .name ++ tabbed (raised (v .start)) ++ tabbed (raised (v .end)) ++ ascii "\n"
-
--- format_locals
-abbrev pub formatLocals : List Local → ℕ → List ℕ
-formatLocals locals number = title (ascii "locals") (length locals) number ++ enumerated formatLocalAt 0 locals
-
-abbrev pub formatUpvalueAt : ℕ → List ℕ → List ℕ
-formatUpvalueAt i name = index i ++ name ++ ascii "\n"
-
--- format_upvalues
-abbrev pub formatUpvalues : List (List ℕ) → ℕ → List ℕ
-formatUpvalues upvalues number = title (ascii "upvalues") (length upvalues) number ++ enumerated formatUpvalueAt 0 upvalues
 
 -- what a full listing adds
 abbrev pub formatLists : Bool → Parts → ℕ → List ℕ

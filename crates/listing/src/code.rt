@@ -17,13 +17,13 @@ ghost use Prim.Native.Nat.{ℕ, _+_, _≤_, _<_};
 ghost use mathlib.Core.List.{List};
 ghost use mathlib.Core.Path.{_≡_};
 ghost use Rattle.lent.specs.Memory.{Puts, far};
-ghost use Rattle.format.specs.Tree.{Parts, Function, Functions, count};
+ghost use Rattle.format.specs.Tree.{Parts, Function, Functions};
 ghost use Rattle.format.specs.Store.{functionPiece};
 ghost use Rattle.format.specs.Valid.{ValidAll};
 ghost use Rattle.instructions.specs.OpCodes.{opcode};
 ghost use Rattle.proto.specs.Walk.{totalAll, childrenPiece};
 ghost use Rattle.proto.proofs.Items.{StandsAt};
-ghost use Rattle.lines.specs.Shown.{ListsAt, ChildIs};
+ghost use Rattle.lines.specs.Shown.{ListsAt};
 ghost use Rattle.listing.specs.Listing.{formatCode};
 ghost use Rattle.listing.specs.Kept.{KeptAt, Reaches, Closes};
 

@@ -1,10 +1,10 @@
 // Functions, one inside the other (listing.rs: list_function_recursive).
 use crate::code::format_code;
 use crate::code::lists_at;
-use crate::header::format_header;
-use crate::list::format_constants;
-use crate::list::format_locals;
-use crate::list::format_upvalues;
+use headers::header::format_header;
+use headers::list::format_constants;
+use headers::list::format_locals;
+use headers::list::format_upvalues;
 use lent::further;
 use lent::put_byte;
 use lines::Lists;
@@ -14,8 +14,7 @@ use proto::walk::functions_at;
 use proto::walk::own_source;
 use proto::walk::skip;
 use proto::walk::word_at;
-ghost use Prim.Native.Nat.{ℕ, _+_, _≤_};
-ghost use mathlib.Core.List.{List};
+ghost use Prim.Native.Nat.{_+_, _≤_};
 ghost use Rattle.lent.specs.Memory.{Puts, far};
 ghost use Rattle.format.specs.Tree.{Parts, Function, Functions};
 ghost use Rattle.format.specs.Store.{functionPiece};

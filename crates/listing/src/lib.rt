@@ -1,8 +1,6 @@
 // The listing of a store (listing.rs).
 pub mod code;
 pub mod function;
-pub mod header;
-pub mod list;
 
 use format::Written;
 use format::name_ok;

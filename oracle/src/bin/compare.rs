@@ -1,16 +1,14 @@
 //! Compares this library's calls with the Rust's, through the exported functions.
 //!
 //!     compare N CHUNK..        each chunk, and N damaged copies of it
-//!     compare bench CHUNK..    times of both, medians of 21
 //!
 //! undump: the refusal or the whole tree with sources filled in, the bytes read (the shortest prefix that the Rust accepts), that
 //! space beyond the used part and all space on a refusal is untouched, exact space, and one word and one byte too little.
 //! A chunk that is refused by 6 or more lies outside the domain of comparison and is only counted.
 
-use std::hint::black_box;
 use std::panic::{AssertUnwindSafe, catch_unwind};
 
-use oracle::archive::{self, Undumped, median};
+use oracle::archive::{self, Undumped};
 use oracle::random::Random;
 use oracle::vm::proto::Proto;
 use oracle::vm::undump::undump;
@@ -188,26 +186,10 @@ fn compare(chunk: &[u8], counts: &mut Counts) {
     }
 }
 
-fn bench(path: &str) {
-    let chunk = std::fs::read(path).unwrap();
-    let (mut words, mut text) = (vec![0; chunk.len() + 64], vec![0; 3 * chunk.len() + 64]);
-    let r = ours(&chunk, &mut words, &mut text);
-    assert_eq!(r.refusal, 0);
-    let (words, text) = (&mut words[..r.words], &mut text[..r.text]);
-    let here = median(|| black_box(ours(black_box(&chunk), words, text)));
-    let rust = median(|| black_box(undump(black_box(&chunk), NAME)));
-    let n = chunk.len() as f64;
-    println!("{path}: {n} bytes, undump {:.3} ns a byte, the Rust {:.3}, ratio {:.2}", here / n, rust / n, here / rust);
-}
-
 fn main() {
     let args: Vec<String> = std::env::args().skip(1).collect();
-    if args[0] == "bench" {
-        args[1..].iter().for_each(|path| bench(path));
-        return;
-    }
     std::panic::set_hook(Box::new(|_| {}));
-    let copies: usize = args[0].parse().expect("compare N CHUNK.. | compare bench CHUNK..");
+    let copies: usize = args[0].parse().expect("compare N CHUNK..");
     let (mut counts, mut random) = (Counts::default(), Random(7));
     for path in &args[1..] {
         let chunk = std::fs::read(path).unwrap();

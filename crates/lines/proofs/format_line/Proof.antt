@@ -1,11 +1,11 @@
+-- Past the count there is no line, before it line pc stands there.
 use borrow.Author.Needs.{needs}
-use native.Mathlib.Omega.{arith}
 use mathlib.Core.Path.{refl}
 use mathlib.Core.Option.{some}
 use Rattle.format.specs.Store.{word}
 use Rattle.lent.proofs.Writes.{put-then}
 use Rattle.lines.specs.Line.{formatLine}
-use Rattle.lines.proofs.Shows.{shows-ints, shows-past, shows-item, word-shown}
+use Rattle.operands.proofs.Shows.{shows-ints, shows-past, shows-item, word-shown}
 use Rattle.lines.proofs.format_line.Statement.{statement}
 use Rattle.lines.proofs.format_line.Tie as tie
 
@@ -22,7 +22,11 @@ same-length : tie.Need-same-length
 same-length c = search needs
 
 returns : tie.Need-returns
-returns c = λ t. shows-ints (shows-past word formatLine (c .before .before .before .before .before .before .word-at .ensures) (c .before .before .before .before .before .if1 .taken) (c .before .before .put-bytes .ensures))
+returns c =
+    let c₁ = c .before .before in
+    let c₂ = c₁ .before .before .before in
+    let c₃ = c₂ .before in
+    λ t. shows-ints (shows-past word formatLine (c₃ .word-at .ensures) (c₂ .if1 .taken) (c₁ .put-bytes .ensures))
 
 put-byte-requires : tie.Need-put-byte-requires
 put-byte-requires c κs = search needs
@@ -46,7 +50,15 @@ same-length-2 : tie.Need-same-length-2
 same-length-2 c = search needs
 
 returns-2 : tie.Need-returns-2
-returns-2 c = λ t. shows-ints (shows-item word 1 (λ a to. refl) formatLine (c .before .before .before .before .before .before .before .before .before .before .before .before .before .before .before .word-at .ensures) (c .before .before .before .before .before .before .before .before .before .before .before .before .before .before .if1 .left) (c .before .before .before .before .before .before .before .before .item-at .ensures) (word-shown (λ l. formatLine (some l)) (c .before .before .before .before .before .before .before .word-at2 .ensures) (put-then (c .before .before .before .before .before .before .before .before .before .before .before .before .put-byte .ensures) (put-then (c .before .before .before .before .before .before .put-decimal .ensures) (c .before .before .put-byte2 .ensures)))))
+returns-2 c =
+    let c₁ = c .before .before in
+    let c₂ = c₁ .before .before .before .before in
+    let c₃ = c₂ .before in
+    let c₄ = c₃ .before in
+    let c₅ = c₄ .before .before .before .before in
+    let c₆ = c₅ .before .before in
+    let c₇ = c₆ .before in
+    λ t. shows-ints (shows-item word 1 (λ a to. refl) formatLine (c₇ .word-at .ensures) (c₆ .if1 .left) (c₄ .item-at .ensures) (word-shown (λ l. formatLine (some l)) (c₃ .word-at2 .ensures) (put-then (c₅ .put-byte .ensures) (put-then (c₂ .put-decimal .ensures) (c₁ .put-byte2 .ensures)))))
 
 pub format-line-spec : {M : Type 1} → statement M
 format-line-spec =

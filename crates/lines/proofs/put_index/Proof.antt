@@ -1,5 +1,5 @@
+-- The parts one after the other.
 use borrow.Author.Needs.{needs}
-use native.Mathlib.Omega.{arith}
 use Rattle.lent.proofs.Writes.{put-then}
 use Rattle.lines.proofs.put_index.Statement.{statement}
 use Rattle.lines.proofs.put_index.Tie as tie
@@ -17,7 +17,11 @@ same-length : tie.Need-same-length
 same-length c = search needs
 
 returns : tie.Need-returns
-returns c = put-then (c .before .before .before .before .before .before .before .before .before .before .put-byte .ensures) (put-then (c .before .before .before .before .before .before .put-decimal .ensures) (c .before .before .put-byte2 .ensures))
+returns c =
+    let c₁ = c .before .before in
+    let c₂ = c₁ .before .before .before .before in
+    let c₃ = c₂ .before .before .before .before in
+    put-then (c₃ .put-byte .ensures) (put-then (c₂ .put-decimal .ensures) (c₁ .put-byte2 .ensures))
 
 pub put-index-spec : {M : Type 1} → statement M
 put-index-spec =

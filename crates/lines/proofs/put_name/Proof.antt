@@ -1,5 +1,5 @@
+-- The name's nine bytes are the definition's.
 use borrow.Author.Needs.{needs}
-use native.Mathlib.Omega.{arith}
 use Rattle.lines.proofs.put_name.Statement.{statement}
 use Rattle.lines.proofs.put_name.Tie as tie
 

@@ -27,7 +27,10 @@ same-length : tie.Need-same-length
 same-length c = search needs
 
 returns-2 : tie.Need-returns-2
-returns-2 c = put-stored (omega (arith, int-length (c .before .before .before .before .before .before .before .args .n), c .before .before .before .before .before .before .before .good)) (c .before .before .store-int .ensures)
+returns-2 c =
+    let c₁ = c .before .before in
+    let c₂ = c₁ .before .before .before .before .before in
+    put-stored (omega (arith, int-length (c₂ .args .n), c₂ .good)) (c₁ .store-int .ensures)
 
 slice-aggregate-store-int : tie.Need-slice-aggregate-store-int
 slice-aggregate-store-int c = search needs
@@ -45,7 +48,11 @@ same-length-2 : tie.Need-same-length-2
 same-length-2 c = search needs
 
 returns-3 : tie.Need-returns-3
-returns-3 c = rw (int-array (c .before .before .before .before .before .before .before .before .before .before .before .args .n) (c .before .before .before .before .before .before .store-int2 .ensures)) at (c .before .before .put-bytes .ensures)
+returns-3 c =
+    let c₁ = c .before .before in
+    let c₂ = c₁ .before .before .before .before in
+    let c₃ = c₂ .before .before .before .before .before in
+    rw (int-array (c₃ .args .n) (c₂ .store-int2 .ensures)) at (c₁ .put-bytes .ensures)
 
 pub dump-int-spec : {M : Type 1} → statement M
 dump-int-spec =

@@ -34,7 +34,10 @@ same-length : tie.Need-same-length
 same-length c = search needs
 
 returns-2 : tie.Need-returns-2
-returns-2 c = string-fits (c .before .before .before .before .before .before .before .before .before .args .s .now) (omega (arith, c .before .before .before .before .before .before .before .before .before .good)) (c .before .before .store-string .ensures)
+returns-2 c =
+    let c₁ = c .before .before in
+    let c₂ = c₁ .before .before .before .before .before .before .before in
+    string-fits (c₂ .args .s .now) (omega (arith, c₂ .good)) (c₁ .store-string .ensures)
 
 put-string-requires : tie.Need-put-string-requires
 put-string-requires c κs = search needs

@@ -22,7 +22,12 @@ same-length : tie.Need-same-length
 same-length c = search needs
 
 returns : tie.Need-returns
-returns c = string-puts (c .before .before .before .before .before .before .before .before .before .before .before .before .before .before .args .s .now) (c .before .before .before .before .before .before .before .before .before .before .dump-size .ensures) (c .before .before .before .before .before .before .dump-block .ensures) (c .before .before .dump-byte .ensures)
+returns c =
+    let c₁ = c .before .before in
+    let c₂ = c₁ .before .before .before .before in
+    let c₃ = c₂ .before .before .before .before in
+    let c₄ = c₃ .before .before .before .before in
+    string-puts (c₄ .args .s .now) (c₃ .dump-size .ensures) (c₂ .dump-block .ensures) (c₁ .dump-byte .ensures)
 
 pub put-string-spec : {M : Type 1} → statement M
 put-string-spec =

@@ -42,10 +42,19 @@ slice-write-out : tie.Need-slice-write-out
 slice-write-out c = search needs
 
 same-length : tie.Need-same-length
-same-length c = simp length-set (c .before .before .copy .kept .0 ∙ c .before .before .before .before .before .before .store-int2 .kept .0 ∙ c .before .before .before .before .before .before .before .before .before .before .store-int .kept .0)
+same-length c =
+    let c₁ = c .before .before in
+    let c₂ = c₁ .before .before .before .before in
+    let c₃ = c₂ .before .before .before .before in
+    simp length-set (c₁ .copy .kept .0 ∙ c₂ .store-int2 .kept .0 ∙ c₃ .store-int .kept .0)
 
 returns : tie.Need-returns
-returns c = string-stored (c .before .before .before .before .before .before .before .before .before .before .before .before .before .before .args .out .now) (c .before .before .before .before .before .before .before .before .before .before .before .before .before .before .args .s .now) (c .before .before .before .before .before .before .before .before .before .before .before .before .before .before .args .at) (c .before .before .before .before .before .before .before .before .before .before .store-int .ensures) (c .before .before .before .before .before .before .store-int2 .ensures) (c .before .before .copy .ensures)
+returns c =
+    let c₁ = c .before .before in
+    let c₂ = c₁ .before .before .before .before in
+    let c₃ = c₂ .before .before .before .before in
+    let c₄ = c₃ .before .before .before .before in
+    string-stored (c₄ .args .out .now) (c₄ .args .s .now) (c₄ .args .at) (c₃ .store-int .ensures) (c₂ .store-int2 .ensures) (c₁ .copy .ensures)
 
 pub store-string-spec : {M : Type 1} → statement M
 store-string-spec =

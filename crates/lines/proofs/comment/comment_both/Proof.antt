@@ -1,6 +1,6 @@
+-- The parts one after the other.
 use borrow.Author.Needs.{needs}
-use native.Mathlib.Omega.{arith}
-use Rattle.lines.proofs.Shows.{shows-put, shows-then}
+use Rattle.operands.proofs.Shows.{shows-put, shows-then}
 use Rattle.lines.proofs.comment.comment_both.Statement.{statement}
 use Rattle.lines.proofs.comment.comment_both.Tie as tie
 
@@ -20,7 +20,12 @@ same-length : tie.Need-same-length
 same-length c = search needs
 
 returns : tie.Need-returns
-returns c = shows-then (shows-put (c .before .before .before .before .before .before .before .before .before .before .before .before .before .before .put-comment .ensures)) (shows-then (shows-then (c .before .before .before .before .before .before .before .before .before .before .operand-constant .ensures) (shows-put (c .before .before .before .before .before .before .put-byte .ensures))) (c .before .before .operand-constant2 .ensures))
+returns c =
+    let c₁ = c .before .before in
+    let c₂ = c₁ .before .before .before .before in
+    let c₃ = c₂ .before .before .before .before in
+    let c₄ = c₃ .before .before .before .before in
+    shows-then (shows-put (c₄ .put-comment .ensures)) (shows-then (shows-then (c₃ .operand-constant .ensures) (shows-put (c₂ .put-byte .ensures))) (c₁ .operand-constant2 .ensures))
 
 pub comment-both-spec : {M : Type 1} → statement M
 comment-both-spec =

@@ -1,5 +1,5 @@
+-- The word there is the count that the contract compares with.
 use borrow.Author.Needs.{needs}
-use native.Mathlib.Omega.{arith}
 use Rattle.lent.proofs.Writes.{put-then, put-none}
 use borrow.Author.Tests.{lt-ltb, le-ltb}
 use Rattle.lines.proofs.comment.comment_closure.Statement.{statement}
@@ -18,7 +18,12 @@ same-length : tie.Need-same-length
 same-length c = search needs
 
 returns : tie.Need-returns
-returns c = rw (← c .before .before .before .before .before .before .before .before .before .word-at .ensures, lt-ltb _ _ (c .before .before .before .before .before .before .before .before .if1 .taken)) (put-then (c .before .before .before .before .before .before .put-comment .ensures) (c .before .before .put-address .ensures))
+returns c =
+    let c₁ = c .before .before in
+    let c₂ = c₁ .before .before .before .before in
+    let c₃ = c₂ .before .before in
+    let c₄ = c₃ .before in
+    rw (← c₄ .word-at .ensures, lt-ltb _ _ (c₃ .if1 .taken)) (put-then (c₂ .put-comment .ensures) (c₁ .put-address .ensures))
 
 returns-2 : tie.Need-returns-2
 returns-2 c = rw (← c .before .word-at .ensures, le-ltb _ _ (c .if1 .left)) put-none

@@ -1,6 +1,6 @@
+-- The beginning of a comment, then the constant.
 use borrow.Author.Needs.{needs}
-use native.Mathlib.Omega.{arith}
-use Rattle.lines.proofs.Shows.{shows-put, shows-then}
+use Rattle.operands.proofs.Shows.{shows-put, shows-then}
 use Rattle.lines.proofs.comment.comment_constant.Statement.{statement}
 use Rattle.lines.proofs.comment.comment_constant.Tie as tie
 

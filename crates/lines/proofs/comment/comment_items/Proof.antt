@@ -1,5 +1,5 @@
+-- The beginning of a comment, then the number.
 use borrow.Author.Needs.{needs}
-use native.Mathlib.Omega.{arith}
 use Rattle.lent.proofs.Writes.{put-then}
 use Rattle.lines.proofs.comment.comment_items.Statement.{statement}
 use Rattle.lines.proofs.comment.comment_items.Tie as tie

@@ -1,5 +1,5 @@
+-- The beginning of a comment, then the sum less MAXARG-sBx; nothing wraps at 64 bits.
 use borrow.Author.Needs.{needs}
-use native.Mathlib.Omega.{arith}
 use Rattle.lent.proofs.Writes.{put-then}
 use Rattle.lines.proofs.comment.comment_jump.Statement.{statement}
 use Rattle.lines.proofs.comment.comment_jump.Tie as tie
@@ -32,7 +32,12 @@ same-length : tie.Need-same-length
 same-length c = search needs
 
 returns : tie.Need-returns
-returns c = rw (← c .before .before .before .before .bx .ensures) (put-then (c .before .before .before .before .before .before .before .before .before .before .before .before .put-comment .ensures) (put-then (c .before .before .before .before .before .before .before .put-bytes .ensures) (c .before .before .put-difference .ensures)))
+returns c =
+    let c₁ = c .before .before in
+    let c₂ = c₁ .before .before in
+    let c₃ = c₂ .before .before .before in
+    let c₄ = c₃ .before .before .before .before .before in
+    rw (← c₂ .bx .ensures) (put-then (c₄ .put-comment .ensures) (put-then (c₃ .put-bytes .ensures) (c₁ .put-difference .ensures)))
 
 pub comment-jump-spec : {M : Type 1} → statement M
 comment-jump-spec =

@@ -1,8 +1,8 @@
+-- There is a comment where C is a constant.
 use borrow.Author.Needs.{needs}
-use native.Mathlib.Omega.{arith}
 use mathlib.Core.Path.{sym, _∙_}
 use Rattle.lent.proofs.Writes.{put-none}
-use Rattle.lines.proofs.Shows.{shows-put, shows-is}
+use Rattle.operands.proofs.Shows.{shows-put, shows-is}
 use Rattle.lines.proofs.comment.comment_key.Statement.{statement}
 use Rattle.lines.proofs.comment.comment_key.Tie as tie
 
@@ -19,7 +19,12 @@ same-length : tie.Need-same-length
 same-length c = search needs
 
 returns : tie.Need-returns
-returns c = shows-is (rw (c .before .before .before .before .index-k .ensures) at (c .before .before .comment-constant .ensures)) (λ l. rw (sym (c .before .before .before .before .before .before .is-k .ensures) ∙ c .before .before .before .before .before .if1 .taken))
+returns c =
+    let c₁ = c .before .before in
+    let c₂ = c₁ .before .before in
+    let c₃ = c₂ .before in
+    let c₄ = c₃ .before in
+    shows-is (rw (c₂ .index-k .ensures) at (c₁ .comment-constant .ensures)) (λ l. rw (sym (c₄ .is-k .ensures) ∙ c₃ .if1 .taken))
 
 returns-2 : tie.Need-returns-2
 returns-2 c = shows-is (shows-put put-none) (λ l. rw (sym (c .before .is-k .ensures) ∙ c .if1 .left))

@@ -1,8 +1,8 @@
+-- There is a comment where B or C is a constant.
 use borrow.Author.Needs.{needs}
-use native.Mathlib.Omega.{arith}
 use mathlib.Core.Path.{sym, _∙_}
 use Rattle.lent.proofs.Writes.{put-none}
-use Rattle.lines.proofs.Shows.{shows-put, shows-is}
+use Rattle.operands.proofs.Shows.{shows-put, shows-is}
 use Rattle.lines.proofs.comment.comment_operands.Statement.{statement}
 use Rattle.lines.proofs.comment.comment_operands.Tie as tie
 
@@ -16,7 +16,11 @@ same-length : tie.Need-same-length
 same-length c = search needs
 
 returns : tie.Need-returns
-returns c = shows-is (c .before .before .comment-both .ensures) (λ l. rw (sym (c .before .before .before .before .before .is-k .ensures) ∙ c .before .before .before .before .if1 .taken))
+returns c =
+    let c₁ = c .before .before in
+    let c₂ = c₁ .before .before in
+    let c₃ = c₂ .before in
+    shows-is (c₁ .comment-both .ensures) (λ l. rw (sym (c₃ .is-k .ensures) ∙ c₂ .if1 .taken))
 
 is-k-requires-2 : tie.Need-is-k-requires-2
 is-k-requires-2 c κs = search needs
@@ -28,7 +32,13 @@ same-length-2 : tie.Need-same-length-2
 same-length-2 c = search needs
 
 returns-2 : tie.Need-returns-2
-returns-2 c = shows-is (c .before .before .comment-both2 .ensures) (λ l. rw (sym (c .before .before .before .before .before .before .before .is-k .ensures) ∙ c .before .before .before .before .before .before .if1 .left, sym (c .before .before .before .before .before .is-k2 .ensures) ∙ c .before .before .before .before .if2 .taken))
+returns-2 c =
+    let c₁ = c .before .before in
+    let c₂ = c₁ .before .before in
+    let c₃ = c₂ .before in
+    let c₄ = c₃ .before in
+    let c₅ = c₄ .before in
+    shows-is (c₁ .comment-both2 .ensures) (λ l. rw (sym (c₅ .is-k .ensures) ∙ c₄ .if1 .left, sym (c₃ .is-k2 .ensures) ∙ c₂ .if2 .taken))
 
 returns-3 : tie.Need-returns-3
 returns-3 c = shows-is (shows-put put-none) (λ l. rw (sym (c .before .before .before .is-k .ensures) ∙ c .before .before .if1 .left, sym (c .before .is-k2 .ensures) ∙ c .if2 .left))

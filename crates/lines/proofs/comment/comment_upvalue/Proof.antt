@@ -1,9 +1,9 @@
+-- Past the count there is no name, before it name b stands there.
 use borrow.Author.Needs.{needs}
-use native.Mathlib.Omega.{arith}
 use mathlib.Core.Path.{refl}
 use Rattle.format.specs.Store.{string}
 use Rattle.lines.specs.Line.{upvalueText}
-use Rattle.lines.proofs.Shows.{shows-put, shows-then, shows-past, shows-item, string-shown}
+use Rattle.operands.proofs.Shows.{shows-put, shows-then, shows-past, shows-item, string-shown}
 use Rattle.lines.proofs.comment.comment_upvalue.Statement.{statement}
 use Rattle.lines.proofs.comment.comment_upvalue.Tie as tie
 
@@ -20,7 +20,12 @@ same-length : tie.Need-same-length
 same-length c = search needs
 
 returns : tie.Need-returns
-returns c = shows-then (shows-put (c .before .before .before .before .before .before .before .before .put-comment .ensures)) (shows-past string upvalueText (c .before .before .before .before .before .word-at .ensures) (c .before .before .before .before .if1 .taken) (c .before .before .put-byte .ensures))
+returns c =
+    let c₁ = c .before .before in
+    let c₂ = c₁ .before .before in
+    let c₃ = c₂ .before in
+    let c₄ = c₃ .before .before .before in
+    shows-then (shows-put (c₄ .put-comment .ensures)) (shows-past string upvalueText (c₃ .word-at .ensures) (c₂ .if1 .taken) (c₁ .put-byte .ensures))
 
 item-at-requires : tie.Need-item-at-requires
 item-at-requires c κs = search needs
@@ -35,7 +40,14 @@ same-length-2 : tie.Need-same-length-2
 same-length-2 c = search needs
 
 returns-2 : tie.Need-returns-2
-returns-2 c = shows-then (shows-put (c .before .before .before .before .before .before .before .before .before .before .put-comment .ensures)) (shows-item string 2 (λ a to. refl) upvalueText (c .before .before .before .before .before .before .before .word-at .ensures) (c .before .before .before .before .before .before .if1 .left) (c .before .before .before .before .item-at .ensures) (string-shown (λ s. s) (c .before .before .before .string-at .ensures) (c .before .before .put-bytes .ensures)))
+returns-2 c =
+    let c₁ = c .before .before in
+    let c₂ = c₁ .before in
+    let c₃ = c₂ .before in
+    let c₄ = c₃ .before .before in
+    let c₅ = c₄ .before in
+    let c₆ = c₅ .before .before .before in
+    shows-then (shows-put (c₆ .put-comment .ensures)) (shows-item string 2 (λ a to. refl) upvalueText (c₅ .word-at .ensures) (c₄ .if1 .left) (c₃ .item-at .ensures) (string-shown (λ s. s) (c₂ .string-at .ensures) (c₁ .put-bytes .ensures)))
 
 pub comment-upvalue-spec : {M : Type 1} → statement M
 comment-upvalue-spec =

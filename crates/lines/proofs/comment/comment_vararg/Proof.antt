@@ -1,5 +1,5 @@
+-- The beginning of a comment, then the word.
 use borrow.Author.Needs.{needs}
-use native.Mathlib.Omega.{arith}
 use Rattle.lent.proofs.Writes.{put-then}
 use Rattle.lines.proofs.comment.comment_vararg.Statement.{statement}
 use Rattle.lines.proofs.comment.comment_vararg.Tie as tie

@@ -1,5 +1,5 @@
+-- JMP, or one of the other two.
 use borrow.Author.Needs.{needs}
-use native.Mathlib.Omega.{arith}
 use borrow.Author.Tests.{eq-eqb, ne-eqb}
 use Rattle.lines.proofs.comment.is_jump.Statement.{statement}
 use Rattle.lines.proofs.comment.is_jump.Tie as tie

@@ -1,7 +1,7 @@
+-- A constant, or a register.
 use borrow.Author.Needs.{needs}
-use native.Mathlib.Omega.{arith}
 use mathlib.Core.Path.{sym, _∙_}
-use Rattle.lines.proofs.Shows.{shows-put, shows-is}
+use Rattle.operands.proofs.Shows.{shows-put, shows-is}
 use Rattle.lines.proofs.comment.operand_constant.Statement.{statement}
 use Rattle.lines.proofs.comment.operand_constant.Tie as tie
 
@@ -18,7 +18,12 @@ same-length : tie.Need-same-length
 same-length c = search needs
 
 returns : tie.Need-returns
-returns c = shows-is (rw (c .before .before .before .before .index-k .ensures) at (c .before .before .format-constant .ensures)) (λ l. rw (sym (c .before .before .before .before .before .before .is-k .ensures) ∙ c .before .before .before .before .before .if1 .taken))
+returns c =
+    let c₁ = c .before .before in
+    let c₂ = c₁ .before .before in
+    let c₃ = c₂ .before in
+    let c₄ = c₃ .before in
+    shows-is (rw (c₂ .index-k .ensures) at (c₁ .format-constant .ensures)) (λ l. rw (sym (c₄ .is-k .ensures) ∙ c₃ .if1 .taken))
 
 put-byte-requires : tie.Need-put-byte-requires
 put-byte-requires c κs = search needs
@@ -27,7 +32,11 @@ same-length-2 : tie.Need-same-length-2
 same-length-2 c = search needs
 
 returns-2 : tie.Need-returns-2
-returns-2 c = shows-is (shows-put (c .before .before .put-byte .ensures)) (λ l. rw (sym (c .before .before .before .before .before .is-k .ensures) ∙ c .before .before .before .before .if1 .left))
+returns-2 c =
+    let c₁ = c .before .before in
+    let c₂ = c₁ .before .before in
+    let c₃ = c₂ .before in
+    shows-is (shows-put (c₁ .put-byte .ensures)) (λ l. rw (sym (c₃ .is-k .ensures) ∙ c₂ .if1 .left))
 
 pub operand-constant-spec : {M : Type 1} → statement M
 operand-constant-spec =

@@ -1,5 +1,5 @@
+-- #, then the number.
 use borrow.Author.Needs.{needs}
-use native.Mathlib.Omega.{arith}
 use Rattle.lent.proofs.Writes.{put-then}
 use Rattle.lines.proofs.comment.put_address.Statement.{statement}
 use Rattle.lines.proofs.comment.put_address.Tie as tie

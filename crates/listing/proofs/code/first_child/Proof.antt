@@ -1,5 +1,5 @@
+-- The children stand behind their count, and the first one's number is the function's and one.
 use borrow.Author.Needs.{needs}
-use native.Mathlib.Omega.{arith}
 use mathlib.Core.Path.{refl}
 use Rattle.listing.proofs.Kepts.{first-kept}
 use Rattle.listing.proofs.code.first_child.Statement.{statement}

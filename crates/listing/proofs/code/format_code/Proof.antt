@@ -1,3 +1,4 @@
+-- What is left to write are the lines from pc on, and kept is a child; closure_child gives the child that a CLOSURE names.
 use borrow.Author.Needs.{needs}
 use native.Mathlib.Omega.{arith}
 use Prim.Native.Nat.{_-_}
@@ -41,7 +42,14 @@ loop-less : tie.Need-loop-less Inv-loop μ-loop
 loop-less c = omega arith
 
 loop-again : tie.Need-loop-again Inv-loop μ-loop
-loop-again c = (c .before .before .format-instruction .kept .1 .1 .1 .1 .1 .1 .0 ∙ c .before .before .before .before .before .before .before .before .loop .inv .0, codes-turn (c .before .before .before .before .before .before .before .before .before .before .word-at .ensures) (omega arith) (c .before .before .before .before .before .before .before .before .loop .inv .1) (c .before .before .before .before .before .before .item-at .ensures) (c .before .before .before .before .before .word-at2 .ensures) (c .before .before .before .before .closure-child .ensures) (c .before .before .format-instruction .ensures))
+loop-again c =
+    let c₁ = c .before .before in
+    let c₂ = c₁ .before .before in
+    let c₃ = c₂ .before in
+    let c₄ = c₃ .before in
+    let c₅ = c₄ .before .before in
+    let c₆ = c₅ .before .before in
+    (c₁ .format-instruction .kept .1 .1 .1 .1 .1 .1 .0 ∙ c₅ .loop .inv .0, codes-turn (c₆ .word-at .ensures) (omega arith) (c₅ .loop .inv .1) (c₄ .item-at .ensures) (c₃ .word-at2 .ensures) (c₂ .closure-child .ensures) (c₁ .format-instruction .ensures))
 
 same-length : tie.Need-same-length Inv-loop μ-loop
 same-length c = c .before .loop .inv .0

@@ -1,5 +1,5 @@
+-- Each list stands behind the one before it, and the lines behind the functions.
 use borrow.Author.Needs.{needs}
-use native.Mathlib.Omega.{arith}
 use Rattle.listing.proofs.Kepts.{lists-found}
 use Rattle.listing.proofs.code.lists_at.Statement.{statement}
 use Rattle.listing.proofs.code.lists_at.Tie as tie
@@ -29,7 +29,16 @@ functions-at-requires : tie.Need-functions-at-requires
 functions-at-requires c κs = search needs
 
 returns : tie.Need-returns
-returns c = lists-found (c .before .before .before .before .before .before .before .before .before .args .allowance) (c .before .before .before .before .before .before .before .lines-at .ensures) (c .before .before .before .before .before .before .word-at .ensures) (c .before .before .before .before .before .item-at .ensures) (c .before .before .before .before .word-at2 .ensures) (c .before .before .before .item-at2 .ensures) (c .before .before .code-at .ensures) (c .before .constants-at .ensures) (c .functions-at .ensures)
+returns c =
+    let c₁ = c .before in
+    let c₂ = c₁ .before in
+    let c₃ = c₂ .before in
+    let c₄ = c₃ .before in
+    let c₅ = c₄ .before in
+    let c₆ = c₅ .before in
+    let c₇ = c₆ .before in
+    let c₈ = c₇ .before .before in
+    lists-found (c₈ .args .allowance) (c₇ .lines-at .ensures) (c₆ .word-at .ensures) (c₅ .item-at .ensures) (c₄ .word-at2 .ensures) (c₃ .item-at2 .ensures) (c₂ .code-at .ensures) (c₁ .constants-at .ensures) (c .functions-at .ensures)
 
 pub lists-at-spec : {M : Type 1} → statement M
 lists-at-spec =

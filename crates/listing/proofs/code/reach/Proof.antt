@@ -1,3 +1,4 @@
+-- On the way r is a child that is not behind i; the index rises to i.
 use borrow.Author.Needs.{needs}
 use native.Mathlib.Omega.{arith}
 use Prim.Native.Nat.{_-_}

@@ -1,3 +1,4 @@
+-- The loop's invariant: whatever lists the other functions from here lists all of them from the start. The allowance falls.
 use borrow.Author.Needs.{needs}
 use native.Mathlib.Omega.{arith}
 use Prim.Native.Nat.{ℕ, suc, _-_, _<_}
@@ -82,10 +83,15 @@ list-function-recursive-put-byte-requires : (t : ℕ) → list-function-recursiv
 list-function-recursive-put-byte-requires t c κs = search needs
 
 list-function-recursive-sub-list-function-recursive : (t : ℕ) → list-function-recursive-lts.Need-sub-list-function-recursive (list-function-recursive-calls t) (list-function-recursive-at t) list-function-recursive.Post list-function-recursive-Inv-loop list-function-recursive-μ-loop
-list-function-recursive-sub-list-function-recursive t c = omega (arith, c .before .before .before .before .before .before .before .before .before .before .before .before .before .before .before .before .if1 .left)
+list-function-recursive-sub-list-function-recursive t c =
+    let c₁ = c .before .before .before .before .before .before .before .before .before .before .before .before .before .before .before .before in
+    omega (arith, c₁ .if1 .left)
 
 list-function-recursive-list-function-recursive-requires : (t : ℕ) → list-function-recursive-lts.Need-list-function-recursive-requires (list-function-recursive-calls t) (list-function-recursive-at t) list-function-recursive.Post list-function-recursive-Inv-loop list-function-recursive-μ-loop
-list-function-recursive-list-function-recursive-requires t c κs = (omega (arith, c .before .before .before .before .before .before .before .before .before .before .before .before .before .before .before .before .before .before .before .before .before .pre .0, c .before .before .before .before .before .before .before .before .before .before .before .before .before .before .before .before .if1 .left), tt)
+list-function-recursive-list-function-recursive-requires t c κs =
+    let c₁ = c .before .before .before .before .before .before .before .before .before .before .before .before .before .before .before .before in
+    let c₂ = c₁ .before .before .before .before .before in
+    (omega (arith, c₂ .pre .0, c₁ .if1 .left), tt)
 
 list-function-recursive-add-i : (t : ℕ) → list-function-recursive-lts.Need-add-i (list-function-recursive-calls t) (list-function-recursive-at t) list-function-recursive.Post list-function-recursive-Inv-loop list-function-recursive-μ-loop
 list-function-recursive-add-i t c = omega arith
@@ -94,19 +100,35 @@ list-function-recursive-loop-less : (t : ℕ) → list-function-recursive-lts.Ne
 list-function-recursive-loop-less t c = omega arith
 
 list-function-recursive-loop-again : (t : ℕ) → list-function-recursive-lts.Need-loop-again (list-function-recursive-calls t) (list-function-recursive-at t) list-function-recursive.Post list-function-recursive-Inv-loop list-function-recursive-μ-loop
-list-function-recursive-loop-again t c = (c .before .before .list-function-recursive .kept .1 .1 .1 .1 .0 ∙ c .before .before .before .before .before .before .put-byte .kept .0 ∙ c .before .before .before .before .before .before .before .before .before .loop .inv .0, loop-turn (omega arith) (c .before .before .before .before .before .before .before .before .before .loop .inv .1) (lists-more (c .before .before .before .before .before .before .put-byte .ensures) (c .before .before .list-function-recursive .ensures)))
+list-function-recursive-loop-again t c =
+    let c₁ = c .before .before in
+    let c₂ = c₁ .before .before .before .before in
+    let c₃ = c₂ .before .before .before in
+    (c₁ .list-function-recursive .kept .1 .1 .1 .1 .0 ∙ c₂ .put-byte .kept .0 ∙ c₃ .loop .inv .0, loop-turn (omega arith) (c₃ .loop .inv .1) (lists-more (c₂ .put-byte .ensures) (c₁ .list-function-recursive .ensures)))
 
 list-function-recursive-after-debug-requires : (t : ℕ) → list-function-recursive-lts.Need-after-debug-requires (list-function-recursive-calls t) (list-function-recursive-at t) list-function-recursive.Post list-function-recursive-Inv-loop list-function-recursive-μ-loop
 list-function-recursive-after-debug-requires t c κs = search needs
 
 list-function-recursive-same-length : (t : ℕ) → list-function-recursive-lts.Need-same-length (list-function-recursive-calls t) (list-function-recursive-at t) list-function-recursive.Post list-function-recursive-Inv-loop list-function-recursive-μ-loop
-list-function-recursive-same-length t c = c .before .before .loop .inv .0 ∙ c .before .before .before .before .before .before .before .before .before .format-function .kept .1 .1 .1 .1 .0
+list-function-recursive-same-length t c =
+    let c₁ = c .before .before in
+    let c₂ = c₁ .before .before .before .before .before .before .before in
+    c₁ .loop .inv .0 ∙ c₂ .format-function .kept .1 .1 .1 .1 .0
 
 list-function-recursive-returns-2 : (t : ℕ) → list-function-recursive-lts.Need-returns-2 (list-function-recursive-calls t) (list-function-recursive-at t) list-function-recursive.Post list-function-recursive-Inv-loop list-function-recursive-μ-loop
 list-function-recursive-returns-2 t c =
-    let n = c .before .before .before .before .before .before .before .before .before .before .before .before .before .before .before .before .before .args .allowance - 1 in
-    let e : c .before .before .before .before .before .before .before .before .before .before .before .before .before .before .before .before .before .args .allowance ≡ suc n = omega (arith, c .before .before .before .before .before .before .before .before .before .before .before .before .if1 .left) in
-    rw e (lists-function n (c .before .before .before .before .before .before .before .before .before .before .before .own-source .ensures) (c .before .before .before .before .before .before .before .before .before .format-function .ensures) (c .before .before .before .before .before .before .functions-at .ensures) (c .before .before .before .before .before .word-at .ensures) (c .before .before .before .before .skip .ensures) (c .before .before .before .further .ensures) (loop-end (omega arith) (c .before .before .loop .inv .1) lists-none) (c .after-debug .ensures))
+    let c₁ = c .before .before in
+    let c₂ = c₁ .before in
+    let c₃ = c₂ .before in
+    let c₄ = c₃ .before in
+    let c₅ = c₄ .before in
+    let c₆ = c₅ .before .before .before in
+    let c₇ = c₆ .before .before in
+    let c₈ = c₇ .before in
+    let c₉ = c₈ .before .before .before .before .before in
+    let n = c₉ .args .allowance - 1 in
+    let e : c₉ .args .allowance ≡ suc n = omega (arith, c₈ .if1 .left) in
+    rw e (lists-function n (c₇ .own-source .ensures) (c₆ .format-function .ensures) (c₅ .functions-at .ensures) (c₄ .word-at .ensures) (c₃ .skip .ensures) (c₂ .further .ensures) (loop-end (omega arith) (c₁ .loop .inv .1) lists-none) (c .after-debug .ensures))
 
 pub +list-function-recursive-spec : {M : Type 1} → statement M
 +list-function-recursive-spec =

@@ -1,5 +1,5 @@
+-- The head stands where the function begins, and its lists where lists_at says.
 use borrow.Author.Needs.{needs}
-use native.Mathlib.Omega.{arith}
 use mathlib.Core.Path.{_∙_}
 use Rattle.lent.proofs.Writes.{put-then}
 use Rattle.listing.proofs.Listers.{head-stands}
@@ -22,12 +22,23 @@ format-lists-requires : tie.Need-format-lists-requires
 format-lists-requires c κs = search needs
 
 same-length : tie.Need-same-length
-same-length c = c .before .before .format-lists .kept .1 .1 .1 .1 .1 .0 ∙ c .before .before .before .before .before .before .format-code .kept .1 .1 .1 .1 .1 .0 ∙ c .before .before .before .before .before .before .before .before .before .before .format-header .kept .1 .1 .1 .1 .1 .0
+same-length c =
+    let c₁ = c .before .before in
+    let c₂ = c₁ .before .before .before .before in
+    let c₃ = c₂ .before .before .before .before in
+    c₁ .format-lists .kept .1 .1 .1 .1 .1 .0 ∙ c₂ .format-code .kept .1 .1 .1 .1 .1 .0 ∙ c₃ .format-header .kept .1 .1 .1 .1 .1 .0
 
 returns : tie.Need-returns
-returns c = λ p fs vp v s small.
-    let l = c .before .before .before .before .before .before .before .before .before .before .before .before .before .lists-at .ensures p fs (c .before .before .before .before .before .before .before .before .before .before .before .before .before .before .before .before .before .before .args .text .now) v s in
-    put-then (put-then (c .before .before .before .before .before .before .before .before .before .before .format-header .ensures p fs (c .before .before .before .before .before .before .before .before .before .before .before .before .before .before .before .before .before .before .args .text .now) (c .before .before .before .before .before .before .before .before .before .before .before .before .head-at .ensures p (s .to) vp (head-stands p fs (s .stands) .in-words)) l) (c .before .before .before .before .before .before .format-code .ensures p fs l v small)) (c .before .before .format-lists .ensures p fs l)
+returns c =
+    let c₁ = c .before .before in
+    let c₂ = c₁ .before .before .before .before in
+    let c₃ = c₂ .before .before .before .before in
+    let c₄ = c₃ .before .before in
+    let c₅ = c₄ .before in
+    let c₆ = c₅ .before .before .before .before .before in
+    λ p fs vp v s small.
+    let l = c₅ .lists-at .ensures p fs (c₆ .args .text .now) v s in
+    put-then (put-then (c₃ .format-header .ensures p fs (c₆ .args .text .now) (c₄ .head-at .ensures p (s .to) vp (head-stands p fs (s .stands) .in-words)) l) (c₂ .format-code .ensures p fs l v small)) (c₁ .format-lists .ensures p fs l)
 
 pub format-function-spec : {M : Type 1} → statement M
 format-function-spec =

@@ -1,5 +1,5 @@
+-- The lists one after the other, or nothing.
 use borrow.Author.Needs.{needs}
-use native.Mathlib.Omega.{arith}
 use mathlib.Core.Path.{_∙_}
 use Rattle.lent.proofs.Writes.{put-then, put-none}
 use Rattle.listing.proofs.function.format_lists.Statement.{statement}
@@ -15,10 +15,19 @@ format-upvalues-requires : tie.Need-format-upvalues-requires
 format-upvalues-requires c κs = search needs
 
 same-length : tie.Need-same-length
-same-length c = c .before .before .format-upvalues .kept .1 .1 .1 .1 .0 ∙ c .before .before .before .before .before .before .format-locals .kept .1 .1 .1 .1 .0 ∙ c .before .before .before .before .before .before .before .before .before .before .format-constants .kept .1 .1 .1 .1 .0
+same-length c =
+    let c₁ = c .before .before in
+    let c₂ = c₁ .before .before .before .before in
+    let c₃ = c₂ .before .before .before .before in
+    c₁ .format-upvalues .kept .1 .1 .1 .1 .0 ∙ c₂ .format-locals .kept .1 .1 .1 .1 .0 ∙ c₃ .format-constants .kept .1 .1 .1 .1 .0
 
 returns : tie.Need-returns
-returns c = λ p fs l. rw (c .before .before .before .before .before .before .before .before .before .before .before .before .if1 .taken) (put-then (put-then (c .before .before .before .before .before .before .before .before .before .before .format-constants .ensures .shows (p .constants) (l .constants)) (c .before .before .before .before .before .before .format-locals .ensures .shows (p .debug .locals) (l .locals))) (c .before .before .format-upvalues .ensures .shows (p .debug .upvalues) (l .upvalues)))
+returns c =
+    let c₁ = c .before .before in
+    let c₂ = c₁ .before .before .before .before in
+    let c₃ = c₂ .before .before .before .before in
+    let c₄ = c₃ .before .before in
+    λ p fs l. rw (c₄ .if1 .taken) (put-then (put-then (c₃ .format-constants .ensures .shows (p .constants) (l .constants)) (c₂ .format-locals .ensures .shows (p .debug .locals) (l .locals))) (c₁ .format-upvalues .ensures .shows (p .debug .upvalues) (l .upvalues)))
 
 returns-2 : tie.Need-returns-2
 returns-2 c = λ p fs l. rw (c .if1 .left) put-none

@@ -1,0 +1,28 @@
+use borrow.Author.Needs.{needs}
+use native.Mathlib.Omega.{arith}
+use mathlib.Core.Bool.{false≢true}
+use Rattle.dump.proofs.Bounds.{room-left}
+use Rattle.dump.proofs.has_room.Statement.{statement}
+use Rattle.dump.proofs.has_room.Tie as tie
+
+-- What is left of the space after each part.
+
+returns : tie.Need-returns
+returns c = λ e. absurd (false≢true e)
+
+returns-2 : tie.Need-returns-2
+returns-2 c = λ e. absurd (false≢true e)
+
+sub-left : tie.Need-sub-left
+sub-left c = search needs
+
+returns-3 : tie.Need-returns-3
+returns-3 c = λ e. absurd (false≢true e)
+
+returns-4 : tie.Need-returns-4
+returns-4 c =
+    let c₁ = c .before .before .before in
+    room-left (c₁ .args .space) (c₁ .args .words) (c₁ .args .a) (c₁ .args .b) (omega arith) (omega arith) (omega arith)
+
+pub has-room-spec : {M : Type 1} → statement M
+has-room-spec = tie.close (tie.spec returns returns-2 sub-left returns-3 returns-4)

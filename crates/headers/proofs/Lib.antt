@@ -1,0 +1,3 @@
+pub mod Headers
+pub mod Enumerates
+pub mod Locals
