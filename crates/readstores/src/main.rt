@@ -1,7 +1,7 @@
 // Asks where sources stand in stores, most of them broken: takes cases from standard input, at most 65,536 bytes, and writes a line of
 // text for each question: the refusal, in_text, start and end, in decimal; then the source's bytes in hexadecimal. A case is a
 // letter and what follows it, all numbers low byte first:
-//   S  2 bytes n, n runs of words (2 bytes how many, 4 bytes the word), 2 bytes length, the text: the store from here on
+//   S  a store, as records has it: the store from here on
 //   W  2 bytes place, 4 bytes word: the question of place 0, with another word there
 //   T  2 bytes place, 1 byte: the same with another text byte
 //   N  4 bytes words, 2 bytes text bytes: the same with so many lent
@@ -17,7 +17,10 @@ use records::after;
 use records::byte;
 use records::half;
 use records::part;
-use records::within;
+use records::store::Read;
+use records::store::first_words;
+use records::store::put;
+use records::store::store;
 use records::word;
 
 // The most words and text bytes of a store.
@@ -27,19 +30,6 @@ const TEXT: usize = 512;
 
 // Where the chunk name stands, behind the text.
 const NAME: usize = 256;
-
-// Where the next case stands, and how many words and text bytes the store has.
-struct Read {
-    next: usize,
-    words: usize,
-    text: usize,
-}
-
-// The first n words, as many as there are.
-fn first(words: &[u32], n: usize) -> &[u32] {
-    let end = within(n, words.len());
-    &words[0..end]
-}
 
 // The question, and its line.
 fn tell<'a>(words: &[u32], text: &'a [u8], name: &'a [u8], place: usize) {
@@ -56,62 +46,11 @@ fn tell<'a>(words: &[u32], text: &'a [u8], name: &'a [u8], place: usize) {
 // The same with n words and m text bytes lent, and a chunk name of k bytes.
 fn ask(words: &[u32], text: &[u8], n: usize, m: usize, k: usize, place: usize) {
     tell(
-        first(words, n),
+        first_words(words, n),
         part(text, 0, m),
         part(text, NAME, k),
         place,
     );
-}
-
-// A word written, where it is in range.
-fn put(words: &mut [u32], at: usize, w: u32) {
-    if at < words.len() {
-        words[at] = w;
-    }
-}
-
-// n words alike, from a place on. Answers the place behind them.
-fn run(words: &mut [u32], at: usize, n: u16, w: u32) -> usize {
-    let mut p = at;
-    let mut i: u16 = 0;
-    while i < n {
-        put(words, p, w);
-        p = within(p, WORDS) + 1;
-        i += 1;
-    }
-    p
-}
-
-// n runs. Answers where the next case's bytes stand, and how many words there are.
-fn runs(cases: &[u8], at: usize, n: u16, words: &mut [u32]) -> Read {
-    let mut next = at;
-    let mut p = 0;
-    let mut i: u16 = 0;
-    while i < n {
-        let w = word(cases, after(cases, next, 2));
-        p = run(words, p, half(cases, next), w);
-        next = after(cases, next, 6);
-        i += 1;
-    }
-    Read {
-        next,
-        words: p,
-        text: 0,
-    }
-}
-
-// A store.
-fn store(cases: &[u8], at: usize, words: &mut [u32], text: &mut [u8]) -> Read {
-    let n = half(cases, at);
-    let s = runs(cases, after(cases, at, 2), n, words);
-    let m = half(cases, s.next) as usize;
-    let from = after(cases, s.next, 2);
-    lent::put_bytes(text, 0, part(cases, from, m));
-    Read {
-        next: after(cases, from, m),
-        words: s.words,
-        text: m,
-    }
 }
 
 // The question with another word at a place, which is put back.

@@ -1,4 +1,6 @@
 // Reading records: bytes with numbers in them, low byte first. Past the end there are zeros.
+pub mod store;
+
 ghost use Prim.Native.Nat.{_≤_};
 ghost use lib.ListN.{length};
 

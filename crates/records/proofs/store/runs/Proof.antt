@@ -3,14 +3,14 @@ use Prim.Native.Nat.{_-_}
 use mathlib.Core.Path.{_≡_}
 use lib.ListN.{length}
 use borrow.Author.Needs.{needs}
-use Rattle.readstores.proofs.runs.Statement.{statement}
-use Rattle.readstores.proofs.runs.Tie as tie
+use Rattle.records.proofs.store.runs.Statement.{statement}
+use Rattle.records.proofs.store.runs.Tie as tie
 
 abbrev Inv-loop : tie.InvT-loop
-Inv-loop cases at n words₀ next₀ p₀ i₀ words next p i = length words ≡ length words₀
+Inv-loop records at n words₀ next₀ p₀ i₀ words next p i = length words ≡ length words₀
 
 abbrev μ-loop : tie.MeasureT-loop
-μ-loop cases at n words₀ next₀ p₀ i₀ words next p i = n - i
+μ-loop records at n words₀ next₀ p₀ i₀ words next p i = n - i
 
 loop-holds : tie.Need-loop-holds Inv-loop μ-loop
 loop-holds c = search needs

@@ -1,28 +1,24 @@
--- The loop ends after n words.
+-- The loop ends at the end of the output.
+use borrow.Author.Needs.{needs}
 use Prim.Native.Nat.{_-_}
 use mathlib.Core.Path.{_≡_}
 use lib.ListN.{length}
-use borrow.Author.Needs.{needs}
-use Rattle.readstores.proofs.run.Statement.{statement}
-use Rattle.readstores.proofs.run.Tie as tie
+use Rattle.names.proofs.fill.Statement.{statement}
+use Rattle.names.proofs.fill.Tie as tie
+
+-- The loop stays within the output and ends at its end.
 
 abbrev Inv-loop : tie.InvT-loop
-Inv-loop words₀ at n w p₀ i₀ words p i = length words ≡ length words₀
+Inv-loop out₀ i₀ out i = length out ≡ length out₀
 
 abbrev μ-loop : tie.MeasureT-loop
-μ-loop words₀ at n w p₀ i₀ words p i = n - i
+μ-loop out₀ i₀ out i = length out₀ - i
 
 loop-holds : tie.Need-loop-holds Inv-loop μ-loop
 loop-holds c = search needs
 
-put-requires : tie.Need-put-requires Inv-loop μ-loop
-put-requires c κs = search needs
-
-within-requires : tie.Need-within-requires Inv-loop μ-loop
-within-requires c κs = search needs
-
-add-p : tie.Need-add-p Inv-loop μ-loop
-add-p c = search needs
+slice-write-out : tie.Need-slice-write-out Inv-loop μ-loop
+slice-write-out c = search needs
 
 add-i : tie.Need-add-i Inv-loop μ-loop
 add-i c = search needs
@@ -39,16 +35,14 @@ same-length c = search needs
 returns : tie.Need-returns Inv-loop μ-loop
 returns c = search needs
 
-pub run-spec : {M : Type 1} → statement M
-run-spec =
+pub fill-spec : {M : Type 1} → statement M
+fill-spec =
     tie.close
     (tie.spec
     Inv-loop
     μ-loop
     loop-holds
-    put-requires
-    within-requires
-    add-p
+    slice-write-out
     add-i
     loop-less
     loop-again

@@ -1,0 +1,158 @@
+-- The calls: on the function at a place, and on a pc and a register of it.
+use Prim.Native.Nat.{ℕ, _^_, _≤_, _<_}
+use mathlib.Core.Path.{_≡_, refl, sym, subst, _∙_}
+use mathlib.Core.List.{List, []}
+use mathlib.Core.Bool.{Bool, true, false, cond}
+use native.Mathlib.Omega.{arith}
+use native.Mathlib.Decide.{ℕ-discrete}
+use lib.ListN.{length, getD}
+use lib.Dec.{leb}
+use borrow.Author.Tests.{eq-eqb, ne-eqb, le-leb, lt-leb, leb-true}
+use Rattle.format.specs.Tree.{Parts, Function, Functions}
+use Rattle.format.specs.Store.{functionPiece}
+use Rattle.format.specs.Dump.{WriteLeft}
+use Rattle.format.specs.Valid.{depth, Valid}
+use Rattle.format.specs.declared.Written.{Written}
+use Rattle.proto.specs.Walk.{Stands, Past, toCode}
+use Rattle.proto.specs.Places.{Placed, onPlace, placeRefusal}
+use Rattle.proto.proofs.Items.{code-stands, ints-count}
+use Rattle.proto.proofs.Sources.{function-stands, On, place-on, on-answer, on-refused}
+use Rattle.symbexec.specs.declared.lists.Lists.{Lists}
+use Rattle.symbexec.specs.Lists.{ListsOf}
+use Rattle.debug_info.specs.Calls.{partsOf, onRegister, registerRefusal, nameLeft, nameRefused, namedBy}
+
+-- ---- the function that stands at a place
+
+module _ {words text : List ℕ} {place : ℕ} (o : On words text place) where
+  -- what holds of every function that stands there, well formed, holds of the one found
+  pub of-function : (P : Function → Type 0) → ((p : Parts) (fs : Functions) (to : ℕ) → Valid (Function.function p fs) depth → Stands words text place to (functionPiece (Function.function p fs)) → P (Function.function p fs)) → P (o .function .function)
+  of-function P g =
+      let x = function-stands [] place (o .function) (o .holds) (o .begins) in
+      go (o .function .function) (x .0 .to) (x .0 .valid) (subst (λ (at : ℕ). Stands words text at (x .0 .to) (functionPiece (o .function .function))) (x .1) (x .0 .stands))
+    where
+      go : (f : Function) (to : ℕ) → Valid f depth → Stands words text place to (functionPiece f) → P f
+      go (Function.function p fs) to v h = g p fs to v h
+
+  pub of-lists : {s : Lists} (P : Function → Type 0)
+      → ((text : List ℕ) (to : ℕ) (p : Parts) (fs : Functions) → Valid (Function.function p fs) depth → Stands words text place to (functionPiece (Function.function p fs)) → ListsOf words text p fs s)
+      → ((p : Parts) (fs : Functions) → ListsOf words text p fs s → P (Function.function p fs)) → P (o .function .function)
+  of-lists P l g = of-function P (λ p fs to v h. g p fs (l text to p fs v h))
+
+  -- its code's length
+  pub of-code : {a x : ℕ} → ((p : Parts) → Past words (toCode p) place a) → x ≡ getD words a 0 → x ≡ length (partsOf (o .function .function) .code)
+  of-code {x = x} w e = of-function (λ f. x ≡ length (partsOf f .code)) (λ p fs to v h. e ∙ ints-count (p .code) (code-stands p fs h (w p)))
+
+  pub code-short : length (partsOf (o .function .function) .code) < 2 ^ 32
+  unfolding Valid
+  code-short = of-function (λ f. length (partsOf f .code) < 2 ^ 32) (λ p fs to v h. omega (arith, v .0 .code .short))
+
+-- ---- a pc and a register of it
+
+pub record OnRegister (words text : List ℕ) (place pc reg : ℕ) : Type 0 where
+  pub on : On words text place
+  pub pc-within : pc ≤ length (partsOf (on .function .function) .code)
+  pub reg-within : reg ≤ 255
+
+abbrev within : {A : Type 0} → (ℕ → A) → (Function → A) → ℕ → ℕ → Placed → A
+within refuse answer pc reg x = cond (leb pc (length (partsOf (x .function) .code))) (cond (leb reg 255) (answer (x .function)) (refuse 14)) (refuse 13)
+
+module _ (words text : List ℕ) (place pc reg : ℕ) where
+  -- the refusal of the place
+  pub register-place : {n : ℕ} → n ≡ placeRefusal words text place → 0 < n → n ≡ registerRefusal words text place pc reg
+  unfolding registerRefusal
+  register-place e h = e ∙ sym (on-refused (λ n. n) (within (λ n. n) (λ f. 0) pc reg) words text place (λ z. omega arith))
+
+  module _ {n a x : ℕ} (z : n ≡ placeRefusal words text place) (k : n ≤ 0) (w : (p : Parts) → Past words (toCode p) place a) (e : x ≡ getD words a 0) where
+    on : On words text place
+    on = place-on words text place (omega arith)
+
+    registered : registerRefusal words text place pc reg ≡ cond (leb pc x) (cond (leb reg 255) 0 14) 13
+    unfolding registerRefusal
+    registered = on-answer (λ n. n) (within (λ n. n) (λ f. 0) pc reg) on ∙ rw (← of-code on w e)
+
+    pub register-13 : x < pc → 13 ≡ registerRefusal words text place pc reg
+    register-13 h = sym (registered ∙ rw (lt-leb pc x h))
+
+    pub register-14 : pc ≤ x → 255 < reg → 14 ≡ registerRefusal words text place pc reg
+    register-14 h l = sym (registered ∙ rw (le-leb pc x h, lt-leb reg 255 l))
+
+    pub register-0 : pc ≤ x → reg ≤ 255 → 0 ≡ registerRefusal words text place pc reg
+    register-0 h l = sym (registered ∙ rw (le-leb pc x h, le-leb reg 255 l))
+
+  -- where it is not refused
+  pub register-on : registerRefusal words text place pc reg ≡ 0 → OnRegister words text place pc reg
+  unfolding registerRefusal
+  register-on e = elim (ℕ-discrete (placeRefusal words text place) 0) [
+    | yes z ↦
+        let o = place-on words text place z in
+        by o (leb pc (length (partsOf (o .function .function) .code))) (leb reg 255) refl refl (sym (on-answer (λ n. n) (within (λ n. n) (λ f. 0) pc reg) o) ∙ e)
+    | no z ↦ absurd (z (sym (on-refused (λ n. n) (within (λ n. n) (λ f. 0) pc reg) words text place z) ∙ e))
+  ]
+    where
+      by : (o : On words text place) (a b : Bool) → leb pc (length (partsOf (o .function .function) .code)) ≡ a → leb reg 255 ≡ b → _≡_ {A = ℕ} (cond a (cond b 0 14) 13) 0 → OnRegister words text place pc reg
+      by o true true p q h = record { on = o; pc-within = leb-true _ _ p; reg-within = leb-true _ _ q }
+      by o true false p q h = absurd (omega arith)
+      by o false b p q h = absurd (omega arith)
+
+  module _ {A : Type 0} (refuse : ℕ → A) (answer : Function → A) where
+    pub registered-refused : (registerRefusal words text place pc reg ≡ 0 → ⊥) → onRegister refuse answer words text place pc reg ≡ refuse (registerRefusal words text place pc reg)
+    unfolding registerRefusal
+    registered-refused n = elim (ℕ-discrete (placeRefusal words text place) 0) [
+      | yes z ↦
+          let o = place-on words text place z in
+          let e = on-answer (λ n. n) (within (λ n. n) (λ f. 0) pc reg) o in
+          on-answer refuse (within refuse answer pc reg) o
+          ∙ rw e (by (o .function .function) (leb pc (length (partsOf (o .function .function) .code))) (leb reg 255) (λ h. n (e ∙ h)))
+      | no z ↦
+          on-refused refuse (within refuse answer pc reg) words text place z
+          ∙ rw (on-refused (λ n. n) (within (λ n. n) (λ f. 0) pc reg) words text place z)
+    ]
+      where
+        by : (f : Function) (a b : Bool) → (_≡_ {A = ℕ} (cond a (cond b 0 14) 13) 0 → ⊥) → cond a (cond b (answer f) (refuse 14)) (refuse 13) ≡ refuse (cond a (cond b 0 14) 13)
+        by f true true h = absurd (h refl)
+        by f true false h = refl
+        by f false b h = refl
+
+    pub registered-answer : (o : OnRegister words text place pc reg) → onRegister refuse answer words text place pc reg ≡ answer (o .on .function .function)
+    registered-answer o = on-answer refuse (within refuse answer pc reg) (o .on) ∙ rw (le-leb pc (length (partsOf (o .on .function .function) .code)) (o .pc-within), le-leb reg 255 (o .reg-within))
+
+-- ---- what a call answers, by the function whose lists were found
+
+module _ {A : Type 0} (refuse : ℕ → A) (answer : Function → A) (words text : List ℕ) (place : ℕ) {n : ℕ} where
+  pub place-refused : n ≡ placeRefusal words text place → 0 < n → refuse n ≡ onPlace refuse (λ x. answer (x .function)) words text place
+  place-refused e h = rw e (sym (on-refused refuse (λ x. answer (x .function)) words text place (λ z. omega arith)))
+
+  pub place-answered : {s : Lists} {r : A} → n ≡ placeRefusal words text place → n ≤ 0
+      → ((text : List ℕ) (to : ℕ) (p : Parts) (fs : Functions) → Valid (Function.function p fs) depth → Stands words text place to (functionPiece (Function.function p fs)) → ListsOf words text p fs s)
+      → ((p : Parts) (fs : Functions) → ListsOf words text p fs s → r ≡ answer (Function.function p fs)) → r ≡ onPlace refuse (λ x. answer (x .function)) words text place
+  place-answered {s} {r} e h l g =
+      let o = place-on words text place (omega arith) in
+      of-lists o (λ f. r ≡ answer f) l g ∙ sym (on-answer refuse (λ x. answer (x .function)) o)
+
+  module _ (pc reg : ℕ) where
+    pub register-refused : n ≡ registerRefusal words text place pc reg → 0 < n → refuse n ≡ onRegister refuse answer words text place pc reg
+    register-refused e h = rw e (sym (registered-refused words text place pc reg refuse answer (λ z. omega arith)))
+
+    pub register-answered : {s : Lists} {r : A} → n ≡ registerRefusal words text place pc reg → n ≤ 0
+        → ((text : List ℕ) (to : ℕ) (p : Parts) (fs : Functions) → Valid (Function.function p fs) depth → Stands words text place to (functionPiece (Function.function p fs)) → ListsOf words text p fs s)
+        → ((p : Parts) (fs : Functions) → ListsOf words text p fs s → r ≡ answer (Function.function p fs)) → r ≡ onRegister refuse answer words text place pc reg
+    register-answered {s} {r} e h l g =
+        let o = register-on words text place pc reg (omega arith) in
+        of-lists (o .on) (λ f. r ≡ answer f) l g ∙ sym (registered-answer words text place pc reg refuse answer o)
+
+-- a pc and a register that are not refused
+pub register-bounds : (words text : List ℕ) (place pc reg : ℕ) {n : ℕ} → n ≡ registerRefusal words text place pc reg → n ≤ 0 → (pc < 2 ^ 32) × (reg < 256)
+register-bounds words text place pc reg e h =
+    let o = register-on words text place pc reg (omega arith) in
+    let k = o .pc-within in
+    let l = code-short (o .on) in
+    (omega arith, omega (arith, o .reg-within))
+
+-- ---- an answer with a name
+
+module _ (kind : ℕ) {w : Written} {out : List ℕ} {l : WriteLeft} (e : record { answer = w; out = out } ≡ l) where
+  pub named-fits : w .refusal ≡ 0 → nameLeft (record { refusal = 0; kind = kind; len = w .len }) out ≡ namedBy kind l
+  named-fits h = rw (← e, eq-eqb (w .refusal) 0 h)
+
+  pub named-11 : (w .refusal ≡ 0 → ⊥) → nameRefused out (w .refusal) ≡ namedBy kind l
+  named-11 h = rw (← e, ne-eqb (w .refusal) 0 h)

@@ -1,0 +1,3 @@
+pub mod Lists
+pub mod Searches
+pub mod Calls

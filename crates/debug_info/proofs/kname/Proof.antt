@@ -1,0 +1,54 @@
+-- Not refused, the function stands at its place, and so do its constants.
+use borrow.Author.Needs.{needs}
+use mathlib.Core.Path.{ap, _∙_}
+use Rattle.format.specs.Dump.{writeRefused, written}
+use Rattle.debug_info.specs.Names.{kname}
+use Rattle.debug_info.specs.Calls.{partsOf, knamed}
+use Rattle.debug_info.proofs.Calls.{place-refused, place-answered}
+use Rattle.debug_info.proofs.kname.Statement.{statement}
+use Rattle.debug_info.proofs.kname.Tie as tie
+
+place-refusal-requires : tie.Need-place-refusal-requires
+place-refusal-requires c κs = search needs
+
+returns : tie.Need-returns
+unfolding knamed
+returns c =
+    let c₁ = c .before in
+    let c₂ = c₁ .before .before .before .before in
+    place-refused (λ n. writeRefused n (c₂ .args .out .now)) (λ f. written (kname (partsOf f .constants) (c₂ .args .c)) (c₂ .args .out .now)) _ _ (c₂ .args .place) (c₁ .place-refusal .ensures) (c .if1 .taken)
+
+lists-at-requires : tie.Need-lists-at-requires
+lists-at-requires c κs = search needs
+
+operand-name-requires : tie.Need-operand-name-requires
+operand-name-requires c κs = search needs
+
+write-name-requires : tie.Need-write-name-requires
+write-name-requires c κs = search needs
+
+same-length : tie.Need-same-length
+same-length c = search needs
+
+returns-2 : tie.Need-returns-2
+unfolding knamed
+returns-2 c =
+    let c₁ = c .before .before in
+    let c₂ = c₁ .before .before in
+    let c₃ = c₂ .before in
+    let c₄ = c₃ .before in
+    let c₅ = c₄ .before in
+    let c₆ = c₅ .before .before .before .before in
+    place-answered (λ n. writeRefused n (c₆ .args .out .now)) (λ f. written (kname (partsOf f .constants) (c₆ .args .c)) (c₆ .args .out .now)) _ _ (c₆ .args .place) (c₅ .place-refusal .ensures) (c₄ .if1 .left) (c₃ .lists-at .ensures) (λ p fs h. c₁ .write-name .ensures ∙ ap (λ s. written s (c₆ .args .out .now)) (c₂ .operand-name .ensures (c₆ .args .text .now) (p .constants) (h .constants)))
+
+pub kname-spec : {M : Type 1} → statement M
+kname-spec =
+    tie.close
+    (tie.spec
+    place-refusal-requires
+    returns
+    lists-at-requires
+    operand-name-requires
+    write-name-requires
+    same-length
+    returns-2)

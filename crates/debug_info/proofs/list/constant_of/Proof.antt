@@ -1,0 +1,28 @@
+-- Past the count there is no constant; before it, item i is one.
+use borrow.Author.Needs.{needs}
+use Rattle.format.specs.Store.{constantPiece}
+use Rattle.proto.proofs.Pieces.{constant-words}
+use Rattle.debug_info.proofs.Lists.{looked-past, looked-up}
+use Rattle.debug_info.proofs.list.constant_of.Statement.{statement}
+use Rattle.debug_info.proofs.list.constant_of.Tie as tie
+
+word-at-requires : tie.Need-word-at-requires
+word-at-requires c κs = search needs
+
+returns : tie.Need-returns
+returns c = λ text l h. rw (looked-past constantPiece l h (c .before .word-at .ensures) (c .if1 .taken))
+
+item-at-requires : tie.Need-item-at-requires
+item-at-requires c κs = search needs
+
+constant-at-requires : tie.Need-constant-at-requires
+constant-at-requires c κs = search needs
+
+returns-2 : tie.Need-returns-2
+returns-2 c = λ text l h.
+    let x = looked-up constantPiece l h (c .before .before .before .word-at .ensures) 3 constant-words (c .before .before .if1 .left) (c .before .item-at .ensures) in
+    rw (x .is) (c .constant-at .ensures (x .value) text (x .stands .to) (x .stands .stands))
+
+pub constant-of-spec : {M : Type 1} → statement M
+constant-of-spec =
+    tie.close (tie.spec word-at-requires returns item-at-requires constant-at-requires returns-2)

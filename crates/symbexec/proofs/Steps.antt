@@ -1,0 +1,109 @@
+-- The tests of one instruction, the code's items, and the walk from one instruction to the next.
+use Prim.Native.Nat.{ℕ, zero, suc, _+_, _*_, _-_, _≤_, _<_}
+use mathlib.Core.Path.{_≡_, refl, sym, ap, _∙_}
+use mathlib.Core.List.{List, _∷_}
+use mathlib.Core.Bool.{Bool, true, false, cond, not, _&&_}
+use native.Mathlib.Omega.{arith}
+use lib.ListN.{length, getD, take, List·getD-eq-default}
+use lib.Seq.{length-take-le}
+use lib.Dec.{eqb, leb, ltb}
+use borrow.Author.Tests.{lt-ltb, le-ltb, ltb-true}
+use Rattle.format.specs.Tree.{Function}
+use Rattle.format.specs.Store.{ints}
+use Rattle.instructions.specs.Fields.{MAXARG-sBx, GETARG-C, GETARG-Bx, NO-REG}
+use Rattle.instructions.specs.OpCodes.{opcode}
+use Rattle.proto.specs.Walk.{Skips}
+use Rattle.proto.proofs.Items.{StandsAt, ints-count, ints-item}
+use Rattle.proto.proofs.Heres.{here-front}
+use Rattle.symbexec.specs.declared.child.Child.{Child}
+use Rattle.symbexec.specs.declared.operands.Skipped.{Skipped}
+use Rattle.symbexec.specs.Lists.{ChildrenAt, ChildOf}
+use Rattle.symbexec.specs.Operands.{Behind}
+use Rattle.symbexec.specs.SymbExec.{isJump, raised, followed, operands, nextPc, after, writes, lastWrite}
+
+-- ---- one instruction
+
+module _ (op bx lastpc reg pc : ℕ) where
+  -- a followed jump goes forward
+  pub goes-forward : followed op bx lastpc reg pc ≡ true → pc + MAXARG-sBx < raised pc bx
+  unfolding followed
+  goes-forward h = by (isJump op) (eqb reg NO-REG) (ltb (pc + MAXARG-sBx) (raised pc bx)) refl h
+    where
+      by : (a b t : Bool) → ltb (pc + MAXARG-sBx) (raised pc bx) ≡ t → (a && (not b && (t && leb (raised pc bx) (lastpc + MAXARG-sBx)))) ≡ true → pc + MAXARG-sBx < raised pc bx
+      by a b true e h = ltb-true _ _ e
+      by true true false e h = let z : _≡_ {A = ℕ} 0 1 = cc in absurd (omega arith)
+      by true false false e h = let z : _≡_ {A = ℕ} 0 1 = cc in absurd (omega arith)
+      by false b false e h = let z : _≡_ {A = ℕ} 0 1 = cc in absurd (omega arith)
+
+  module _ (skipped : ℕ) {r : ℕ} where
+    pub next-jump : followed op bx lastpc reg pc ≡ true → r ≡ raised pc bx - MAXARG-sBx → (r ≡ nextPc op bx skipped lastpc reg pc) × (pc < r)
+    unfolding nextPc
+    next-jump h e = (rw h e, omega (arith, goes-forward h))
+
+    pub next-on : followed op bx lastpc reg pc ≡ false → r ≡ pc + 1 + skipped → (r ≡ nextPc op bx skipped lastpc reg pc) × (pc < r)
+    unfolding nextPc
+    next-on h e = (rw h e, omega arith)
+
+-- ---- the code
+
+module _ {words text : List ℕ} {code x : ℕ} (l : List ℕ) (h : StandsAt words text code (ints l)) (e : x ≡ getD words code 0) where
+  pub code-count : x ≡ length l
+  code-count = e ∙ ints-count l (h .stands)
+
+  pub code-past : {pc : ℕ} → x ≤ pc → 0 ≡ getD l pc 0
+  code-past k = sym (List·getD-eq-default l 0 (omega (arith, code-count)))
+
+  pub code-item : {pc r y : ℕ} → pc < x → Skips words (1 + 1 * pc) code r → y ≡ getD words r 0 → y ≡ getD l pc 0
+  code-item {pc} {r} k s g =
+      let n : 1 + 1 * pc ≤ suc (length l) = omega (arith, code-count) in
+      let f : r ≡ code + suc pc = s .skips (take (1 + 1 * pc) (length l ∷ l)) (length-take-le (1 + 1 * pc) (length l ∷ l) n) (here-front (1 + 1 * pc) (length l ∷ l) (h .stands .in-words)) ∙ omega arith in
+      g ∙ rw f (ints-item l pc (omega (arith, code-count)) (h .stands))
+
+-- ---- the walk
+
+-- the search from pc on gives what the whole gives, with enough steps left
+pub record Left (l : List ℕ) (fs : List Function) (lastpc reg last pc : ℕ) : Type 0 where
+  pub left : ℕ
+  pub enough : lastpc ≤ left + pc
+  pub same : lastWrite l fs lastpc reg left pc last ≡ lastWrite l fs lastpc reg lastpc 0 (length l - 1)
+
+module _ {l : List ℕ} {fs : List Function} {lastpc reg last pc : ℕ} where
+  left-turn : pc < lastpc → {i last′ pc′ : ℕ} → i ≡ getD l pc 0 → last′ ≡ cond (writes i reg) pc last → pc′ ≡ after fs lastpc reg pc i → pc < pc′ → Left l fs lastpc reg last pc → Left l fs lastpc reg last′ pc′
+  unfolding lastWrite
+  left-turn k {i} {last′} {pc′} e f g m x = by (x .left) (x .enough) (x .same)
+    where
+      by : (n : ℕ) → lastpc ≤ n + pc → lastWrite l fs lastpc reg n pc last ≡ lastWrite l fs lastpc reg lastpc 0 (length l - 1) → Left l fs lastpc reg last′ pc′
+      by zero h s = absurd (omega arith)
+      by (suc n) h s = record { left = n; enough = omega arith; same = rw (f, g, e) (rw (lt-ltb pc lastpc k) at s) }
+
+  left-end : lastpc ≤ pc → Left l fs lastpc reg last pc → last ≡ lastWrite l fs lastpc reg lastpc 0 (length l - 1)
+  unfolding lastWrite
+  left-end k x = by (x .left) (x .same)
+    where
+      by : (n : ℕ) → lastWrite l fs lastpc reg n pc last ≡ lastWrite l fs lastpc reg lastpc 0 (length l - 1) → last ≡ lastWrite l fs lastpc reg lastpc 0 (length l - 1)
+      by zero s = s
+      by (suc n) s = rw (le-ltb pc lastpc k) at s
+
+-- so for each function whose code and functions stand there, the child kept being one of these
+pub record Traced (words : List ℕ) (code functions lastpc reg last : ℕ) (child : Child) (pc : ℕ) : Type 0 where
+  pub traced : (text l : List ℕ) (fs : List Function) → StandsAt words text code (ints l) → ChildrenAt words text fs functions → ChildOf words text fs child × Left l fs lastpc reg last pc
+
+module _ {words : List ℕ} {code functions lastpc reg : ℕ} where
+  pub trace-start : {last : ℕ} {child : Child} → ((text l : List ℕ) → StandsAt words text code (ints l) → last ≡ length l - 1)
+      → ((text : List ℕ) (fs : List Function) → ChildrenAt words text fs functions → ChildOf words text fs child) → Traced words code functions lastpc reg last child 0
+  trace-start f g = record { traced = λ text l fs h k. (g text fs k, record { left = lastpc; enough = omega arith; same = rw (f text l h) }) }
+
+  pub trace-turn : {i last last′ pc pc′ : ℕ} {child : Child} {b : Skipped} → pc < lastpc → ((text l : List ℕ) → StandsAt words text code (ints l) → i ≡ getD l pc 0)
+      → last′ ≡ cond (writes i reg) pc last → Behind words functions child (λ fs. operands fs (opcode i) (GETARG-Bx i) (GETARG-C i)) b
+      → (pc′ ≡ nextPc (opcode i) (GETARG-Bx i) (b .count) lastpc reg pc) × (pc < pc′) → Traced words code functions lastpc reg last child pc → Traced words code functions lastpc reg last′ (b .child) pc′
+  trace-turn {i} {pc = pc} {child = child} {b = b} k e f g m x =
+      record {
+        traced = λ text l fs h c.
+            let y = x .traced text l fs h c in
+            let z = g .behind text fs c (y .0) in
+            (z .1, left-turn k (e text l h) f (m .0 ∙ ap (λ (n : ℕ). nextPc (opcode i) (GETARG-Bx i) n lastpc reg pc) (z .0)) (m .1) (y .1));
+      }
+
+  pub trace-end : {last pc : ℕ} {child : Child} → lastpc ≤ pc → Traced words code functions lastpc reg last child pc
+      → (text l : List ℕ) (fs : List Function) → StandsAt words text code (ints l) → ChildrenAt words text fs functions → last ≡ lastWrite l fs lastpc reg lastpc 0 (length l - 1)
+  trace-end k x text l fs h c = left-end k (x .traced text l fs h c .1)

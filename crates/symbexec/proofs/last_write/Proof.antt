@@ -1,0 +1,70 @@
+-- The loop's invariant: the search from pc on gives what the whole gives, and the child kept is one of the function's.
+use borrow.Author.Needs.{needs}
+use native.Mathlib.Omega.{arith}
+use Prim.Native.Nat.{_-_}
+use mathlib.Core.Path.{_≡_}
+use Rattle.symbexec.proofs.Steps.{Traced, trace-start, trace-turn, trace-end}
+use Rattle.symbexec.proofs.last_write.Statement.{statement}
+use Rattle.symbexec.proofs.last_write.Tie as tie
+
+abbrev Inv-loop : tie.InvT-loop
+Inv-loop words lastpc reg code functions end last₀ child₀ pc₀ last child pc = (end ≡ lastpc) × Traced words code functions lastpc reg last child pc
+
+abbrev μ-loop : tie.MeasureT-loop
+μ-loop words lastpc reg code functions end last₀ child₀ pc₀ last child pc = end - pc
+
+last-pc-requires : tie.Need-last-pc-requires Inv-loop μ-loop
+last-pc-requires c κs = search needs
+
+first-child-requires : tie.Need-first-child-requires Inv-loop μ-loop
+first-child-requires c κs = search needs
+
+loop-holds : tie.Need-loop-holds Inv-loop μ-loop
+loop-holds c = (omega arith, trace-start (c .before .last-pc .ensures) (c .first-child .ensures .1))
+
+cast-here : tie.Need-cast-here Inv-loop μ-loop
+cast-here c = omega arith
+
+instruction-at-requires : tie.Need-instruction-at-requires Inv-loop μ-loop
+instruction-at-requires c κs = search needs
+
+latest-requires : tie.Need-latest-requires Inv-loop μ-loop
+latest-requires c κs = search needs
+
+operands-requires : tie.Need-operands-requires Inv-loop μ-loop
+operands-requires c κs = search needs
+
+next-pc-requires : tie.Need-next-pc-requires Inv-loop μ-loop
+next-pc-requires c κs = search needs
+
+loop-less : tie.Need-loop-less Inv-loop μ-loop
+loop-less c = omega (arith, c .next-pc .ensures .1)
+
+loop-again : tie.Need-loop-again Inv-loop μ-loop
+loop-again c =
+    let c₁ = c .before .before in
+    let c₂ = c₁ .before in
+    let c₃ = c₂ .before in
+    let c₄ = c₃ .before .before in
+    (c₄ .loop .inv .0, trace-turn (omega arith) (c₃ .instruction-at .ensures) (c₂ .latest .ensures) (c₁ .operands .ensures) (c .next-pc .ensures) (c₄ .loop .inv .1))
+
+returns : tie.Need-returns Inv-loop μ-loop
+returns c = λ text p fs h. trace-end (omega arith) (c .before .loop .inv .1) text (p .code) _ (h .code) (h .functions)
+
+pub last-write-spec : {M : Type 1} → statement M
+last-write-spec =
+    tie.close
+    (tie.spec
+    Inv-loop
+    μ-loop
+    last-pc-requires
+    first-child-requires
+    loop-holds
+    cast-here
+    instruction-at-requires
+    latest-requires
+    operands-requires
+    next-pc-requires
+    loop-less
+    loop-again
+    returns)

@@ -1,0 +1,16 @@
+-- By what writes answers.
+use borrow.Author.Needs.{needs}
+use Rattle.symbexec.proofs.step.latest.Statement.{statement}
+use Rattle.symbexec.proofs.step.latest.Tie as tie
+
+writes-requires : tie.Need-writes-requires
+writes-requires c κs = search needs
+
+returns : tie.Need-returns
+returns c = rw (← c .before .writes .ensures, c .if1 .taken)
+
+returns-2 : tie.Need-returns-2
+returns-2 c = rw (← c .before .writes .ensures, c .if1 .left)
+
+pub latest-spec : {M : Type 1} → statement M
+latest-spec = tie.close (tie.spec writes-requires returns returns-2)

@@ -1,0 +1,3 @@
+pub mod SymbExec
+pub mod Lists
+pub mod Operands
