@@ -3,8 +3,6 @@ use Prim.Native.Nat.{ℕ}
 use mathlib.Core.List.{List}
 use Rattle.utf8.specs.Utf8.{repair}
 use Rattle.format.specs.Stored.{part}
-use Rattle.format.specs.Dump.{WriteLeft}
-use Rattle.format.specs.declared.Written.{Written}
 use Rattle.debug_info.specs.Names.{Object, unknown}
 use Rattle.debug_info.specs.declared.name.Name.{Name}
 use Rattle.debug_info.specs.declared.name.Name.the-variants.{Unknown, Text, Constant}
@@ -18,7 +16,3 @@ nameOf text (Constant start n) = repair (part text start n)
 
 abbrev pub objectOf : List ℕ → Known → Object
 objectOf text k = record { kind = k .kind; name = nameOf text (k .name) }
-
--- an answer with what stands in lent memory
-abbrev pub writeLeft : Written → List ℕ → WriteLeft
-writeLeft r out = record { answer = r; out = out }

@@ -17,7 +17,8 @@ use proto::walk::word_at;
 use symbexec::lists::lists_at;
 use symbexec::symbexec_at;
 ghost use mathlib.Core.Path.{_≡_};
-ghost use Rattle.debug_info.specs.Known.{objectOf, writeLeft};
+ghost use Rattle.format.specs.Dump.{writeLeft};
+ghost use Rattle.debug_info.specs.Known.{objectOf};
 ghost use Rattle.debug_info.specs.Calls.{registerRefusal, symbexecAnswer, nameLeft, named, localNamed, knamed, objectNamed};
 
 // How many values a pc of 32 bits has.

@@ -10,12 +10,12 @@ ghost use mathlib.Core.List.{List, []};
 ghost use mathlib.Core.Path.{_≡_};
 ghost use Prim.Native.Nat.{ℕ};
 ghost use Rattle.lent.specs.Memory.{Puts};
-ghost use Rattle.format.specs.Dump.{written};
+ghost use Rattle.format.specs.Dump.{writeLeft, written};
 ghost use Rattle.format.specs.Store.{string};
 ghost use Rattle.proto.proofs.Items.{StandsAt};
 ghost use Rattle.proto.specs.Constants.{valueOf};
 ghost use Rattle.debug_info.specs.Names.{constantName, globalOf};
-ghost use Rattle.debug_info.specs.Known.{nameOf, objectOf, writeLeft};
+ghost use Rattle.debug_info.specs.Known.{nameOf, objectOf};
 
 // A name: ?, or its place and length in the text; a constant's is repaired as it is written.
 pub enum Name {
