@@ -8,7 +8,7 @@ use lib.Dec.{eqb}
 use Rattle.digits.specs.Digits.{decimal}
 use Rattle.instructions.specs.OpCodes.{ascii}
 use Rattle.format.specs.Tree.{Parts, Functions, count}
-use Rattle.lines.specs.Line.{address}
+use Rattle.comments.specs.Comment.{address}
 
 -- display_source: without a leading @
 abbrev pub displaySource : List ℕ → List ℕ

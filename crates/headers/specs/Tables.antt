@@ -7,7 +7,8 @@ use Rattle.digits.specs.Digits.{decimal}
 use Rattle.instructions.specs.OpCodes.{ascii}
 use Rattle.format.specs.Tree.{Constant, Local}
 use Rattle.operands.specs.Operands.{constantText}
-use Rattle.lines.specs.Line.{address, index}
+use Rattle.comments.specs.Comment.{address}
+use Rattle.lines.specs.Line.{index}
 
 -- the items of a list from index i on, each written by e with its index
 unfoldable pub enumerated : {A : Type 0} → (ℕ → A → List ℕ) → ℕ → List A → List ℕ

@@ -1,8 +1,8 @@
 // The lists of a full listing (listing.rs: format_constants, format_locals, format_upvalues).
+use comments::put_address;
 use digits::put_decimal;
 use lent::put_byte;
 use lent::put_bytes;
-use lines::comment::put_address;
 use lines::put_index;
 use operands::constant::put_constant;
 use proto::constant::constant_at;

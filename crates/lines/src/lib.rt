@@ -1,8 +1,7 @@
 // One instruction's line of a listing, and the constants that it names (listing.rs: format_constant, format_constant_raw, and the body of
 // format_code's loop). Each call writes its text at a place of lent bytes and answers the next place; what is past the end is not written.
-pub mod comment;
-
-use comment::format_comment;
+use comments::Lists;
+use comments::format_comment;
 use digits::put_decimal;
 use instructions::Instruction;
 use lent::put_byte;
@@ -19,17 +18,7 @@ ghost use Rattle.proto.specs.Walk.{item};
 ghost use Rattle.instructions.specs.OpCodes.{opcode, opName, padded};
 ghost use Rattle.lines.specs.Line.{index, formatLine, formatInstruction};
 ghost use Rattle.operands.specs.Shown.{Shows};
-ghost use Rattle.lines.specs.Shown.{ListsAt, ChildIs};
-
-// Where the lists of a function stand in the words.
-pub struct Lists {
-    pub code: usize,
-    pub constants: usize,
-    pub functions: usize,
-    pub lines: usize,
-    pub locals: usize,
-    pub upvalues: usize,
-}
+ghost use Rattle.comments.specs.Shown.{ListsAt, ChildIs};
 
 // A tab, an index and a tab.
 pub fn put_index(n: u64, out: &mut [u8], at: usize) -> usize

@@ -12,9 +12,9 @@ use Rattle.proto.specs.Walk.{Skips, totalAll}
 use Rattle.proto.proofs.Heres.{here-get}
 use Rattle.proto.proofs.Pieces.{stands-same}
 use Rattle.proto.proofs.Items.{ints-count, list-item}
-use Rattle.lines.specs.declared.Lists.{Lists}
+use Rattle.comments.specs.declared.Lists.{Lists}
 use Rattle.lines.specs.Line.{formatInstruction}
-use Rattle.lines.specs.Shown.{ListsAt, ChildIs}
+use Rattle.comments.specs.Shown.{ListsAt, ChildIs}
 use Rattle.operands.proofs.Shows.{ints-list}
 use Rattle.listing.specs.declared.code.Kept.{Kept}
 use Rattle.listing.specs.Listing.{formatCode}

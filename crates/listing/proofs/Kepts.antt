@@ -16,8 +16,8 @@ use Rattle.proto.proofs.Heres.{here-get}
 use Rattle.proto.proofs.Pieces.{stands-left}
 use Rattle.proto.proofs.Walks.{past-then, past-word, past-stands, past-ints, past-locals, passes-past, skip-items}
 use Rattle.proto.proofs.Items.{StandsAt, code-stands, constants-stand, functions-stand, lines-stand, locals-stand, upvalues-stand}
-use Rattle.lines.specs.Line.{childNumber}
-use Rattle.lines.specs.Shown.{ListsAt}
+use Rattle.comments.specs.Comment.{childNumber}
+use Rattle.comments.specs.Shown.{ListsAt}
 use Rattle.listing.specs.declared.code.Kept.{Kept}
 use Rattle.listing.specs.Kept.{KeptAt, Reaches, Closes}
 

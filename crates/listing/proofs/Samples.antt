@@ -16,7 +16,8 @@ use Rattle.format.specs.Valid.{Valid}
 use Rattle.format.specs.Stored.{treeOf, storedFunction, both?, as?, true?, every?, same?, valid?}
 use Rattle.proto.specs.Walk.{item, total, totalBefore}
 use Rattle.operands.specs.Operands.{formatOperands}
-use Rattle.lines.specs.Line.{formatComment, formatInstruction}
+use Rattle.comments.specs.Comment.{formatComment}
+use Rattle.lines.specs.Line.{formatInstruction}
 use Rattle.headers.specs.Header.{headerKind, headerCounts}
 use Rattle.headers.specs.Tables.{enumerated}
 use Rattle.listing.specs.Listing.{listFunctionRecursive, listed}

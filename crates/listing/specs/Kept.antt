@@ -9,8 +9,8 @@ use Rattle.format.specs.Valid.{ValidAll}
 use Rattle.instructions.specs.OpCodes.{opcode}
 use Rattle.proto.specs.Walk.{totalAll, totalBefore, childrenPiece}
 use Rattle.proto.proofs.Items.{StandsAt}
-use Rattle.lines.specs.Line.{childNumber}
-use Rattle.lines.specs.Shown.{ChildIs}
+use Rattle.comments.specs.Comment.{childNumber}
+use Rattle.comments.specs.Shown.{ChildIs}
 use Rattle.listing.specs.declared.code.Kept.{Kept}
 
 -- k is a child of the function with this number and the functions fs in it, and those from it on stand there

@@ -1,8 +1,8 @@
 // The code of a function (listing.rs: format_code), and where its lists and the functions in it stand.
+use comments::Lists;
 use instructions::Instruction;
 use instructions::OP_CLOSURE;
 use lent::further;
-use lines::Lists;
 use lines::format_instruction;
 use proto::walk::Next;
 use proto::walk::code_at;
@@ -23,7 +23,7 @@ ghost use Rattle.format.specs.Valid.{ValidAll};
 ghost use Rattle.instructions.specs.OpCodes.{opcode};
 ghost use Rattle.proto.specs.Walk.{totalAll, childrenPiece};
 ghost use Rattle.proto.proofs.Items.{StandsAt};
-ghost use Rattle.lines.specs.Shown.{ListsAt};
+ghost use Rattle.comments.specs.Shown.{ListsAt};
 ghost use Rattle.listing.specs.Listing.{formatCode};
 ghost use Rattle.listing.specs.Kept.{KeptAt, Reaches, Closes};
 

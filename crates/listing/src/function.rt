@@ -1,13 +1,13 @@
 // Functions, one inside the other (listing.rs: list_function_recursive).
 use crate::code::format_code;
 use crate::code::lists_at;
+use comments::Lists;
 use headers::header::format_header;
 use headers::list::format_constants;
 use headers::list::format_locals;
 use headers::list::format_upvalues;
 use lent::further;
 use lent::put_byte;
-use lines::Lists;
 use proto::head::head_at;
 use proto::walk::after_debug;
 use proto::walk::functions_at;
@@ -21,7 +21,7 @@ ghost use Rattle.format.specs.Store.{functionPiece};
 ghost use Rattle.format.specs.Valid.{Valid, ValidParts, ValidAll};
 ghost use Rattle.proto.specs.Walk.{totalAll};
 ghost use Rattle.proto.proofs.Items.{StandsAt};
-ghost use Rattle.lines.specs.Shown.{ListsAt};
+ghost use Rattle.comments.specs.Shown.{ListsAt};
 ghost use Rattle.listing.specs.Listing.{formatLists, formatFunction};
 ghost use Rattle.listing.specs.Lister.{ListsFunction, reached};
 

@@ -1,0 +1,2 @@
+pub mod Comment
+pub mod Shown
