@@ -19,9 +19,8 @@ use Rattle.format.specs.Read.{got, refused}
 use Rattle.format.specs.Write.{dumpChunk}
 use Rattle.format.specs.Valid.{depth, most, Name, Holds, HoldOne}
 use Rattle.format.specs.Stored.{treeOf}
-use Rattle.format.specs.Undump.{loadChunk, UndumpLeft, undumpRefused, UndumpLent, Refuses, wordsUsed, textUsed}
+use Rattle.format.specs.Undump.{loadChunk, UndumpLeft, undumpRefused, Refuses, wordsUsed, textUsed}
 use Rattle.format.specs.Dump.{WriteLeft, writeLeft}
-use Rattle.undump.specs.Undump.{undumpLeft}
 use Rattle.chunk.specs.Demand3.{DumpCall, Accepted, bytesOf, dumpsOf, endToEnd, dumpedSource, UndumpCall, leftBy, Calls, FindsStripped, Takes, Step, dumpsLeft, Session, Demand3}
 use Rattle.format.proofs.RoundTrip.{Reads, readBack, chunk-law, found-valid, found-filled}
 use Rattle.format.proofs.Stored.{tree-holds}

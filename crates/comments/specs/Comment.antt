@@ -1,10 +1,10 @@
 -- The comment of an instruction: that part of format_code in listing.rs. Where the scope decides: an address is # and the function's number.
-use Prim.Native.Nat.{ℕ, _+_, _-_}
+use Prim.Native.Nat.{ℕ, _+_}
 use mathlib.Core.Bool.{Bool, false, cond, _||_}
 use mathlib.Core.List.{List, [], _∷_, _++_}
 use mathlib.Core.Option.{Option, none, some}
 use lib.Dec.{eqb, ltb}
-use Rattle.digits.specs.Digits.{decimal, number}
+use Rattle.digits.specs.Digits.{decimal}
 use Rattle.format.specs.Tree.{Constant, Parts, Functions, count}
 use Rattle.operands.specs.Operands.{formatConstant, formatConstantRaw, difference}
 use Rattle.proto.specs.Walk.{item, totalBefore}

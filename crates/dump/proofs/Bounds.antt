@@ -1,17 +1,16 @@
 -- How long a chunk is at most: 12 bytes, five for each word of its store, its text, and the chunk name.
 use Prim.Native.Nat.{ℕ, _+_, _-_, _*_, _/_, _≤_}
-use mathlib.Core.Path.{_≡_, refl, sym, ap, _∙_}
-use mathlib.Core.List.{List, [], _∷_, _++_, append-assoc}
+use mathlib.Core.Path.{_≡_, refl, _∙_}
+use mathlib.Core.List.{List, [], _∷_, _++_}
 use mathlib.Core.Bool.{Bool, true, false, cond}
 use native.Mathlib.Omega.{arith}
-use native.Mathlib.Nat.{add-assoc}
 use lib.ListN.{length, length-append}
 use lib.Dec.{leb}
 use borrow.Author.Tests.{leb-true}
 use Rattle.format.specs.Tree.{Constant, Source, Local, Debug, Parts, Function, Functions, count, filled, kept}
 use Rattle.format.specs.Read.{same}
-use Rattle.format.specs.Store.{Piece, plain, word, _⊕_, string, pieces, list, ints, sourcePiece, constantPiece, localPiece, debugPiece, packed, functionPiece, functionPieces, wordsOf, textOf}
-use Rattle.format.specs.Write.{dumpNumber, dumpInt, dumpSize, dumpString, dumpText, each, dumpList, dumpCode, dumpConstant, dumpConstants, dumpLocal, dumpDebug, elided, dumpFunction, dumpFunctions, dumpHeader, dumpChunk}
+use Rattle.format.specs.Store.{Piece, word, _⊕_, string, pieces, list, ints, sourcePiece, constantPiece, localPiece, debugPiece, packed, functionPiece, functionPieces, wordsOf, textOf}
+use Rattle.format.specs.Write.{dumpNumber, dumpInt, dumpString, dumpText, each, dumpList, dumpCode, dumpConstant, dumpConstants, dumpLocal, dumpDebug, elided, dumpFunction, dumpFunctions, dumpHeader, dumpChunk}
 use Rattle.format.proofs.RoundTrip.{same-is}
 use Rattle.proto.specs.Walk.{childrenPiece}
 use Rattle.proto.proofs.Pieces.{Same, same-sym, same-assoc}

@@ -2,7 +2,7 @@
 use Prim.Native.Nat.{ℕ, _+_, _*_, _≤_}
 use mathlib.Core.Path.{_≡_, refl, ap}
 use mathlib.Core.Option.{Option, none, some}
-use mathlib.Core.List.{List, [], _++_}
+use mathlib.Core.List.{List, []}
 use mathlib.Core.Bool.{Bool, cond}
 use native.Mathlib.Omega.{arith}
 use lib.ListN.{length}
@@ -14,7 +14,7 @@ use Rattle.format.specs.Valid.{depth, Valid, Holds}
 use Rattle.format.specs.Write.{dumpHeader, dumpFunction, dumpChunk}
 use Rattle.format.specs.Stored.{treeOf}
 use Rattle.format.specs.Undump.{nameOk}
-use Rattle.format.specs.Dump.{WriteLeft, writeRefused, written, dumpedBy, dumped}
+use Rattle.format.specs.Dump.{writeRefused, written, dumpedBy, dumped}
 use Rattle.proto.specs.Places.{onTree, onStore}
 use Rattle.proto.proofs.Calls.{root-stands}
 use Rattle.dump.specs.Step.{Reached, Dumps}

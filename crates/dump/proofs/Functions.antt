@@ -1,6 +1,6 @@
 -- Functions: their source, and their parts one behind the other.
 use Prim.Native.Nat.{ℕ, suc, _+_}
-use mathlib.Core.Path.{_≡_, refl, sym, _∙_}
+use mathlib.Core.Path.{_≡_, refl, sym}
 use mathlib.Core.List.{List, [], _∷_, _++_, append-assoc}
 use mathlib.Core.Bool.{Bool, true, false, cond}
 use native.Mathlib.Omega.{arith}
@@ -19,7 +19,7 @@ use Rattle.format.proofs.RoundTrip.{same-is}
 use Rattle.proto.specs.Walk.{Stands, Skips, children, childrenPiece}
 use Rattle.proto.proofs.Heres.{here-get}
 use Rattle.proto.proofs.Pieces.{Same, same-refl, same-is as same-pieces, stands-left, source-words}
-use Rattle.proto.proofs.Walks.{past-words, none-deep}
+use Rattle.proto.proofs.Walks.{past-words}
 use Rattle.proto.proofs.Stores.{children-count, children-list, every-valid}
 use Rattle.dump.specs.Step.{Reached, Dumps, constantsPiece, around}
 use Rattle.dump.proofs.Steps.{dumps-same, dumps-then, dumps-past, DumpsAll, counted}

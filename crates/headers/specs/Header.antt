@@ -1,5 +1,5 @@
 -- The header of a function in a listing: display_source and format_header of listing.rs, in its order.
-use Prim.Native.Nat.{ℕ, _+_, _*_, _/_, _%_}
+use Prim.Native.Nat.{ℕ, _*_, _/_, _%_}
 use Prim.Native.String.{String}
 use mathlib.Core.Bool.{cond}
 use mathlib.Core.List.{List, [], _∷_, _++_}

@@ -1,12 +1,11 @@
 -- The header: bytes that are there, or are not, or are others.
 use Prim.Native.Nat.{ℕ, _+_, _-_, _≤_, _<_}
-use mathlib.Core.Path.{_≡_, refl, sym}
-use mathlib.Core.List.{List, [], _∷_}
+use mathlib.Core.Path.{_≡_}
+use mathlib.Core.List.{List}
 use mathlib.Core.Bool.{Bool, true, false}
 use native.Mathlib.Omega.{arith}
 use lib.ListN.{length, take, drop, length-drop}
 use lib.Seq.{drop-drop}
-use borrow.Author.Tests.{eq-eqb}
 use Rattle.format.specs.Read.{loadExactly, same, signature, format, loadHeader}
 use Rattle.format.proofs.RoundTrip.{same-is}
 use Rattle.load.specs.declared.cursor.Cursor.{Cursor}

@@ -1,5 +1,4 @@
 use borrow.Author.Needs.{needs}
-use native.Mathlib.Omega.{arith}
 use Rattle.dump.proofs.Calls.{chunk-puts}
 use Rattle.dump.proofs.dump_chunk.Statement.{statement}
 use Rattle.dump.proofs.dump_chunk.Tie as tie

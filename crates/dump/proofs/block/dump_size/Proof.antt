@@ -1,5 +1,4 @@
 use borrow.Author.Needs.{needs}
-use native.Mathlib.Omega.{arith}
 use Rattle.lent.proofs.Writes.{put-then}
 use Rattle.dump.proofs.Blocks.{size-ints}
 use Rattle.dump.proofs.block.dump_size.Statement.{statement}

@@ -1,5 +1,4 @@
 use borrow.Author.Needs.{needs}
-use native.Mathlib.Omega.{arith}
 use Rattle.dump.proofs.Blocks.{string-puts}
 use Rattle.dump.proofs.block.put_string.Statement.{statement}
 use Rattle.dump.proofs.block.put_string.Tie as tie

@@ -1,5 +1,4 @@
 use borrow.Author.Needs.{needs}
-use native.Mathlib.Omega.{arith}
 use Rattle.dump.proofs.Functions.{source-dumped}
 use Rattle.dump.proofs.function.dump_source.Statement.{statement}
 use Rattle.dump.proofs.function.dump_source.Tie as tie

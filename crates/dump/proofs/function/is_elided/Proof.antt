@@ -1,5 +1,4 @@
 use borrow.Author.Needs.{needs}
-use native.Mathlib.Omega.{arith}
 use Rattle.dump.proofs.Functions.{elided-root, elided-inherited, elided-compared}
 use Rattle.dump.proofs.function.is_elided.Statement.{statement}
 use Rattle.dump.proofs.function.is_elided.Tie as tie

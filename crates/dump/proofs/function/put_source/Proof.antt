@@ -1,5 +1,4 @@
 use borrow.Author.Needs.{needs}
-use native.Mathlib.Omega.{arith}
 use Rattle.dump.proofs.Functions.{put-elided, put-own}
 use Rattle.dump.proofs.function.put_source.Statement.{statement}
 use Rattle.dump.proofs.function.put_source.Tie as tie

@@ -1,5 +1,4 @@
 use borrow.Author.Needs.{needs}
-use native.Mathlib.Omega.{arith}
 use Rattle.dump.proofs.Steps.{ints-dumped}
 use Rattle.dump.proofs.list.dump_code.Statement.{statement}
 use Rattle.dump.proofs.list.dump_code.Tie as tie

@@ -1,5 +1,4 @@
 use borrow.Author.Needs.{needs}
-use native.Mathlib.Omega.{arith}
 use Rattle.dump.proofs.Steps.{constant-dumped}
 use Rattle.dump.proofs.list.dump_constant.Statement.{statement}
 use Rattle.dump.proofs.list.dump_constant.Tie as tie

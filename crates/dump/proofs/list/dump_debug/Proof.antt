@@ -1,5 +1,4 @@
 use borrow.Author.Needs.{needs}
-use native.Mathlib.Omega.{arith}
 use Rattle.dump.proofs.Steps.{debug-stripped, debug-dumped}
 use Rattle.dump.proofs.list.dump_debug.Statement.{statement}
 use Rattle.dump.proofs.list.dump_debug.Tie as tie

@@ -1,5 +1,4 @@
 use borrow.Author.Needs.{needs}
-use native.Mathlib.Omega.{arith}
 use Rattle.dump.proofs.Steps.{local-dumped}
 use Rattle.dump.proofs.list.dump_local.Statement.{statement}
 use Rattle.dump.proofs.list.dump_local.Tie as tie

@@ -1,5 +1,4 @@
 use borrow.Author.Needs.{needs}
-use native.Mathlib.Omega.{arith}
 use Rattle.dump.proofs.Steps.{name-dumped}
 use Rattle.dump.proofs.list.dump_name.Statement.{statement}
 use Rattle.dump.proofs.list.dump_name.Tie as tie

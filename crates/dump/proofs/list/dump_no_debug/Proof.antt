@@ -1,5 +1,4 @@
 use borrow.Author.Needs.{needs}
-use native.Mathlib.Omega.{arith}
 use Rattle.dump.proofs.Steps.{no-debug}
 use Rattle.dump.proofs.list.dump_no_debug.Statement.{statement}
 use Rattle.dump.proofs.list.dump_no_debug.Tie as tie

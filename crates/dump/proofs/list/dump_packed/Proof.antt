@@ -1,5 +1,4 @@
 use borrow.Author.Needs.{needs}
-use native.Mathlib.Omega.{arith}
 use Rattle.dump.proofs.Steps.{packed-dumped}
 use Rattle.dump.proofs.list.dump_packed.Statement.{statement}
 use Rattle.dump.proofs.list.dump_packed.Tie as tie

@@ -1,5 +1,4 @@
 use borrow.Author.Needs.{needs}
-use native.Mathlib.Omega.{arith}
 use Rattle.dump.proofs.Steps.{word-dumped}
 use Rattle.dump.proofs.list.dump_word.Statement.{statement}
 use Rattle.dump.proofs.list.dump_word.Tie as tie

@@ -1,5 +1,4 @@
 use borrow.Author.Needs.{needs}
-use native.Mathlib.Omega.{arith}
 use Rattle.dump.proofs.Steps.{bool-puts, num-puts, str-puts}
 use Rattle.dump.proofs.list.put_constant.Statement.{statement}
 use Rattle.dump.proofs.list.put_constant.Tie as tie
