@@ -1,7 +1,5 @@
 //! This library's exported calls, through its archive.
 
-use std::time::Instant;
-
 #[repr(C)]
 #[derive(Debug, Clone, Copy, PartialEq)]
 pub struct Undumped {
@@ -41,6 +39,7 @@ unsafe extern "C" {
         out: *mut u8,
         out_len: usize,
     ) -> Written;
+
     fn lua_chunk_list_function(
         words: *const u32,
         words_len: usize,
@@ -111,20 +110,4 @@ pub fn store(chunk: &[u8], name: &[u8]) -> Result<(Vec<u32>, Vec<u8>), u32> {
     words.truncate(r.words);
     text.truncate(r.text);
     Ok((words, text))
-}
-
-/// The median time of 21 runs, in nanoseconds, after one that is not counted.
-pub fn median<T>(mut run: impl FnMut() -> T) -> f64 {
-    run();
-    let mut ns: Vec<u128> = (0..21)
-        .map(|_| {
-            let start = Instant::now();
-            let answer = run();
-            let ns = start.elapsed().as_nanos();
-            drop(answer);
-            ns
-        })
-        .collect();
-    ns.sort_unstable();
-    ns[10] as f64
 }

@@ -9,9 +9,9 @@ use std::time::Instant;
 
 use oracle::archive;
 use oracle::hexnum;
+use oracle::hexnum::listing::list_function;
 use oracle::requests::count;
 use oracle::vm::dump::dump;
-use oracle::vm::listing::list_function;
 use oracle::vm::proto::ProtoRef;
 use oracle::vm::undump::undump;
 
@@ -21,23 +21,22 @@ const NAME: &str = "=bench";
 struct Chunk {
     bytes: Vec<u8>,
     tree: ProtoRef,
-    /// The same with numbers that print as 16 digits.
+    /// The same with numbers that print as 16 digits, to list.
     hex: hexnum::proto::ProtoRef,
     words: Vec<u32>,
     text: Vec<u8>,
     out: Vec<u8>,
+    list: Vec<u8>,
 }
 
 impl Chunk {
     fn read(bytes: Vec<u8>) -> Chunk {
         let tree = undump(&bytes, NAME).unwrap();
         let hex = hexnum::undump::undump(&bytes, NAME).unwrap();
-        let (mut words, mut text) = (vec![0; bytes.len() + 64], vec![0; 3 * bytes.len() + 64]);
-        let u = archive::undump(&bytes, NAME.as_bytes(), &mut words, &mut text);
-        assert_eq!((u.refusal, u.read), (0, bytes.len()));
-        words.truncate(u.words);
-        text.truncate(u.text);
-        Chunk { out: vec![0; bytes.len()], bytes, tree, hex, words, text }
+        let (words, text) = archive::store(&bytes, NAME.as_bytes()).unwrap();
+        // an address is longer than the number that stands for it
+        let list = vec![0; list_function(&hex, true).len()];
+        Chunk { out: vec![0; bytes.len()], list, bytes, tree, hex, words, text }
     }
 
     fn undump(&mut self) -> usize {
@@ -46,6 +45,12 @@ impl Chunk {
 
     fn dump(&mut self, strip: bool) -> usize {
         let w = archive::dump(black_box(&self.words), &self.text, NAME.as_bytes(), strip, &mut self.out);
+        assert_eq!(w.refusal, 0);
+        w.len
+    }
+
+    fn list(&mut self, full: bool) -> usize {
+        let w = archive::list_function(black_box(&self.words), &self.text, NAME.as_bytes(), full, &mut self.list);
         assert_eq!(w.refusal, 0);
         w.len
     }
@@ -91,12 +96,6 @@ impl Bench {
         let ([a, b, c], [d, e, f]) = (sorted(here.split_off(1)), sorted(there.split_off(1)));
         println!("  {call:<11} ours {a:>8.3} {b:>8.3} {c:>8.3}   the Rust {d:>9.3} {e:>9.3} {f:>9.3}   ratio {:.2}", a / d);
     }
-
-    fn rust<T>(&mut self, call: &str, mut f: impl FnMut(&mut Chunk) -> T) {
-        let mut ns: Vec<f64> = (0..=self.runs).map(|_| self.time(&mut f)).collect();
-        let [a, b, c] = sorted(ns.split_off(1));
-        println!("  {call:<46} the Rust {a:>9.3} {b:>9.3} {c:>9.3}");
-    }
 }
 
 /// Least, middle and greatest.
@@ -127,8 +126,7 @@ fn main() {
             b.both(call, |c| c.dump(strip), |c| dump(black_box(&c.tree), None, strip).len());
         }
         for (call, full) in [("list plain", false), ("list full", true)] {
-            b.rust(call, |c| list_function(black_box(&c.tree), full).len());
-            b.rust(&format!("{call}, hex numbers"), |c| hexnum::listing::list_function(black_box(&c.hex), full).len());
+            b.both(call, |c| c.list(full), |c| list_function(black_box(&c.hex), full).len());
         }
     }
 }
