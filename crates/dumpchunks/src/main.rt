@@ -49,21 +49,22 @@ fn read(letter: &[u8], chunk: &[u8], name: &[u8], words: &mut [u32], text: &mut 
     u
 }
 
-// The tree of a chunk, read into the store with n words and m text bytes lent.
+// T, from its numbers on: the tree of a chunk, read into the store.
 fn tree(
-    chunk: &[u8],
+    cases: &[u8],
+    at: usize,
     name: &[u8],
     words: &mut [u32],
     text: &mut [u8],
-    n: usize,
-    m: usize,
     s: State,
 ) -> State {
-    let w = within(n, words.len());
-    let t = within(m, text.len());
+    let w = within(half(cases, at) as usize, words.len());
+    let t = within(half(cases, after(cases, at, 2)) as usize, text.len());
+    let n = half(cases, after(cases, at, 4)) as usize;
+    let chunk = part(cases, after(cases, at, 6), n);
     let u = read(b"T ", chunk, name, &mut words[0..w], &mut text[0..t]);
     State {
-        next: s.next,
+        next: after(cases, at, 6 + n),
         words: u.words,
         text: u.text,
         end: s.end,
@@ -78,6 +79,19 @@ fn put(words: &mut [u32], at: usize, w: u32) {
     }
 }
 
+// W, from its numbers on.
+fn changed(cases: &[u8], at: usize, words: &mut [u32], s: State) -> State {
+    let w = word(cases, after(cases, at, 2));
+    put(words, half(cases, at) as usize, w);
+    State {
+        next: after(cases, at, 6),
+        words: s.words,
+        text: s.text,
+        end: s.end,
+        read: s.read,
+    }
+}
+
 // The store dumped into the space lent, and its line. Answers how many bytes.
 fn write<'a>(words: &[u32], text: &'a [u8], name: &'a [u8], strip: bool, out: &mut [u8]) -> usize {
     let w = dump::dump(words, text, name, strip, out);
@@ -86,21 +100,23 @@ fn write<'a>(words: &[u32], text: &'a [u8], name: &'a [u8], strip: bool, out: &m
     w.len
 }
 
-// The same behind the dumps so far, with n bytes lent.
+// D, from its numbers on: the same behind the dumps so far.
 fn append<'a>(
+    cases: &[u8],
+    at: usize,
+    name: &'a [u8],
     words: &[u32],
     text: &'a [u8],
-    name: &'a [u8],
-    strip: bool,
     buffer: &mut [u8],
-    n: usize,
     s: State,
 ) -> State {
+    let strip = byte(cases, at) != 0;
+    let n = half(cases, after(cases, at, 1)) as usize;
     let from = within(s.end, buffer.len());
     let to = from + within(n, buffer.len() - from);
     let len = write(words, text, name, strip, &mut buffer[from..to]);
     State {
-        next: s.next,
+        next: after(cases, at, 3),
         words: s.words,
         text: s.text,
         end: after(buffer, from, len),
@@ -118,27 +134,18 @@ fn back(dumps: &[u8], name: &[u8], n: usize, m: usize) -> usize {
     u.read
 }
 
-// The next tree of the buffer, read back.
-fn next_back(buffer: &[u8], name: &[u8], n: usize, m: usize, s: State) -> State {
+// U, from its numbers on: the next tree of the buffer, read back.
+fn next_back(cases: &[u8], at: usize, name: &[u8], buffer: &[u8], s: State) -> State {
+    let n = half(cases, at) as usize;
+    let m = half(cases, after(cases, at, 2)) as usize;
     let from = after(buffer, s.read, 0);
     let read = back(&buffer[from..], name, n, m);
     State {
-        next: s.next,
+        next: after(cases, at, 4),
         words: s.words,
         text: s.text,
         end: s.end,
         read: after(buffer, from, read),
-    }
-}
-
-// The state, with the next case at a place.
-fn going(s: State, next: usize) -> State {
-    State {
-        next,
-        words: s.words,
-        text: s.text,
-        end: s.end,
-        read: s.read,
     }
 }
 
@@ -156,43 +163,13 @@ fn case_at(
     let name = part(cases, after(cases, at, 1), k);
     let rest = after(cases, at, 1 + k);
     match kind {
-        b'T' => {
-            let n = half(cases, rest) as usize;
-            let m = half(cases, after(cases, rest, 2)) as usize;
-            let l = half(cases, after(cases, rest, 4)) as usize;
-            let chunk = part(cases, after(cases, rest, 6), l);
-            going(
-                tree(chunk, name, words, text, n, m, s),
-                after(cases, rest, 6 + l),
-            )
-        }
-        b'W' => {
-            put(
-                words,
-                half(cases, at) as usize,
-                word(cases, after(cases, at, 2)),
-            );
-            going(s, after(cases, at, 6))
-        }
+        b'T' => tree(cases, rest, name, words, text, s),
+        b'W' => changed(cases, at, words, s),
         b'D' => {
-            let strip = byte(cases, rest) != 0;
-            let n = half(cases, after(cases, rest, 1)) as usize;
-            let r = append(
-                first(words, s.words),
-                part(text, 0, s.text),
-                name,
-                strip,
-                buffer,
-                n,
-                s,
-            );
-            going(r, after(cases, rest, 3))
+            let store = first(words, s.words);
+            append(cases, rest, name, store, part(text, 0, s.text), buffer, s)
         }
-        b'U' => {
-            let n = half(cases, rest) as usize;
-            let m = half(cases, after(cases, rest, 2)) as usize;
-            going(next_back(buffer, name, n, m, s), after(cases, rest, 4))
-        }
+        b'U' => next_back(cases, rest, name, buffer, s),
         _ => s,
     }
 }
