@@ -36,15 +36,19 @@ impl Chunk {
         let (words, text) = archive::store(&bytes, NAME.as_bytes()).unwrap();
         // an address is longer than the number that stands for it
         let list = vec![0; list_function(&hex, true).len()];
-        Chunk { out: vec![0; bytes.len()], list, bytes, tree, hex, words, text }
+        // room for any chunk of the store
+        let out = vec![0; 12 + 5 * words.len() + text.len() + NAME.len()];
+        Chunk { out, list, bytes, tree, hex, words, text }
     }
 
     fn undump(&mut self) -> usize {
         archive::undump(black_box(&self.bytes), NAME.as_bytes(), &mut self.words, &mut self.text).read
     }
 
-    fn dump(&mut self, strip: bool) -> usize {
-        let w = archive::dump(black_box(&self.words), &self.text, NAME.as_bytes(), strip, &mut self.out);
+    /// Into space with room for any chunk of the store, or as long as the chunk.
+    fn dump(&mut self, strip: bool, exact: bool) -> usize {
+        let len = if exact { self.bytes.len() } else { self.out.len() };
+        let w = archive::dump(black_box(&self.words), &self.text, NAME.as_bytes(), strip, &mut self.out[..len]);
         assert_eq!(w.refusal, 0);
         w.len
     }
@@ -116,14 +120,14 @@ fn main() {
         let bytes = chunks.iter().map(|c| c.bytes.len()).sum();
         let mut b = Bench { chunks, bytes, runs };
         if alone {
-            (0..runs).for_each(|_| _ = b.time(|c| c.dump(false)));
+            (0..runs).for_each(|_| _ = b.time(|c| c.dump(false, false)));
             continue;
         }
         let functions: usize = b.chunks.iter().map(|c| count(&c.tree)).sum();
         println!("{path}: {} chunks, {bytes} bytes, {functions} functions, {runs} runs, ns a byte", b.chunks.len());
         b.both("undump", Chunk::undump, |c| undump(black_box(&c.bytes), NAME));
-        for (call, strip) in [("dump", false), ("dump strip", true)] {
-            b.both(call, |c| c.dump(strip), |c| dump(black_box(&c.tree), None, strip).len());
+        for (call, strip, exact) in [("dump", false, false), ("dump strip", true, false), ("dump exact", false, true)] {
+            b.both(call, |c| c.dump(strip, exact), |c| dump(black_box(&c.tree), None, strip).len());
         }
         for (call, full) in [("list plain", false), ("list full", true)] {
             b.both(call, |c| c.list(full), |c| list_function(black_box(&c.hex), full).len());
