@@ -11,8 +11,9 @@ use Rattle.lent.proofs.Writes.{sets-suc, put-lost, put-part, put-none}
 use Rattle.format.specs.Read.{got, refused, loadInt, many, loadCount, loadList}
 use Rattle.format.specs.Store.{plain, word, ints}
 use Rattle.load.specs.declared.Load.{Load}
-use Rattle.load.specs.Step.{Step, fourAt, fours, space, Does, world, Loads}
-use Rattle.load.proofs.Bytes.{int-got, int-none}
+use Rattle.load_state.specs.ReadAt.{fourAt}
+use Rattle.load.specs.Step.{Step, fours, space, Does, world, Loads}
+use Rattle.load_state.proofs.Bytes.{int-got, int-none}
 use Rattle.load.proofs.Steps.{passed, takes, stops, bind}
 use Rattle.load.proofs.Stores.{join}
 

@@ -11,7 +11,7 @@ use Rattle.format.specs.Tree.{Constant as Value}
 use Rattle.format.specs.Read.{Reader, loadString, loadText, loadConstant}
 use Rattle.format.specs.Store.{Piece, word, string, constantPiece}
 use Rattle.format.specs.Stored.{part}
-use Rattle.load.specs.declared.cursor.Cursor.{Cursor}
+use Rattle.load_state.specs.declared.cursor.Cursor.{Cursor}
 use Rattle.load.specs.declared.cursor.Span.{Span}
 use Rattle.load.specs.declared.Load.{Load}
 use Rattle.load.specs.Step.{Step, Strings, Space, space, Does, world, moved, Loads, repairedName, repairedSourcePiece}

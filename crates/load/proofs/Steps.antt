@@ -1,14 +1,14 @@
 -- Steps of the reader, one after the other.
-use Prim.Native.Nat.{ℕ, _+_, _-_, _*_, _≤_, _<_}
-use mathlib.Core.Path.{_≡_, refl, sym, _∙_}
+use Prim.Native.Nat.{ℕ, _≤_, _<_}
+use mathlib.Core.Path.{_≡_, refl, _∙_}
 use mathlib.Core.List.{List}
 use native.Mathlib.Omega.{arith}
 use borrow.Author.Tests.{le-leb, lt-leb}
-use lib.ListN.{length, drop, getD}
-use Rattle.format.specs.Read.{Read, Reader, got, refused, andThen, _>>=_, return, loadByte, loadInt, loadSize, limit, countOf, loadCount}
-use Rattle.load.specs.declared.cursor.Cursor.{Cursor}
-use Rattle.load.specs.Step.{Stands, Step, fourAt}
-use Rattle.load.proofs.Bytes.{byte-got, byte-none, int-got, int-none, size-got, size-none}
+use lib.ListN.{drop}
+use Rattle.format.specs.Read.{Read, Reader, got, refused, andThen, _>>=_, return, loadInt, limit, countOf, loadCount}
+use Rattle.load_state.specs.declared.cursor.Cursor.{Cursor}
+use Rattle.load_state.specs.ReadAt.{Stands, ReadAt}
+use Rattle.load.specs.Step.{Step}
 
 module _ {A : Type 0} {bs : List ℕ} {R : Reader A} {P : A → Type 0} {s r : Cursor} where
   -- a refusal is passed on
@@ -52,26 +52,9 @@ mapped g k h = bind _ h (λ z. refl) (λ a p. done (g a) (k a p))
 pub stays-then : {a b c : ℕ} → (0 < a → b ≡ a) → (0 < b → c ≡ b) → 0 < a → c ≡ a
 stays-then h k z = k (omega (arith, h z)) ∙ h z
 
--- ---- bytes and numbers
-
-module _ {bs : List ℕ} {s r : Cursor} {v : ℕ} where
-  pub byte-taken : s .refusal ≤ 0 → s .next < length bs → v ≡ getD bs (s .next) 0 → r .refusal ≡ 0 → r .next ≡ s .next + 1 → Step bs loadByte (λ a. a ≡ v) s r
-  byte-taken z h e f g = takes z (byte-got bs (s .next) h) f (rw g) (sym e)
-
-  pub byte-missing : s .refusal ≤ 0 → length bs ≤ s .next → r .refusal ≡ 2 → Step bs loadByte (λ a. a ≡ v) s r
-  byte-missing z h e = stops z (byte-none bs (s .next) h) e (omega arith)
-
-  pub int-taken : s .refusal ≤ 0 → 4 ≤ length bs - s .next → v ≡ fourAt bs (s .next) → r .refusal ≡ 0 → r .next ≡ s .next + 4 → Step bs loadInt (λ a. a ≡ v) s r
-  int-taken z h e f g = takes z (int-got bs (s .next) h) f (rw g) (sym e)
-
-  pub int-missing : s .refusal ≤ 0 → length bs - s .next < 4 → r .refusal ≡ 2 → Step bs loadInt (λ a. a ≡ v) s r
-  int-missing z h e = stops z (int-none bs (s .next) h) e (omega arith)
-
-  pub size-taken : s .refusal ≤ 0 → 8 ≤ length bs - s .next → v ≡ fourAt bs (s .next) + 4294967296 * fourAt bs (s .next + 4) → r .refusal ≡ 0 → r .next ≡ s .next + 8 → Step bs loadSize (λ a. a ≡ v) s r
-  size-taken z h e f g = takes z (size-got bs (s .next) h) f (rw g) (sym e)
-
-  pub size-missing : s .refusal ≤ 0 → length bs - s .next < 8 → r .refusal ≡ 2 → Step bs loadSize (λ a. a ≡ v) s r
-  size-missing z h e = stops z (size-none bs (s .next) h) e (omega arith)
+-- what was read at the cursor's place
+pub reads : {bs : List ℕ} {R : Reader ℕ} {v : ℕ} {s r : Cursor} → s .refusal ≤ 0 → ReadAt bs R (s .next) v r → Step bs R (λ a. a ≡ v) s r
+reads z h = record { stays = λ y. absurd (omega arith); goes = λ y. h .stands }
 
 -- ---- a list's count
 

@@ -13,10 +13,10 @@ use Rattle.format.specs.Tree.{Source, filled}
 use Rattle.format.specs.Tree.{Constant as Value}
 use Rattle.format.specs.Read.{got, refused, loadByte, loadInt, loadSize, stringOf, loadText, constantOf, loadConstant}
 use Rattle.format.specs.Stored.{part}
-use Rattle.load.specs.declared.cursor.Cursor.{Cursor}
+use Rattle.load_state.specs.declared.cursor.Cursor.{Cursor}
 use Rattle.load.specs.declared.cursor.Span.{Span}
 use Rattle.load.specs.Step.{Step, spanned, NoString, Strings}
-use Rattle.load.proofs.Bytes.{byte-got, byte-none, block-got, block-none}
+use Rattle.load_state.proofs.Bytes.{byte-got, byte-none, block-got, block-none}
 use Rattle.load.proofs.Steps.{passed, takes, stops, bind, mapped, stays-then}
 
 pub string-got : (bs : List ℕ) (at n : ℕ) → n < length bs - at → stringOf (suc n) (drop at bs) ≡ got (Source.own (part bs at n)) (drop (at + suc n) bs)

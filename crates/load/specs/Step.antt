@@ -13,7 +13,8 @@ use Rattle.format.specs.Store.{Piece, string, sourcePiece}
 use Rattle.format.specs.Valid.{most}
 use Rattle.format.specs.Stored.{part}
 use Rattle.format.specs.Undump.{repairedSource}
-use Rattle.load.specs.declared.cursor.Cursor.{Cursor}
+use Rattle.load_state.specs.declared.cursor.Cursor.{Cursor}
+use Rattle.load_state.specs.ReadAt.{Stands, fourAt}
 use Rattle.load.specs.declared.cursor.Span.{Span}
 use Rattle.load.specs.declared.cursor.Constant.{Constant}
 use Rattle.load.specs.declared.cursor.Constant.the-variants.{Nil, Bool as Truth, Num, String}
@@ -21,20 +22,12 @@ use Rattle.load.specs.declared.Load.{Load}
 
 -- ---- reading
 
--- the cursor r stands where a reading that gives x ends, with P of its value
-abbrev pub Stands : {A : Type 0} → List ℕ → Read A → (A → Type 0) → Cursor → Type 0
-Stands bs (got a rest) P r = (r .refusal ≡ 0) × (rest ≡ drop (r .next) bs) × P a
-Stands bs (refused k) P r = (r .refusal ≡ k) × (0 < k)
-
 -- from the cursor s to r by the reader R, with P of what it gives; a refusal is passed on
 pub record Step {A : Type 0} (bs : List ℕ) (R : Reader A) (P : A → Type 0) (s r : Cursor) : Type 0 where
   pub stays : 0 < s .refusal → r .refusal ≡ s .refusal
   pub goes : s .refusal ≡ 0 → Stands bs (R (drop (s .next) bs)) P r
 
--- the number that four bytes from a place on stand for, low byte first; n such numbers, one after the other
-abbrev pub fourAt : List ℕ → ℕ → ℕ
-fourAt bs at = getD bs at 0 + 256 * (getD bs (at + 1) 0 + 256 * (getD bs (at + 2) 0 + 256 * getD bs (at + 3) 0))
-
+-- n numbers of four bytes each, one after the other
 unfoldable pub fours : List ℕ → ℕ → ℕ → List ℕ
 fours bs at zero = []
 fours bs at (suc n) = fourAt bs at ∷ fours bs (at + 4) n

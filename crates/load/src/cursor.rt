@@ -1,33 +1,16 @@
-// Reading numbers, strings and constants off a chunk. A place stands for the bytes from there on.
+// Numbers, strings and constants of a chunk, a refusal passed on: a cursor that holds one reads nothing.
+use load_state::cursor::Byte;
+use load_state::cursor::Cursor;
+use load_state::cursor::Int;
+use load_state::cursor::Size;
+use load_state::cursor::refused;
+use load_state::cursor::remaining;
+use load_state::read_byte;
+use load_state::read_int;
+use load_state::read_size;
 ghost use mathlib.Core.Path.{_≡_};
-ghost use Prim.Native.Nat.{_+_, _*_, _-_, _≤_};
-ghost use lib.ListN.{length};
 ghost use Rattle.format.specs.Read.{loadByte, loadInt, loadSize, loadCount, loadConstant};
-ghost use Rattle.load.specs.Step.{Step, fourAt, NoString, Strings, valueOf, Within};
-
-// Where reading stands: the refusal, 0 while there is none, and the place in the chunk.
-pub struct Cursor {
-    pub refusal: u32,
-    pub next: usize,
-}
-
-// A byte that was read, and the next cursor.
-pub struct Byte {
-    pub value: u8,
-    pub cursor: Cursor,
-}
-
-// A 4-byte integer.
-pub struct Int {
-    pub value: u32,
-    pub cursor: Cursor,
-}
-
-// The size of a string.
-pub struct Size {
-    pub value: u64,
-    pub cursor: Cursor,
-}
+ghost use Rattle.load.specs.Step.{Step, NoString, Strings, valueOf, Within};
 
 // Where a string stands in the chunk; own is false where there is none.
 pub struct Span {
@@ -51,53 +34,6 @@ pub struct Loaded {
     pub cursor: Cursor,
 }
 
-pub fn refused(n: u32) -> Cursor
-    ensures { λ r. ⌜ r .refusal ≡ n ⌝ }
-{
-    Cursor {
-        refusal: n,
-        next: 0,
-    }
-}
-
-// How many bytes stand from a place on.
-pub fn remaining(chunk: &[u8], at: usize) -> usize
-    ensures { λ r. ⌜ r ≡ length (now (chunk .entry)) - at ⌝ }
-{
-    if at < chunk.len() {
-        chunk.len() - at
-    } else {
-        0
-    }
-}
-
-fn wide(b: u8) -> u32
-    ensures { λ r. ⌜ r ≡ b ⌝ }
-{
-    b as u32
-}
-
-fn wider(w: u32) -> u64
-    ensures { λ r. ⌜ r ≡ w ⌝ }
-{
-    w as u64
-}
-
-// Four bytes as one number, the lowest first.
-pub fn joined(a: u8, b: u8, c: u8, d: u8) -> u32
-    ensures { λ r. ⌜ r ≡ a + 256 * (b + 256 * (c + 256 * d)) ⌝ }
-{
-    wide(a) + 256 * (wide(b) + 256 * (wide(c) + 256 * wide(d)))
-}
-
-// The number that four bytes from a place on stand for.
-pub(crate) fn four_at(chunk: &[u8], at: usize) -> u32
-    requires { ⌜ at + 4 ≤ length (now chunk) ⌝ }
-    ensures { λ r. ⌜ r ≡ fourAt (now (chunk .entry)) at ⌝ }
-{
-    joined(chunk[at], chunk[at + 1], chunk[at + 2], chunk[at + 3])
-}
-
 pub fn load_byte(chunk: &[u8], s: Cursor) -> Byte
     ensures { λ r. ⌜ Step (now (chunk .entry)) loadByte (λ a. a ≡ r .value) s (r .cursor) ⌝ }
 {
@@ -107,21 +43,7 @@ pub fn load_byte(chunk: &[u8], s: Cursor) -> Byte
             cursor: s,
         };
     }
-    let at = s.next;
-    if at < chunk.len() {
-        Byte {
-            value: chunk[at],
-            cursor: Cursor {
-                refusal: 0,
-                next: at + 1,
-            },
-        }
-    } else {
-        Byte {
-            value: 0,
-            cursor: refused(2),
-        }
-    }
+    read_byte(chunk, s.next)
 }
 
 pub fn load_int(chunk: &[u8], s: Cursor) -> Int
@@ -133,20 +55,7 @@ pub fn load_int(chunk: &[u8], s: Cursor) -> Int
             cursor: s,
         };
     }
-    let at = s.next;
-    if remaining(chunk, at) < 4 {
-        return Int {
-            value: 0,
-            cursor: refused(2),
-        };
-    }
-    Int {
-        value: four_at(chunk, at),
-        cursor: Cursor {
-            refusal: 0,
-            next: at + 4,
-        },
-    }
+    read_int(chunk, s.next)
 }
 
 pub fn load_size(chunk: &[u8], s: Cursor) -> Size
@@ -158,22 +67,7 @@ pub fn load_size(chunk: &[u8], s: Cursor) -> Size
             cursor: s,
         };
     }
-    let at = s.next;
-    if remaining(chunk, at) < 8 {
-        return Size {
-            value: 0,
-            cursor: refused(2),
-        };
-    }
-    let low = wider(four_at(chunk, at));
-    let high = wider(four_at(chunk, at + 4));
-    Size {
-        value: low + 4294967296 * high,
-        cursor: Cursor {
-            refusal: 0,
-            next: at + 8,
-        },
-    }
+    read_size(chunk, s.next)
 }
 
 // A list's count.

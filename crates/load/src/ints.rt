@@ -2,11 +2,11 @@
 use crate::Load;
 use crate::at;
 use crate::copy_count;
-use crate::cursor::Cursor;
-use crate::cursor::four_at;
-use crate::cursor::refused;
-use crate::cursor::remaining;
 use lent::least;
+use load_state::cursor::Cursor;
+use load_state::cursor::joined;
+use load_state::cursor::refused;
+use load_state::cursor::remaining;
 ghost use mathlib.Core.Path.{_≡_};
 ghost use mathlib.Core.List.{List};
 ghost use Prim.Native.Nat.{ℕ, _+_, _-_, _*_, _≤_};
@@ -24,7 +24,8 @@ fn fill(chunk: &[u8], from: usize, n: usize, words: &mut [u32], at: usize)
 {
     let mut i: usize = 0;
     while i < n {
-        words[at + i] = four_at(chunk, from + 4 * i);
+        let j = from + 4 * i;
+        words[at + i] = joined(chunk[j], chunk[j + 1], chunk[j + 2], chunk[j + 3]);
         i += 1;
     }
 }

@@ -2,10 +2,10 @@
 pub mod cursor;
 pub mod ints;
 
-use cursor::Cursor;
 use cursor::load_count;
 use cursor::load_int;
 use cursor::load_string;
+use load_state::cursor::Cursor;
 ghost use mathlib.Core.Path.{_≡_};
 ghost use mathlib.Core.List.{List};
 ghost use Prim.Native.Nat.{ℕ, _-_, _<_};

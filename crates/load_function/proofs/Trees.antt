@@ -7,7 +7,7 @@ use Rattle.format.specs.Tree.{count}
 use Rattle.format.specs.Read.{loadByte, loadInt, loadString, loadText, loadList, loadLocal, loadCount, loadConstant, manyFunctions, loadCode, loadConstants, loadDebug, loadFunction}
 use Rattle.format.specs.Store.{word, list, ints, constantPiece, functionPiece, functionPieces}
 use Rattle.format.specs.Undump.{repaired, repairedAll}
-use Rattle.load.specs.declared.cursor.Cursor.{Cursor}
+use Rattle.load_state.specs.declared.cursor.Cursor.{Cursor}
 use Rattle.load.specs.declared.Load.{Load}
 use Rattle.load.specs.Step.{Step, space, Does, World, spaceOf, moved, Loads, repairedSourcePiece}
 use Rattle.load_function.specs.Repaired.{functionsPiece, repairedLocals, repairedNames, repairedDebugPiece, repairedConstants, repairedFunction}

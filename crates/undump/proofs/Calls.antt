@@ -13,9 +13,10 @@ use Rattle.format.specs.Read.{Read, got, refused, loadHeader, loadFunction}
 use Rattle.format.specs.Store.{functionPiece, wordsOf, textOf}
 use Rattle.format.specs.Valid.{depth, most}
 use Rattle.format.specs.Undump.{repaired, loadChunk, undumpRefused, nameOk, over, undumpedBy, undumped}
-use Rattle.load.specs.declared.cursor.Cursor.{Cursor}
+use Rattle.load_state.specs.declared.cursor.Cursor.{Cursor}
 use Rattle.load.specs.declared.Load.{Load}
-use Rattle.load.specs.Step.{Stands, Step, space, Does, world, Loads}
+use Rattle.load_state.specs.ReadAt.{Stands}
+use Rattle.load.specs.Step.{Step, space, Does, world, Loads}
 use Rattle.load_function.specs.Repaired.{repairedFunction}
 use Rattle.undump.specs.Undump.{beginning}
 use Rattle.load.proofs.Steps.{bind, mapped}

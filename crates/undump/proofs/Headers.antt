@@ -8,9 +8,9 @@ use lib.ListN.{length, take, drop, length-drop}
 use lib.Seq.{drop-drop}
 use Rattle.format.specs.Read.{loadExactly, same, signature, format, loadHeader}
 use Rattle.format.proofs.RoundTrip.{same-is}
-use Rattle.load.specs.declared.cursor.Cursor.{Cursor}
+use Rattle.load_state.specs.declared.cursor.Cursor.{Cursor}
 use Rattle.load.specs.Step.{Step}
-use Rattle.load.proofs.Bytes.{block-got, block-none}
+use Rattle.load_state.proofs.Bytes.{block-got, block-none}
 use Rattle.load.proofs.Steps.{takes, stops, bind}
 
 module _ (bs bytes : List ℕ) (n : ℕ) (s r : Cursor) (z : s .refusal ≤ 0) where

@@ -3,7 +3,7 @@ use Prim.Native.Nat.{ℕ}
 use mathlib.Core.List.{List}
 use Rattle.format.specs.Undump.{UndumpLeft}
 use Rattle.format.specs.declared.Undumped.{Undumped}
-use Rattle.load.specs.declared.cursor.Cursor.{Cursor}
+use Rattle.load_state.specs.declared.cursor.Cursor.{Cursor}
 
 -- the first byte of the chunk
 abbrev pub beginning : Cursor

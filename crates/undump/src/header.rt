@@ -1,7 +1,7 @@
 // The header of a chunk.
-use load::cursor::Cursor;
-use load::cursor::refused;
-use load::cursor::remaining;
+use load_state::cursor::Cursor;
+use load_state::cursor::refused;
+use load_state::cursor::remaining;
 ghost use Prim.Native.Nat.{_<_};
 ghost use lib.ListN.{length};
 ghost use Rattle.format.specs.Read.{loadExactly, loadHeader};

@@ -22,9 +22,9 @@ use Rattle.load_function.proofs.+load_constants+load_function.Lts-load_
 use Rattle.load_function.proofs.load_function.Reads as load-function
 use Rattle.load_function.proofs.load_function.Kinds as load-function-kinds
 use Rattle.load_function.proofs.+load_constants+load_function.Lts-load_function as load-function-lts
-use Rattle.load.proofs.cursor.joined.Reads as joined-reads
+use Rattle.load_state.proofs.cursor.joined.Reads as joined-reads
 use Rattle.load.proofs.cursor.load_byte.Reads as load-byte-reads
-use Rattle.load.proofs.cursor.refused.Reads as refused-reads
+use Rattle.load_state.proofs.cursor.refused.Reads as refused-reads
 use Rattle.load_function.proofs.load_code.Reads as load-code-reads
 use Rattle.load_function.proofs.load_debug.Reads as load-debug-reads
 use Rattle.load_function.proofs.list.load_pool.Reads as load-pool-reads

@@ -1,4 +1,5 @@
 -- i integers are stored so far; each turn stores the next.
+use borrow.Author.Needs.{needs}
 use native.Mathlib.Omega.{arith}
 use Prim.Native.Nat.{_-_, _≤_}
 use mathlib.Core.Path.{_≡_, refl}
@@ -19,14 +20,35 @@ loop-holds : tie.Need-loop-holds Inv-loop μ-loop
 unfolding fours
 loop-holds c = (omega arith, refl, refl)
 
-mul-four-at : tie.Need-mul-four-at Inv-loop μ-loop
-mul-four-at c = omega arith
+mul-j : tie.Need-mul-j Inv-loop μ-loop
+mul-j c = omega arith
 
-add-four-at : tie.Need-add-four-at Inv-loop μ-loop
-add-four-at c = omega arith
+add-j : tie.Need-add-j Inv-loop μ-loop
+add-j c = omega arith
 
-four-at-requires : tie.Need-four-at-requires Inv-loop μ-loop
-four-at-requires c κs = omega arith
+shared-slice-read-joined : tie.Need-shared-slice-read-joined Inv-loop μ-loop
+shared-slice-read-joined c = omega arith
+
+add-joined : tie.Need-add-joined Inv-loop μ-loop
+add-joined c = omega arith
+
+shared-slice-read-joined-2 : tie.Need-shared-slice-read-joined-2 Inv-loop μ-loop
+shared-slice-read-joined-2 c = omega arith
+
+add-joined-2 : tie.Need-add-joined-2 Inv-loop μ-loop
+add-joined-2 c = omega arith
+
+shared-slice-read-joined-3 : tie.Need-shared-slice-read-joined-3 Inv-loop μ-loop
+shared-slice-read-joined-3 c = omega arith
+
+add-joined-3 : tie.Need-add-joined-3 Inv-loop μ-loop
+add-joined-3 c = omega arith
+
+shared-slice-read-joined-4 : tie.Need-shared-slice-read-joined-4 Inv-loop μ-loop
+shared-slice-read-joined-4 c = omega arith
+
+joined-requires : tie.Need-joined-requires Inv-loop μ-loop
+joined-requires c κs = search needs
 
 add-words : tie.Need-add-words Inv-loop μ-loop
 add-words c = omega arith
@@ -45,9 +67,9 @@ loop-less c = omega arith
 
 loop-again : tie.Need-loop-again Inv-loop μ-loop
 loop-again c =
-    let c₁ = c .before .before in
+    let c₁ = c .before .before .before .before .before .before in
     let c₂ = c₁ .before .before .before in
-    (omega arith, simp length-set (c₁ .loop .inv .1), fill-more (c₂ .args .chunk .now) (c₂ .args .words .now) (c₂ .args .from) (c₂ .args .at) (c₁ .loop .i) (c .four-at .ensures) (c₁ .loop .inv .2))
+    (omega arith, simp length-set (c₁ .loop .inv .1), fill-more (c₂ .args .chunk .now) (c₂ .args .words .now) (c₂ .args .from) (c₂ .args .at) (c₁ .loop .i) (c .joined .ensures) (c₁ .loop .inv .2))
 
 same-length : tie.Need-same-length Inv-loop μ-loop
 same-length c = c .before .loop .inv .1
@@ -64,9 +86,16 @@ fill-spec =
     Inv-loop
     μ-loop
     loop-holds
-    mul-four-at
-    add-four-at
-    four-at-requires
+    mul-j
+    add-j
+    shared-slice-read-joined
+    add-joined
+    shared-slice-read-joined-2
+    add-joined-2
+    shared-slice-read-joined-3
+    add-joined-3
+    shared-slice-read-joined-4
+    joined-requires
     add-words
     mul-words
     slice-write-words
