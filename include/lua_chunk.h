@@ -1,0 +1,250 @@
+/*
+ * lua_chunk.h: Lua 5.1 chunks between bytes, trees and listings.
+ *
+ * The calls of the proved library Maegriv for C and C++, on Linux x86-64. `rt staticlib chunk` writes the archive
+ * target/staticlib/libchunk.a; link it, nothing else is needed:
+ *
+ *     cc -Iinclude tool.c target/staticlib/libchunk.a
+ *
+ * A chunk is what luac writes: bytes. lua_chunk_undump reads one into a store, which is a run of words and a run of text bytes in
+ * memory that you lend. Every other call takes such a store.
+ *
+ *     uint32_t words[1000];
+ *     uint8_t text[1000], out[20000];
+ *     lua_chunk_Undumped tree = lua_chunk_undump(chunk, chunk_len, name, name_len, words, 1000, text, 1000);
+ *     if (tree.refusal == LUA_CHUNK_OK) {
+ *         lua_chunk_Written listing = lua_chunk_list_function(words, tree.words, text, tree.text, name, name_len, false, out, 20000);
+ *         if (listing.refusal == LUA_CHUNK_OK)
+ *             fwrite(out, 1, listing.len, stdout);
+ *     }
+ *
+ * examples/servicetool.c is a whole program, for chunks of any size.
+ *
+ *
+ * WHAT HOLDS OF EVERY CALL
+ *
+ * Answers. `refusal` is 0, or the number of a refusal; then every other number of the answer is 0, and all memory lent is as it was.
+ * A call that can be refused for several reasons gives the first in the order that stands with it.
+ *
+ * Writing. What is written begins at the first element of the memory lent; what stands behind it keeps its contents. What stood there
+ * before makes no difference to the answer. Nothing is ended by a zero byte: lengths are in the answer. Bytes written can be zero.
+ *
+ * Memory. A call allocates nothing, keeps no pointer and no state, and waits for nothing. So calls may run at once in any number of
+ * threads, as long as nobody else writes what a call reads, or touches what it writes, before it returns. 256 KB of stack are enough
+ * for any call (measured: 178 KB at most, by getobjname 200 functions deep over a chain of 255 MOVEs; reading and writing take 70 KB).
+ *
+ * What the caller owes. A run is a pointer and a count of elements, a size in bytes for bytes, and:
+ *   - the pointer is not null and is aligned for its type (4 bytes for words), also where the count is 0;
+ *   - all the elements belong to one object, whose size is at most PTRDIFF_MAX bytes (malloc gives no other);
+ *   - what is lent for writing (no const) overlaps nothing else that the same call is lent. Runs that are only read may overlap.
+ * Nothing else is asked: every content of every run, and every number, has a defined answer.
+ *
+ * Time. Every call but lua_chunk_undump first checks the whole store (refusal 10).
+ *
+ *
+ * CHUNK NAMES
+ *
+ * A chunk can leave out its root function's source. The chunk name then stands for it: valid UTF-8, at most LUA_CHUNK_MOST bytes, empty
+ * too. Lua's custom is @FILE for a file and =TEXT for other things. The store keeps such a source as inherited and does not hold the
+ * name, so that each call that needs sources is given one.
+ *
+ *
+ * THE STORE
+ *
+ * A store is handed over at exactly its used length: tree.words words and tree.text bytes, as undump answered, and not all the space
+ * that was lent. A function is named by its place, the index of its first word; the root's is 0. In order, a function has
+ *
+ *     source              3 words: 1, place in text, length; or 0, 0, 0 where it is the source around it (for the root, the chunk name)
+ *     line_defined        1 word
+ *     last_line_defined   1 word
+ *     num_upvalues, num_params, is_vararg, max_stack_size     1 word, 8 bits each, the first in the most significant
+ *     code                a count, then 1 word for each instruction
+ *     constants           a count, then 3 words for each: 0, 0, 0 nil; 1, 0 or 1, 0 a boolean; 3, high half, low half a number, by
+ *                         the bits of the double; 4, place in text, length a string
+ *     child functions     a count, then the functions, each in this form
+ *     lines               a count, then 1 word for each
+ *     locals              a count, then 4 words for each: place in text, length, start pc, end pc
+ *     upvalue names       a count, then 2 words for each: place in text, length
+ *
+ * Strings stand in the text in this order, without gap or overlap. A store is well formed where it is exactly this, with sources, local
+ * and upvalue names in UTF-8, and within the limits below. What undump leaves is well formed; anything else is refused by 10.
+ */
+#ifndef LUA_CHUNK_H
+#define LUA_CHUNK_H
+
+#include <stdbool.h>
+#include <stddef.h>
+#include <stdint.h>
+
+#ifdef __cplusplus
+extern "C" {
+#endif
+
+/* The limits: words of a store, text bytes of a store, bytes of a chunk name; items of a list; functions nested, the root being 1. */
+#define LUA_CHUNK_MOST 16777216
+#define LUA_CHUNK_LIST_MOST 65535
+#define LUA_CHUNK_DEPTH_MOST 200
+
+/* Refusals. */
+enum lua_chunk_refusal {
+    LUA_CHUNK_OK = 0,            /* not refused */
+    LUA_CHUNK_BAD_NAME = 1,      /* the chunk name is not UTF-8, or above LUA_CHUNK_MOST bytes */
+    LUA_CHUNK_TRUNCATED = 2,     /* the chunk ends too early */
+    LUA_CHUNK_NOT_A_CHUNK = 3,   /* the first 4 bytes are not 1B 4C 75 61 */
+    LUA_CHUNK_INCOMPATIBLE = 4,  /* the next 8 are not 51 00 01 04 08 04 08 00 */
+    LUA_CHUNK_BAD_CONSTANT = 5,  /* a constant's tag is not 0, 1, 3 or 4 */
+    LUA_CHUNK_BAD_COUNT = 6,     /* a list's count is negative or above LUA_CHUNK_LIST_MOST */
+    LUA_CHUNK_TOO_DEEP = 7,      /* a function begins that is 201 deep */
+    LUA_CHUNK_FEW_WORDS = 8,     /* the tree needs more words than are lent, or than LUA_CHUNK_MOST */
+    LUA_CHUNK_LITTLE_TEXT = 9,   /* the same for text bytes */
+    LUA_CHUNK_BAD_STORE = 10,    /* the store is not well formed */
+    LUA_CHUNK_LITTLE_OUTPUT = 11, /* the output is longer than the space lent */
+    LUA_CHUNK_NO_FUNCTION = 12,  /* no function begins at this place */
+    LUA_CHUNK_BAD_PC = 13,       /* the pc is above the length of the code */
+    LUA_CHUNK_BAD_REGISTER = 14  /* the register is above 255 */
+};
+
+/* What a name is of. */
+enum lua_chunk_kind {
+    LUA_CHUNK_NONE = 0, /* no name is known */
+    LUA_CHUNK_LOCAL = 1,
+    LUA_CHUNK_GLOBAL = 2,
+    LUA_CHUNK_FIELD = 3,
+    LUA_CHUNK_UPVALUE = 4,
+    LUA_CHUNK_METHOD = 5
+};
+
+/* The words and the text bytes that a tree takes, and the bytes of the chunk that were read. */
+typedef struct lua_chunk_Undumped {
+    uint32_t refusal;
+    size_t words;
+    size_t text;
+    size_t read;
+} lua_chunk_Undumped;
+
+/* The bytes that were written. */
+typedef struct lua_chunk_Written {
+    uint32_t refusal;
+    size_t len;
+} lua_chunk_Written;
+
+/* An instruction. */
+typedef struct lua_chunk_SymbExec {
+    uint32_t refusal;
+    uint32_t instruction;
+} lua_chunk_SymbExec;
+
+/* What a name is of, an enum lua_chunk_kind, and how many bytes it has. */
+typedef struct lua_chunk_Named {
+    uint32_t refusal;
+    uint32_t kind;
+    size_t len;
+} lua_chunk_Named;
+
+/* Where a source stands: bytes start to end - 1 of the text where in_text is 1, of the chunk name where it is 0. */
+typedef struct lua_chunk_SourceAt {
+    uint32_t refusal;
+    uint32_t in_text;
+    size_t start;
+    size_t end;
+} lua_chunk_SourceAt;
+
+/*
+ * Reads the chunk that begins at the first byte of chunk into words and text. Answers the words and text bytes used, and the bytes read:
+ * the header's and the root function's, children included. Bytes behind those are ignored; where chunks stand end to end, the next
+ * begins at chunk + read.
+ *
+ * Sources, local and upvalue names are repaired: each maximal ill-formed part of their UTF-8 becomes EF BF BD. String constants stay as
+ * they are. The name is only tested: see CHUNK NAMES.
+ *
+ * Refused by 1; then 2 to 7, whichever reading meets first; then, the chunk being read to its end, 8; 9.
+ *
+ * Space. After 8 or 9, call again with more words or text, unless LUA_CHUNK_MOST were lent: then the tree is above the limit. Three words
+ * and three text bytes for each byte of the chunk, and no more than LUA_CHUNK_MOST of either, are always enough for a tree within the
+ * limits (a constant nil is one byte and takes three words; an ill-formed byte is repaired to three). A chunk made by luac takes about
+ * one word for each four bytes, and less text than it has bytes.
+ */
+lua_chunk_Undumped lua_chunk_undump(const uint8_t *chunk, size_t chunk_len, const uint8_t *name, size_t name_len, uint32_t *words,
+                                    size_t words_len, uint8_t *text, size_t text_len);
+
+/*
+ * Writes the chunk of a store to out. With strip, lines, locals and upvalue names are left out, and sources kept. A source equal to the
+ * one around it is left out, that of the root where it is empty; an inherited root source is written as the name, unless that is empty.
+ *
+ * Refused by 1, 10, 11.
+ *
+ * Space. LUA_CHUNK_DUMP_MOST bytes are always enough (proved), and with that much lent the call is faster: with less, it counts first.
+ */
+#define LUA_CHUNK_DUMP_MOST(words_len, text_len, name_len) \
+    ((size_t)12 + (size_t)5 * (words_len) + (size_t)(text_len) + (size_t)(name_len))
+
+lua_chunk_Written lua_chunk_dump(const uint32_t *words, size_t words_len, const uint8_t *text, size_t text_len, const uint8_t *name,
+                                 size_t name_len, bool strip, uint8_t *out, size_t out_len);
+
+/*
+ * Writes the listing of all the functions of a store to out, as luac -l does, or with full as luac -l -l does, with # and the function's
+ * number in preorder, from 1, for an address, and 0x and 16 digits of its bits for a number constant.
+ *
+ * Refused by 1, 10, 11.
+ *
+ * Space. After 11, call again with more. There is no useful bound: a constant's text is repeated for each instruction that names it.
+ */
+lua_chunk_Written lua_chunk_list_function(const uint32_t *words, size_t words_len, const uint8_t *text, size_t text_len,
+                                          const uint8_t *name, size_t name_len, bool full, uint8_t *out, size_t out_len);
+
+/*
+ * The last instruction before lastpc that wrote register reg of the function at place. Where there is none, the function's last
+ * instruction; 0 where it has no code. For register 255 no jump is followed.
+ *
+ * Refused by 10, 12, 13, 14. A lastpc equal to the length of the code is admitted.
+ */
+lua_chunk_SymbExec lua_chunk_symbexec(const uint32_t *words, size_t words_len, const uint8_t *text, size_t text_len, size_t place,
+                                      size_t lastpc, uint32_t reg);
+
+/*
+ * The name of local number local_number, from 1, of those active at pc, in the function at place. Kind LUA_CHUNK_LOCAL and the name's
+ * bytes in out, which can be none at all; or LUA_CHUNK_NONE, and nothing is written: number 0, and any above the active locals. The
+ * search ends at the first local that starts beyond pc.
+ *
+ * Refused by 10, 12, 11. Any pc is admitted; its low 32 bits count.
+ *
+ * Space. text_len bytes are always enough.
+ */
+lua_chunk_Named lua_chunk_get_local_name(const uint32_t *words, size_t words_len, const uint8_t *text, size_t text_len, size_t place,
+                                         size_t local_number, size_t pc, uint8_t *out, size_t out_len);
+
+/*
+ * The name that operand c (an RK: a register, or with bit 8 the constant of the number without that bit) gives in the function at place,
+ * in out: a string constant's bytes, repaired; ? for anything else. Any c is admitted.
+ *
+ * Refused by 10, 12, 11.
+ *
+ * Space. 3 * text_len + 1 bytes are always enough.
+ */
+lua_chunk_Written lua_chunk_kname(const uint32_t *words, size_t words_len, const uint8_t *text, size_t text_len, size_t place, uint32_t c,
+                                  uint8_t *out, size_t out_len);
+
+/*
+ * What register stackpos of the function at place holds at pc: its kind, and the name's bytes in out; or LUA_CHUNK_NONE, and nothing is
+ * written. This is what Lua puts in "attempt to call global 'f'".
+ *
+ * Refused by 10, 12, 13, 14, 11. A pc equal to the length of the code is admitted.
+ *
+ * Space. 3 * text_len + 1 bytes are always enough.
+ */
+lua_chunk_Named lua_chunk_getobjname(const uint32_t *words, size_t words_len, const uint8_t *text, size_t text_len, size_t place,
+                                     size_t pc, uint32_t stackpos, uint8_t *out, size_t out_len);
+
+/*
+ * Where the source of the function at place stands, an inherited one included: in the text, or in the chunk name.
+ *
+ * Refused by 1, 10, 12.
+ */
+lua_chunk_SourceAt lua_chunk_source_at(const uint32_t *words, size_t words_len, const uint8_t *text, size_t text_len,
+                                       const uint8_t *name, size_t name_len, size_t place);
+
+#ifdef __cplusplus
+}
+#endif
+
+#endif
