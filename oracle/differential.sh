@@ -12,7 +12,8 @@ cargo build -q --release --offline --features chunk
 bin=target/release
 find "$corpus/c" "$corpus/s" -name '*.luac' | LC_ALL=C sort > "$work/all"
 find "$corpus/c" -name '*.luac' -size -12k | LC_ALL=C sort > "$work/small"
-echo "undump:"
+echo "undump, source_at:"
+"$bin/compare" exhaustive
 xargs -a "$work/small" "$bin/compare" 60
 echo "dump:"
 xargs -a "$work/small" "$bin/compare_dump" 20

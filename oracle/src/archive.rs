@@ -16,7 +16,25 @@ pub struct Written {
     pub len: usize,
 }
 
+#[repr(C)]
+#[derive(Debug, Clone, Copy, PartialEq)]
+pub struct SourceAt {
+    pub refusal: u32,
+    pub in_text: u32,
+    pub start: usize,
+    pub end: usize,
+}
+
 unsafe extern "C" {
+    fn lua_chunk_source_at(
+        words: *const u32,
+        words_len: usize,
+        text: *const u8,
+        text_len: usize,
+        name: *const u8,
+        name_len: usize,
+        place: usize,
+    ) -> SourceAt;
     fn lua_chunk_undump(
         chunk: *const u8,
         chunk_len: usize,
@@ -64,6 +82,20 @@ pub fn undump(chunk: &[u8], name: &[u8], words: &mut [u32], text: &mut [u8]) -> 
             words.len(),
             text.as_mut_ptr(),
             text.len(),
+        )
+    }
+}
+
+pub fn source_at(words: &[u32], text: &[u8], name: &[u8], place: usize) -> SourceAt {
+    unsafe {
+        lua_chunk_source_at(
+            words.as_ptr(),
+            words.len(),
+            text.as_ptr(),
+            text.len(),
+            name.as_ptr(),
+            name.len(),
+            place,
         )
     }
 }

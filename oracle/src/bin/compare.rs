@@ -1,9 +1,11 @@
 //! Compares this library's calls with the Rust's, through the exported functions.
 //!
 //!     compare N CHUNK..        each chunk, and N damaged copies of it
+//!     compare exhaustive       all chunks of at most three bytes, and the sample with each byte replaced by each other
 //!
 //! undump: the refusal or the whole tree with sources filled in, the bytes read (the shortest prefix that the Rust accepts), that
 //! space beyond the used part and all space on a refusal is untouched, exact space, and one word and one byte too little.
+//! source_at: the source of every function of a chunk that is not large, and its refusals.
 //! A chunk that is refused by 6 or more lies outside the domain of comparison and is only counted.
 
 use std::panic::{AssertUnwindSafe, catch_unwind};
@@ -63,8 +65,23 @@ impl<'a> Walk<'a> {
         assert_eq!([self.word(), self.word(), self.word()], words);
     }
 
+    /// source_at finds this source for the function at a place, and no function one place on. Each call looks at the whole store.
+    fn source(&self, place: usize, source: &[u8]) {
+        if self.words.len() > 2000 {
+            return;
+        }
+        let r = archive::source_at(self.words, self.text, NAME.as_bytes(), place);
+        assert_eq!(r.refusal, 0);
+        let from = if r.in_text == 1 { self.text } else { NAME.as_bytes() };
+        assert_eq!(&from[r.start..r.end], source);
+        assert_eq!(archive::source_at(self.words, self.text, NAME.as_bytes(), place + 1).refusal, 12);
+        assert_eq!(archive::source_at(self.words, self.text, b"\xff", place).refusal, 1);
+        assert_eq!(archive::source_at(&self.words[1..], self.text, NAME.as_bytes(), place).refusal, 10);
+    }
+
     /// The function that stands here is p, outer being the source that an inherited one stands for.
     fn function(&mut self, p: &Proto, outer: &str) {
+        let place = self.at;
         let source = match self.word() {
             1 => self.string(),
             own => {
@@ -73,6 +90,7 @@ impl<'a> Walk<'a> {
             }
         };
         assert_eq!(source, p.source.as_bytes());
+        self.source(place, source);
         assert_eq!([self.word(), self.word()], [p.line_defined, p.last_line_defined]);
         assert_eq!(self.word().to_be_bytes(), [p.num_upvalues, p.num_params, p.is_vararg, p.max_stack_size]);
         self.list(p.code.len());
@@ -186,11 +204,37 @@ fn compare(chunk: &[u8], counts: &mut Counts) {
     }
 }
 
+/// All chunks of at most three bytes; the sample cut at each place, and with each of its bytes replaced by each other.
+fn exhaustive(counts: &mut Counts) {
+    compare(&[], counts);
+    for a in 0..=255 {
+        compare(&[a], counts);
+        for b in 0..=255 {
+            compare(&[a, b], counts);
+            (0..=255).for_each(|c| compare(&[a, b, c], counts));
+        }
+    }
+    let sample = include_bytes!("../../sample.luac");
+    for i in 0..sample.len() {
+        compare(&sample[..i], counts);
+        for b in 0..=255 {
+            let mut chunk = sample.to_vec();
+            chunk[i] = b;
+            compare(&chunk, counts);
+        }
+    }
+}
+
 fn main() {
     let args: Vec<String> = std::env::args().skip(1).collect();
     std::panic::set_hook(Box::new(|_| {}));
-    let copies: usize = args[0].parse().expect("compare N CHUNK..");
     let (mut counts, mut random) = (Counts::default(), Random(7));
+    let copies: usize = if args[0] == "exhaustive" {
+        exhaustive(&mut counts);
+        0
+    } else {
+        args[0].parse().expect("compare N CHUNK.. | compare exhaustive")
+    };
     for path in &args[1..] {
         let chunk = std::fs::read(path).unwrap();
         compare(&chunk, &mut counts);
