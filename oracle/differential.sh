@@ -1,12 +1,12 @@
 #!/usr/bin/env bash
-# differential.sh CORPUS: compares every call with the Rust over the chunks that corpus.sh made, damaged copies of them, made-up trees and
-# trees at the limits. Prints the number of cases for each call, and fails on a difference.
+# differential.sh CORPUS: compares every call with the Rust over the chunks that corpus.sh made, damaged copies of them, made-up trees,
+# trees at the limits and all chunks of at most three bytes, and the listings with luac's own. Prints the number of cases for each call, and fails on a difference.
 set -eu
 here=$(cd "$(dirname "$0")" && pwd)
 corpus=$(cd "$1" && pwd)
 work=$(mktemp -d)
 trap 'rm -rf "$work"' EXIT
-(cd "$here/.." && rt check names > /dev/null && rt staticlib chunk > /dev/null)
+(cd "$here/.." && rt staticlib chunk > /dev/null 2>&1)
 cd "$here"
 cargo build -q --release --offline --features chunk
 bin=target/release
@@ -23,10 +23,7 @@ xargs -a "$work/all" "$bin/listings" compare 2 20000
 echo "symbexec, get_local_name, kname, getobjname:"
 mkdir "$work/names"
 head -n 44 "$work/small" | xargs "$bin/names" many "$work/names"
-questions=0
-for cases in "$work"/names/*.cases; do
-    ../target/bin/names < "$cases" > "$work/answers"
-    cmp "$work/answers" "${cases%.cases}.expected"
-    questions=$((questions + $(wc -l < "$work/answers")))
-done
-echo "$questions questions, none answered otherwise"
+"$bin/compare_names" "$work/names"
+echo "luac -l and luac -l -l:"
+cc -O2 -I../include -o "$work/servicetool" ../examples/servicetool.c ../target/staticlib/libchunk.a
+find "$corpus/c" -name '*.luac' | LC_ALL=C sort | xargs -n 2000 python3 luac.py "$work/servicetool"

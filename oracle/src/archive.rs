@@ -25,7 +25,63 @@ pub struct SourceAt {
     pub end: usize,
 }
 
+#[repr(C)]
+#[derive(Debug, Clone, Copy, PartialEq)]
+pub struct SymbExec {
+    pub refusal: u32,
+    pub instruction: u32,
+}
+
+#[repr(C)]
+#[derive(Debug, Clone, Copy, PartialEq)]
+pub struct Named {
+    pub refusal: u32,
+    pub kind: u32,
+    pub len: usize,
+}
+
 unsafe extern "C" {
+    fn lua_chunk_symbexec(
+        words: *const u32,
+        words_len: usize,
+        text: *const u8,
+        text_len: usize,
+        place: usize,
+        lastpc: usize,
+        reg: u32,
+    ) -> SymbExec;
+    fn lua_chunk_get_local_name(
+        words: *const u32,
+        words_len: usize,
+        text: *const u8,
+        text_len: usize,
+        place: usize,
+        local_number: usize,
+        pc: usize,
+        out: *mut u8,
+        out_len: usize,
+    ) -> Named;
+    fn lua_chunk_kname(
+        words: *const u32,
+        words_len: usize,
+        text: *const u8,
+        text_len: usize,
+        place: usize,
+        c: u32,
+        out: *mut u8,
+        out_len: usize,
+    ) -> Written;
+    fn lua_chunk_getobjname(
+        words: *const u32,
+        words_len: usize,
+        text: *const u8,
+        text_len: usize,
+        place: usize,
+        pc: usize,
+        stackpos: u32,
+        out: *mut u8,
+        out_len: usize,
+    ) -> Named;
     fn lua_chunk_source_at(
         words: *const u32,
         words_len: usize,
@@ -84,6 +140,25 @@ pub fn undump(chunk: &[u8], name: &[u8], words: &mut [u32], text: &mut [u8]) -> 
             text.len(),
         )
     }
+}
+
+pub fn symbexec(words: &[u32], text: &[u8], place: usize, lastpc: usize, reg: u32) -> SymbExec {
+    unsafe { lua_chunk_symbexec(words.as_ptr(), words.len(), text.as_ptr(), text.len(), place, lastpc, reg) }
+}
+
+pub fn get_local_name(words: &[u32], text: &[u8], place: usize, number: usize, pc: usize, out: &mut [u8]) -> Named {
+    let (o, n) = (out.as_mut_ptr(), out.len());
+    unsafe { lua_chunk_get_local_name(words.as_ptr(), words.len(), text.as_ptr(), text.len(), place, number, pc, o, n) }
+}
+
+pub fn kname(words: &[u32], text: &[u8], place: usize, c: u32, out: &mut [u8]) -> Written {
+    let (o, n) = (out.as_mut_ptr(), out.len());
+    unsafe { lua_chunk_kname(words.as_ptr(), words.len(), text.as_ptr(), text.len(), place, c, o, n) }
+}
+
+pub fn getobjname(words: &[u32], text: &[u8], place: usize, pc: usize, reg: u32, out: &mut [u8]) -> Named {
+    let (o, n) = (out.as_mut_ptr(), out.len());
+    unsafe { lua_chunk_getobjname(words.as_ptr(), words.len(), text.as_ptr(), text.len(), place, pc, reg, o, n) }
 }
 
 pub fn source_at(words: &[u32], text: &[u8], name: &[u8], place: usize) -> SourceAt {
