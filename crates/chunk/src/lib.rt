@@ -3,6 +3,7 @@ use debug_info::answer::Named;
 use debug_info::answer::SymbExec;
 use format::Undumped;
 use format::Written;
+use local_records::record::LocalRecord;
 use proto::place::SourceAt;
 ghost use mathlib.Core.Path.{_≡_};
 ghost use Rattle.format.specs.Undump.{undumped};
@@ -10,6 +11,7 @@ ghost use Rattle.format.specs.Dump.{writeLeft, dumped};
 ghost use Rattle.listing.specs.Listing.{listed};
 ghost use Rattle.undump.specs.Undump.{undumpLeft};
 ghost use Rattle.debug_info.specs.Calls.{symbexecAnswer, nameLeft, localNamed, knamed, objectNamed};
+ghost use Rattle.local_records.specs.Lookup.{lookupLeft, localNamedIn};
 ghost use Rattle.proto.specs.Places.{sourceAnswer};
 
 // Reads a chunk into lent memory: undump.
@@ -80,6 +82,22 @@ pub extern "C" fn lua_chunk_get_local_name(
     ensures { λ r. ⌜ nameLeft r (now (out .exit)) ≡ localNamed (now (words .entry)) (now (text .entry)) place «local_number» pc (now (out .entry)) ⌝ }
 {
     debug_info::get_local_name(words, text, place, local_number, pc, out)
+}
+
+// The name of an active local, looked up in lent records: get_local_name_in.
+#[no_mangle]
+pub extern "C" fn lua_chunk_get_local_name_in(
+    records: &mut [LocalRecord],
+    words: &[u32],
+    text: &[u8],
+    place: usize,
+    local_number: usize,
+    pc: usize,
+    out: &mut [u8],
+) -> Named
+    ensures { λ r. ⌜ lookupLeft r (now (records .exit)) (now (out .exit)) ≡ localNamedIn (now (records .entry)) (now (words .entry)) (now (text .entry)) place «local_number» pc (now (out .entry)) ⌝ }
+{
+    local_records::get_local_name_in(records, words, text, place, local_number, pc, out)
 }
 
 // The name of an RK operand: kname.

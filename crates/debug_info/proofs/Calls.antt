@@ -8,6 +8,8 @@ use native.Mathlib.Decide.{ℕ-discrete}
 use lib.ListN.{length, getD}
 use lib.Dec.{leb}
 use borrow.Author.Tests.{eq-eqb, ne-eqb, le-leb, lt-leb, leb-true}
+use Rattle.lent.specs.Memory.{Puts}
+use Rattle.lent.proofs.Writes.{sets-past}
 use Rattle.format.specs.Tree.{Parts, Function, Functions}
 use Rattle.format.specs.Store.{functionPiece}
 use Rattle.format.specs.Dump.{WriteLeft}
@@ -149,6 +151,10 @@ register-bounds words text place pc reg e h =
     (omega arith, omega (arith, o .reg-within))
 
 -- ---- an answer with a name
+
+-- with no space nothing is left
+pub counts-nowhere : {bytes last : List ℕ} {n : ℕ} → Puts bytes 0 [] n last → Puts bytes 0 [] n []
+counts-nowhere {bytes} p = record { puts = λ a b. (p .puts a b .0, sym (sets-past bytes [] 0 (omega arith))) }
 
 module _ (kind : ℕ) {w : Written} {out : List ℕ} {l : WriteLeft} (e : record { answer = w; out = out } ≡ l) where
   pub named-fits : w .refusal ≡ 0 → nameLeft (record { refusal = 0; kind = kind; len = w .len }) out ≡ namedBy kind l

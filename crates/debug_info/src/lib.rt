@@ -40,7 +40,7 @@ fn register_refusal(words: &[u32], text: &[u8], place: usize, pc: usize, reg: u3
 }
 
 // The answer for what is known of a register; its name goes to out. 11 where it does not fit.
-fn give(text: &[u8], v: Known, out: &mut [u8]) -> Named
+pub fn give(text: &[u8], v: Known, out: &mut [u8]) -> Named
     ensures { λ r. ⌜ nameLeft r (now (out .exit)) ≡ named (objectOf (now (text .entry)) v) (now (out .entry)) ⌝ }
 {
     let name = v.name;

@@ -86,12 +86,19 @@ fn put_name(text: &[u8], name: Name, out: &mut [u8]) -> usize
     }
 }
 
+// How many bytes a name has: those that are written where there is no space.
+pub fn name_len(text: &[u8], name: Name) -> usize
+    ensures { λ r. ⌜ Puts (nameOf (now (text .entry)) name) 0 [] r [] ⌝ }
+{
+    let mut none = [0u8; 0];
+    put_name(text, name, &mut none)
+}
+
 // Writes a name where it fits, else 11.
 pub fn write_name(text: &[u8], name: Name, out: &mut [u8]) -> Written
     ensures { λ r. ⌜ writeLeft r (now (out .exit)) ≡ written (nameOf (now (text .entry)) name) (now (out .entry)) ⌝ }
 {
-    let mut none = [0u8; 0];
-    let n = put_name(text, name, &mut none);
+    let n = name_len(text, name);
     if out.len() < n {
         return Written {
             refusal: 11,

@@ -1,0 +1,91 @@
+-- Records: one is filled after the other, and each tells how the search goes on.
+use Prim.Native.Nat.{ℕ, zero, suc, _+_, _-_, _*_, _≤_, _<_}
+use mathlib.Core.Path.{_≡_, refl, sym, ap, _∙_}
+use mathlib.Core.List.{List, [], _∷_}
+use native.Mathlib.Omega.{arith}
+use native.Mathlib.Nat.{add-zero, mul-zero}
+use native.Mathlib.Numerals.{add-one}
+use lib.ListN.{length, take, drop, getD, set, drop-of-length-le}
+use lib.Seq.{paste, paste-zero, paste-suc, drop-cons, getD-take, length-take-le, take-all}
+use borrow.Author.Tests.{eq-eqb, ne-eqb, lt-ltb, le-ltb}
+use Rattle.debug_info.specs.declared.name.Known.{Known}
+use Rattle.local_records.specs.declared.record.LocalRecord.{LocalRecord}
+use Rattle.local_records.specs.declared.record.Seen.{Seen}
+use Rattle.local_records.specs.declared.record.Seen.the-variants.{Nothing, Found, Left}
+use Rattle.local_records.specs.Records.{recordAt, recordsAt, filled, lookAt, after, activeIn, unnamed}
+
+abbrev blank : LocalRecord
+blank = record { place = 0; len = 0; start = 0; end = 0 }
+
+-- ---- filling
+
+pub records-length : (words : List ℕ) (at n : ℕ) → length (recordsAt words at n) ≡ n
+unfolding recordsAt
+records-length words at zero = refl
+records-length words at (suc n) = ap suc (records-length words (at + 4) n)
+
+records-get : (words : List ℕ) (at n i : ℕ) → i < n → getD (recordsAt words at n) i blank ≡ recordAt words (at + 4 * i)
+unfolding recordsAt
+records-get words at zero i h = absurd (omega arith)
+records-get words at (suc n) zero h = ap (recordAt words) (omega arith)
+records-get words at (suc n) (suc i) h = records-get words (at + 4) n i (omega arith) ∙ ap (recordAt words) (omega arith)
+
+-- i of the n records are filled
+abbrev pub Filling : List LocalRecord → List ℕ → ℕ → ℕ → ℕ → List LocalRecord → Type 0
+Filling before words at n i records = records ≡ paste before 0 (recordsAt words at n) i
+
+module _ (before : List LocalRecord) (words : List ℕ) (at n : ℕ) where
+  pub filling-none : Filling before words at n 0 before
+  filling-none = paste-zero before 0 (recordsAt words at n)
+
+  pub filling-more : {i to : ℕ} {records : List LocalRecord} {r : LocalRecord} → i < n → n ≤ length before → to ≡ at + 4 * i → Filling before words at n i records → r ≡ recordAt words to
+      → Filling before words at n (i + 1) (set records i r)
+  filling-more {i} {to} {records} {r} h k t f e =
+      let g : r ≡ getD (recordsAt words at n) i blank = e ∙ ap (recordAt words) t ∙ sym (records-get words at n i h) in
+      let z : i ≡ 0 + i = omega arith in
+      rw (f, g, add-one i)
+      (ap (λ (j : ℕ). set (paste before 0 (recordsAt words at n) i) j (getD (recordsAt words at n) i blank)) z ∙ paste-suc before 0 (recordsAt words at n) i blank (omega arith) (omega (arith, records-length words at n)))
+
+  pub filling-all : {i : ℕ} {records : List LocalRecord} → i ≤ n → n ≤ i → Filling before words at n i records → records ≡ filled before words at n
+  filling-all {i} {records} h k f =
+      let e : i ≡ n = omega arith in
+      let z : 0 + n ≡ n = omega arith in
+      f ∙ rw (e, z, take-all n (recordsAt words at n) (omega (arith, records-length words at n)))
+
+-- ---- looking at one
+
+module _ (r : LocalRecord) (n pc : ℕ) where
+  pub look-late : pc < r .start → Nothing ≡ lookAt r n pc
+  look-late h = rw (lt-ltb pc (r .start) h)
+
+  module _ (h : r .start ≤ pc) where
+    pub look-over : r .end ≤ pc → Left n ≡ lookAt r n pc
+    look-over k = rw (le-ltb pc (r .start) h, le-ltb pc (r .end) k)
+
+    module _ (k : pc < r .end) where
+      pub look-found : n ≡ 1 → Found (r .place) (r .len) ≡ lookAt r n pc
+      look-found e = rw (le-ltb pc (r .start) h, lt-ltb pc (r .end) k, eq-eqb n 1 e)
+
+      pub look-more : {m : ℕ} → (n ≡ 1 → ⊥) → m ≡ n - 1 → Left m ≡ lookAt r n pc
+      look-more e d = rw (le-ltb pc (r .start) h, lt-ltb pc (r .end) k, ne-eqb n 1 e, d)
+
+-- ---- the search
+
+-- from record i on, the first n lead to the same as all of them
+abbrev pub Searching : List LocalRecord → ℕ → ℕ → ℕ → ℕ → ℕ → Type 0
+Searching records n pc number i remaining = activeIn (drop i (take n records)) remaining pc ≡ activeIn (take n records) number pc
+
+module _ (records : List LocalRecord) (n pc number : ℕ) where
+  module _ (i remaining : ℕ) (s : Searching records n pc number i remaining) where
+    -- by what is seen at i
+    pub searching-seen : (a : Seen) → n ≤ length records → i < n → a ≡ lookAt (getD records i blank) remaining pc
+        → after a (λ m. activeIn (drop (i + 1) (take n records)) m pc) ≡ activeIn (take n records) number pc
+    unfolding activeIn
+    searching-seen a h k e =
+        let d : drop i (take n records) ≡ getD records i blank ∷ drop (i + 1) (take n records) =
+        rw (add-one i, ← getD-take n records i blank k) (drop-cons (take n records) i blank (omega (arith, length-take-le n records h))) in
+        sym (rw (d, ← e) at (sym s))
+
+    pub searching-over : n ≤ length records → n ≤ i → unnamed ≡ activeIn (take n records) number pc
+    unfolding activeIn
+    searching-over h k = rw (drop-of-length-le (take n records) {i = i} (omega (arith, length-take-le n records h))) at s
