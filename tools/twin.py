@@ -17,10 +17,16 @@ import os, re, shutil, subprocess, sys, tempfile
 CRATE = 'local_records'
 FIELDS = ['place', 'len', 'start', 'end']
 # a callee that is over records too is left without a body where its caller is prepared, so that it needs no proof
-BODIES = {'fill': '', 'find': 'nothing()', 'get_local_name_in': 'Named { refusal: 0, kind: 0, len: 0 }'}
-# crate, function, the callees that are over records
-FUNCTIONS = [('local_records', 'fill', []), ('local_records', 'find', []),
-             ('local_records', 'get_local_name_in', ['fill', 'find']), ('chunk', 'lua_chunk_get_local_name_in', ['get_local_name_in'])]
+BODIES = {'fill': '', 'find': 'nothing()', 'get_local_name_in': 'Named { refusal: 0, kind: 0, len: 0 }', 'tell_records': ''}
+# crate, function, the callees that are over records, each with its crate
+FUNCTIONS = [
+    ('local_records', 'fill', {}),
+    ('local_records', 'find', {}),
+    ('local_records', 'get_local_name_in', {'fill': 'local_records', 'find': 'local_records'}),
+    ('chunk', 'lua_chunk_get_local_name_in', {'get_local_name_in': 'local_records'}),
+    ('names', 'tell_records', {}),
+    ('names', 'ask_get_local_name_in', {'get_local_name_in': 'local_records', 'tell_records': 'names'}),
+]
 
 # ---- the twin's source
 
@@ -30,10 +36,15 @@ def twin(source):
     source = re.sub(r'use [\w:]*LocalRecord;\n', '', source)
     fields = r',\s*'.join(f + r': ([^,]*?)' for f in FIELDS)
     source = re.sub(r'LocalRecord \{\s*' + fields + r',?\s*\}', r'[\1, \2, \3, \4]', source)
-    source = source.replace('LocalRecord', '[u32; 4]')
+    source = re.sub(r'fn \w+\([^)]*?\b(\w+): LocalRecord\b.*?\n\}\n', lambda m: words(m.group(0), m.group(1)), source, flags=re.S)
+    return source.replace('LocalRecord', '[u32; 4]')
+
+
+# a record's fields, in the function that takes it
+def words(function, record):
     for i, field in enumerate(FIELDS):
-        source = re.sub(r'\br\.' + field + r'\b', f'r[{i}]', source)
-    return source
+        function = re.sub(rf'\b{record}\.{field}\b', f'{record}[{i}]', function)
+    return function
 
 
 def without_contracts(source):
@@ -42,7 +53,7 @@ def without_contracts(source):
 
 
 def stub(source, name):
-    return re.sub(r'(fn ' + name + r'\(.*?\n)\{\n.*?\n\}\n', lambda m: m.group(1) + '{\n    ' + BODIES[name] + '\n}\n', source, count=1, flags=re.S)
+    return re.sub(r'(fn ' + name + r'\(.*?)\{\n.*?\n\}\n', lambda m: m.group(1) + '{\n    ' + BODIES[name] + '\n}\n', source, count=1, flags=re.S)
 
 
 # ---- from [u32; 4] to LocalRecord, in what the checker prints
@@ -92,7 +103,7 @@ def converted(text, part, crate, name, callees):
     for pattern, by in RECORD:
         text = re.sub(pattern, by, text)
     text = re.sub(r'^-- the `use` lines.*\n', '', text, flags=re.M)
-    mine = {name: crate, **{c: CRATE for c in callees}}
+    mine = {name: crate, **callees}
     out = []
     for line in text.split('\n'):
         m = re.match(r'use (Rattle·\w+(?:·proofs)?\.proofs)\.(\w+)(?:\.(\w+))?( as \S+)?$', line)
@@ -148,8 +159,9 @@ def prepare(root, work, crate, name, callees):
         for file in os.listdir(f'{work}/crates/{c}/src'):
             path = f'{work}/crates/{c}/src/{file}'
             source = without_contracts(twin(open(path).read()))
-            for callee in (callees if crate == CRATE else BODIES) if c == CRATE else []:
-                source = stub(source, callee)
+            for f in BODIES:
+                if callees.get(f) == c or c != crate:
+                    source = stub(source, f)
             open(path, 'w').write(source)
     shutil.rmtree(f'{work}/generated', ignore_errors=True)
     subprocess.run(['rt', 'dev', crate, '--generated', f'{work}/generated'], cwd=work, stdout=open(f'{work}/{name}.log', 'w'), stderr=subprocess.STDOUT)

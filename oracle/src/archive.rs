@@ -40,6 +40,15 @@ pub struct Named {
     pub len: usize,
 }
 
+#[repr(C)]
+#[derive(Debug, Clone, Copy, PartialEq)]
+pub struct LocalRecord {
+    pub place: u32,
+    pub len: u32,
+    pub start: u32,
+    pub end: u32,
+}
+
 unsafe extern "C" {
     fn lua_chunk_symbexec(
         words: *const u32,
@@ -51,6 +60,19 @@ unsafe extern "C" {
         reg: u32,
     ) -> SymbExec;
     fn lua_chunk_get_local_name(
+        words: *const u32,
+        words_len: usize,
+        text: *const u8,
+        text_len: usize,
+        place: usize,
+        local_number: usize,
+        pc: usize,
+        out: *mut u8,
+        out_len: usize,
+    ) -> Named;
+    fn lua_chunk_get_local_name_in(
+        records: *mut LocalRecord,
+        records_len: usize,
         words: *const u32,
         words_len: usize,
         text: *const u8,
@@ -149,6 +171,20 @@ pub fn symbexec(words: &[u32], text: &[u8], place: usize, lastpc: usize, reg: u3
 pub fn get_local_name(words: &[u32], text: &[u8], place: usize, number: usize, pc: usize, out: &mut [u8]) -> Named {
     let (o, n) = (out.as_mut_ptr(), out.len());
     unsafe { lua_chunk_get_local_name(words.as_ptr(), words.len(), text.as_ptr(), text.len(), place, number, pc, o, n) }
+}
+
+pub fn get_local_name_in(
+    records: &mut [LocalRecord],
+    words: &[u32],
+    text: &[u8],
+    place: usize,
+    number: usize,
+    pc: usize,
+    out: &mut [u8],
+) -> Named {
+    let (o, n) = (out.as_mut_ptr(), out.len());
+    let (r, k) = (records.as_mut_ptr(), records.len());
+    unsafe { lua_chunk_get_local_name_in(r, k, words.as_ptr(), words.len(), text.as_ptr(), text.len(), place, number, pc, o, n) }
 }
 
 pub fn kname(words: &[u32], text: &[u8], place: usize, c: u32, out: &mut [u8]) -> Written {

@@ -5,6 +5,7 @@
 // or a question, with 1 byte n, an output of n bytes of 7, and 4 bytes place:
 //   X  8 bytes lastpc, 4 bytes register: symbexec
 //   L  8 bytes number, 8 bytes pc: get_local_name
+//   R  8 bytes number, 8 bytes pc, 1 byte k: get_local_name_in with k records, at most 8, of 8 that say 7; then all 8, in hexadecimal
 //   K  4 bytes c: kname
 //   O  8 bytes pc, 4 bytes register: getobjname
 use debug_info::answer::Named;
@@ -14,7 +15,10 @@ use debug_info::kname;
 use debug_info::symbexec;
 use libc::STDIN_FILENO;
 use libc::STDOUT_FILENO;
+use local_records::get_local_name_in;
+use local_records::record::LocalRecord;
 use output::all_text;
+use output::all_words;
 use output::number;
 use output::written;
 use records::after;
@@ -43,12 +47,16 @@ fn line_end() {
 }
 
 // What a call that gives a name answered and left.
-fn tell_named(r: Named, out: &[u8]) {
+fn tell_name(r: Named, out: &[u8]) {
     number(r.refusal as usize);
     number(r.kind as usize);
     number(r.len);
     io::write_all(STDOUT_FILENO, b":");
     all_text(out);
+}
+
+fn tell_named(r: Named, out: &[u8]) {
+    tell_name(r, out);
     line_end();
 }
 
@@ -68,6 +76,41 @@ fn ask_get_local_name(cases: &[u8], at: usize, words: &[u32], text: &[u8], out: 
     let pc = long(cases, after(cases, at, 12));
     let r = get_local_name(words, text, place, n, pc, out);
     tell_named(r, out);
+}
+
+// A record that no local has.
+fn seven() -> LocalRecord {
+    LocalRecord {
+        place: 7,
+        len: 7,
+        start: 7,
+        end: 7,
+    }
+}
+
+fn tell_record(r: LocalRecord) {
+    all_words(&[r.place, r.len, r.start, r.end]);
+}
+
+fn tell_records(records: &[LocalRecord]) {
+    let mut i = 0;
+    while i < records.len() {
+        tell_record(records[i]);
+        i += 1;
+    }
+}
+
+fn ask_get_local_name_in(cases: &[u8], at: usize, words: &[u32], text: &[u8], out: &mut [u8]) {
+    let place = word(cases, at) as usize;
+    let n = long(cases, after(cases, at, 4));
+    let pc = long(cases, after(cases, at, 12));
+    let k = within(byte(cases, after(cases, at, 20)) as usize, 8);
+    let z = seven();
+    let mut records = [z; 8];
+    let r = get_local_name_in(&mut records[..k], words, text, place, n, pc, out);
+    tell_name(r, out);
+    tell_records(&records);
+    line_end();
 }
 
 fn ask_kname(cases: &[u8], at: usize, words: &[u32], text: &[u8], out: &mut [u8]) {
@@ -95,6 +138,10 @@ fn ask(kind: u8, cases: &[u8], at: usize, words: &[u32], text: &[u8], out: &mut 
         b'L' => {
             ask_get_local_name(cases, at, words, text, out);
             20
+        }
+        b'R' => {
+            ask_get_local_name_in(cases, at, words, text, out);
+            21
         }
         b'K' => {
             ask_kname(cases, at, words, text, out);

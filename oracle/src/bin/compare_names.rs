@@ -9,6 +9,9 @@ use oracle::archive;
 const LENT: u8 = 7;
 const GUARD: u8 = 0xA5;
 
+/// As many records as the program has; one before and one behind them must stay as they are.
+const RECORDS: usize = 8;
+
 struct Cases<'a> {
     bytes: &'a [u8],
     words: Vec<u32>,
@@ -43,6 +46,7 @@ impl Cases<'_> {
         space[4..4 + len].fill(LENT);
         let (words, text) = (std::mem::take(&mut self.words), std::mem::take(&mut self.text));
         let out = &mut space[4..4 + len];
+        let mut records = [archive::LocalRecord { place: 7, len: 7, start: 7, end: 7 }; RECORDS + 2];
         let numbers = match letter {
             b'X' => {
                 let r = archive::symbexec(&words, &text, place, self.number(8), self.number(4) as u32);
@@ -53,7 +57,10 @@ impl Cases<'_> {
                 format!("{} {} ", r.refusal, r.len)
             }
             _ => {
-                let r = if letter == b'L' {
+                let r = if letter == b'R' {
+                    let (number, pc, k) = (self.number(8), self.number(8), self.number(1));
+                    archive::get_local_name_in(&mut records[1..1 + k], &words, &text, place, number, pc, out)
+                } else if letter == b'L' {
                     archive::get_local_name(&words, &text, place, self.number(8), self.number(8), out)
                 } else {
                     archive::getobjname(&words, &text, place, self.number(8), self.number(4) as u32, out)
@@ -67,6 +74,12 @@ impl Cases<'_> {
         if letter != b'X' {
             self.lines.push(':');
             space[4..4 + len].iter().for_each(|b| write!(self.lines, " {b:02x}").unwrap());
+        }
+        assert!([records[0], records[RECORDS + 1]].iter().all(|r| [r.place, r.len, r.start, r.end] == [7; 4]));
+        if letter == b'R' {
+            for r in &records[1..=RECORDS] {
+                write!(self.lines, " {:x} {:x} {:x} {:x}", r.place, r.len, r.start, r.end).unwrap();
+            }
         }
         self.lines.push('\n');
     }
@@ -87,7 +100,10 @@ fn main() {
             }
             questions += cases.questions;
             let expected = std::fs::read_to_string(path.with_extension("expected")).unwrap();
-            differ += cases.lines.lines().zip(expected.lines()).filter(|(a, b)| a != b).count();
+            for (ours, theirs) in cases.lines.lines().zip(expected.lines()).filter(|(a, b)| a != b) {
+                println!("{}: {ours} and not {theirs}", path.display());
+                differ += 1;
+            }
             differ += cases.lines.lines().count().abs_diff(expected.lines().count());
         }
     }

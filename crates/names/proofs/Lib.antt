@@ -1,0 +1,4 @@
+pub mod TellRecordsKinds
+pub mod TellRecordsReads
+pub mod AskGetLocalNameInKinds
+pub mod AskGetLocalNameInReads
