@@ -34,7 +34,7 @@
  * for any call (measured: 178 KB at most, by getobjname 200 functions deep over a chain of 255 MOVEs; reading and writing take 70 KB).
  *
  * What the caller owes. A run is a pointer and a count of elements, a size in bytes for bytes, and:
- *   - the pointer is not null and is aligned for its type (4 bytes for words), also where the count is 0;
+ *   - the pointer is not null and is aligned for its type (4 bytes for words and records), also where the count is 0;
  *   - all the elements belong to one object, whose size is at most PTRDIFF_MAX bytes (malloc gives no other);
  *   - what is lent for writing (no const) overlaps nothing else that the same call is lent. Runs that are only read may overlap.
  * Nothing else is asked: every content of every run, and every number, has a defined answer.
@@ -95,7 +95,7 @@ enum lua_chunk_refusal {
     LUA_CHUNK_BAD_CONSTANT = 5,  /* a constant's tag is not 0, 1, 3 or 4 */
     LUA_CHUNK_BAD_COUNT = 6,     /* a list's count is negative or above LUA_CHUNK_LIST_MOST */
     LUA_CHUNK_TOO_DEEP = 7,      /* a function begins that is 201 deep */
-    LUA_CHUNK_FEW_WORDS = 8,     /* the tree needs more words than are lent, or than LUA_CHUNK_MOST */
+    LUA_CHUNK_FEW_WORDS = 8,     /* the tree needs more words than are lent, or than LUA_CHUNK_MOST; or there are fewer records than locals */
     LUA_CHUNK_LITTLE_TEXT = 9,   /* the same for text bytes */
     LUA_CHUNK_BAD_STORE = 10,    /* the store is not well formed */
     LUA_CHUNK_LITTLE_OUTPUT = 11, /* the output is longer than the space lent */
@@ -140,6 +140,14 @@ typedef struct lua_chunk_Named {
     uint32_t kind;
     size_t len;
 } lua_chunk_Named;
+
+/* A local: where its name stands in the text, how many bytes it has, and the pcs from which and before which it is active. */
+typedef struct lua_chunk_LocalRecord {
+    uint32_t place;
+    uint32_t len;
+    uint32_t start;
+    uint32_t end;
+} lua_chunk_LocalRecord;
 
 /* Where a source stands: bytes start to end - 1 of the text where in_text is 1, of the chunk name where it is 0. */
 typedef struct lua_chunk_SourceAt {
@@ -212,6 +220,24 @@ lua_chunk_SymbExec lua_chunk_symbexec(const uint32_t *words, size_t words_len, c
  */
 lua_chunk_Named lua_chunk_get_local_name(const uint32_t *words, size_t words_len, const uint8_t *text, size_t text_len, size_t place,
                                          size_t local_number, size_t pc, uint8_t *out, size_t out_len);
+
+/*
+ * The same, looked up in records, which are filled from the store: one for each local of the function at place, in order. Not refused,
+ * whether there is a name or none, the first records are the function's locals, and those behind them keep their contents. The answer and
+ * what is left in out are those of lua_chunk_get_local_name (proved).
+ *
+ *     lua_chunk_LocalRecord records[200];
+ *     lua_chunk_Named r = lua_chunk_get_local_name_in(records, 200, words, tree.words, text, tree.text, 0, 1, pc, out, sizeof out);
+ *     if (r.refusal == LUA_CHUNK_OK)
+ *         fwrite(text + records[0].place, 1, records[0].len, stdout);   // the first local's name, active or not
+ *
+ * Refused by 10, 12, 8 where there are fewer records than locals, 11. Refused, the records are as they were.
+ *
+ * Space. LUA_CHUNK_LIST_MOST records are always enough; luac's functions have at most 200 locals at a time, and can have more in all.
+ */
+lua_chunk_Named lua_chunk_get_local_name_in(lua_chunk_LocalRecord *records, size_t records_len, const uint32_t *words, size_t words_len,
+                                            const uint8_t *text, size_t text_len, size_t place, size_t local_number, size_t pc,
+                                            uint8_t *out, size_t out_len);
 
 /*
  * The name that operand c (an RK: a register, or with bit 8 the constant of the number without that bit) gives in the function at place,
