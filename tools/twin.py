@@ -10,7 +10,7 @@ LocalRecord (proofs/LocalRow.antt) where that says [u32; 4]. For each function f
   proofs/f/Proof/Lts.antt, proofs/f/Proof/Tie.antt   the walk through its code, and the facts it leaves to prove
 
 proofs/f/Proof.antt is written by hand on these, as any proof. Run this after a change of the code of such a function or of its callees'
-parameters, anywhere in the repository: twin.py [FOLDER in which the twin is kept].
+parameters, anywhere in the repository, and then `rt fmt`: twin.py [FOLDER in which the twin is kept].
 """
 import os, re, shutil, subprocess, sys, tempfile
 
