@@ -156,14 +156,11 @@ fn is_ascii_block(bytes: &[u8], at: usize) -> bool
     top < 0x80
 }
 
-// The end of the blocks of ASCII at a place, if a block begins there.
+// The end of the blocks of ASCII at a place.
 fn ascii_blocks(bytes: &[u8], at: usize) -> usize
     requires { ⌜ at ≤ length (now bytes) ⌝ }
     ensures { λ r. ⌜ Text (now (bytes .entry)) at r ⌝ }
 {
-    if at % 32 != 0 {
-        return at;
-    }
     let mut i = at;
     while 32 <= bytes.len() - i {
         if !is_ascii_block(bytes, i) {
@@ -179,12 +176,12 @@ fn ascii_end(bytes: &[u8], at: usize) -> usize
     requires { ⌜ at ≤ length (now bytes) ⌝ }
     ensures { λ r. ⌜ Text (now (bytes .entry)) at r ⌝ }
 {
-    let mut i = at;
+    let mut i = ascii_blocks(bytes, at);
     while i < bytes.len() {
         if 0x80 <= bytes[i] {
             return i;
         }
-        i = ascii_blocks(bytes, i + 1);
+        i += 1;
     }
     i
 }

@@ -14,11 +14,8 @@ Inv-loop bytes at i₀ i = Text bytes at i
 abbrev μ-loop : tie.MeasureT-loop
 μ-loop bytes at i₀ i = length bytes - i
 
-returns : tie.Need-returns Inv-loop μ-loop
-returns c = text-none _ _ (c .before .before .pre)
-
 loop-holds : tie.Need-loop-holds Inv-loop μ-loop
-loop-holds c = text-none _ _ (c .before .before .pre)
+loop-holds c = text-none _ _ (c .before .pre)
 
 sub-loop : tie.Need-sub-loop Inv-loop μ-loop
 sub-loop c = omega arith
@@ -26,8 +23,8 @@ sub-loop c = omega arith
 is-ascii-block-requires : tie.Need-is-ascii-block-requires Inv-loop μ-loop
 is-ascii-block-requires c κs = omega arith
 
-returns-2 : tie.Need-returns-2 Inv-loop μ-loop
-returns-2 c = c .before .before .before .loop .inv
+returns : tie.Need-returns Inv-loop μ-loop
+returns c = c .before .before .before .loop .inv
 
 add-i : tie.Need-add-i Inv-loop μ-loop
 add-i c = omega arith
@@ -36,10 +33,10 @@ loop-less : tie.Need-loop-less Inv-loop μ-loop
 loop-less c = omega arith
 
 loop-again : tie.Need-loop-again Inv-loop μ-loop
-loop-again c = text-join (c .before .before .before .loop .inv) (c .before .is-ascii-block .ensures (not-false _ (c .if2 .left)))
+loop-again c = text-join (c .before .before .before .loop .inv) (c .before .is-ascii-block .ensures (not-false _ (c .if1 .left)))
 
-returns-3 : tie.Need-returns-3 Inv-loop μ-loop
-returns-3 c = c .before .loop .inv
+returns-2 : tie.Need-returns-2 Inv-loop μ-loop
+returns-2 c = c .before .loop .inv
 
 pub ascii-blocks-spec : {M : Type 1} → statement M
 ascii-blocks-spec =
@@ -47,12 +44,11 @@ ascii-blocks-spec =
     (tie.spec
     Inv-loop
     μ-loop
-    returns
     loop-holds
     sub-loop
     is-ascii-block-requires
-    returns-2
+    returns
     add-i
     loop-less
     loop-again
-    returns-3)
+    returns-2)

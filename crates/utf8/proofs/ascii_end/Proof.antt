@@ -1,9 +1,9 @@
--- A byte below 0x80 goes on with the text so far, and so do the blocks behind it.
+-- Behind the blocks, each byte below 0x80 goes on with the text so far.
 use Prim.Native.Nat.{_-_}
 use native.Mathlib.Omega.{arith}
 use lib.ListN.{length}
 use Rattle.utf8.specs.Text.{Text}
-use Rattle.utf8.proofs.Texts.{text-none, text-byte, text-join}
+use Rattle.utf8.proofs.Texts.{text-byte, text-join}
 use Rattle.utf8.proofs.ascii_end.Statement.{statement}
 use Rattle.utf8.proofs.ascii_end.Tie as tie
 
@@ -13,8 +13,11 @@ Inv-loop bytes at i₀ i = Text bytes at i
 abbrev μ-loop : tie.MeasureT-loop
 μ-loop bytes at i₀ i = length bytes - i
 
+ascii-blocks-requires : tie.Need-ascii-blocks-requires Inv-loop μ-loop
+ascii-blocks-requires c κs = omega arith
+
 loop-holds : tie.Need-loop-holds Inv-loop μ-loop
-loop-holds c = text-none _ _ (c .before .pre)
+loop-holds c = c .ascii-blocks .ensures
 
 shared-slice-read-if1 : tie.Need-shared-slice-read-if1 Inv-loop μ-loop
 shared-slice-read-if1 c = omega arith
@@ -22,20 +25,14 @@ shared-slice-read-if1 c = omega arith
 returns : tie.Need-returns Inv-loop μ-loop
 returns c = c .before .before .before .loop .inv
 
-add-ascii-blocks : tie.Need-add-ascii-blocks Inv-loop μ-loop
-add-ascii-blocks c = omega arith
-
-ascii-blocks-requires : tie.Need-ascii-blocks-requires Inv-loop μ-loop
-ascii-blocks-requires c κs = omega arith
+add-i : tie.Need-add-i Inv-loop μ-loop
+add-i c = omega arith
 
 loop-less : tie.Need-loop-less Inv-loop μ-loop
 loop-less c = omega arith
 
 loop-again : tie.Need-loop-again Inv-loop μ-loop
-loop-again c =
-    let c₁ = c .before in
-    let c₂ = c₁ .before .before in
-    text-join (text-join (c₂ .before .loop .inv) (text-byte _ _ (omega arith) (c₁ .if1 .left))) (c .ascii-blocks .ensures)
+loop-again c = text-join (c .before .before .before .loop .inv) (text-byte _ _ (omega arith) (c .if1 .left))
 
 returns-2 : tie.Need-returns-2 Inv-loop μ-loop
 returns-2 c = c .before .loop .inv
@@ -46,11 +43,11 @@ ascii-end-spec =
     (tie.spec
     Inv-loop
     μ-loop
+    ascii-blocks-requires
     loop-holds
     shared-slice-read-if1
     returns
-    add-ascii-blocks
-    ascii-blocks-requires
+    add-i
     loop-less
     loop-again
     returns-2)
