@@ -8,7 +8,7 @@
 //! reads from the chunk, and for a damaged store the tree that src/stored.rs finds in it. What was dumped is read back too.
 
 use oracle::archive::{self, Written};
-use oracle::made::{Constant, Function, Store, Text, nested};
+use oracle::made::{Constant, Function, Store, Text, nested, stripped, tree};
 use oracle::random::Random;
 use oracle::stored::{MOST, tree_of};
 use oracle::vm::dump::dump;
@@ -91,23 +91,6 @@ impl Counts {
             self.differ += 1;
             eprintln!("read back differs: {} bytes, {u:?}", bytes.len());
         }
-    }
-}
-
-/// A tree with sources filled in.
-fn tree(p: &Proto) -> Store {
-    let mut store = Store::default();
-    store.function(p, &mut std::iter::repeat(true), "");
-    store
-}
-
-fn stripped(p: &Proto) -> Proto {
-    Proto {
-        line_info: Vec::new(),
-        local_vars: Vec::new(),
-        upvalue_names: Vec::new(),
-        protos: p.protos.iter().map(|c| ProtoRef::new(stripped(c))).collect(),
-        ..p.clone()
     }
 }
 

@@ -6,6 +6,7 @@
 //! The form of a case stands in crates/readstores/src/main.rt. The Rust has no stores: the layout, the check and the search for
 //! a source are written here from the scope, over plain vectors.
 
+use oracle::made::store_case;
 use std::fmt::Write as _;
 use std::io::{self, Write};
 
@@ -207,21 +208,7 @@ struct Cases {
 
 impl Cases {
     fn store(&mut self, store: Store) {
-        let mut runs: Vec<(u16, u32)> = Vec::new();
-        for w in &store.words {
-            match runs.last_mut() {
-                Some((n, v)) if v == w && *n < 65535 => *n += 1,
-                _ => runs.push((1, *w)),
-            }
-        }
-        self.bytes.push(b'S');
-        self.bytes.extend((runs.len() as u16).to_le_bytes());
-        for (n, w) in runs {
-            self.bytes.extend(n.to_le_bytes());
-            self.bytes.extend(w.to_le_bytes());
-        }
-        self.bytes.extend((store.text.len() as u16).to_le_bytes());
-        self.bytes.extend(&store.text);
+        self.bytes.extend(store_case(&store.words, &store.text));
         self.store = store;
     }
 
