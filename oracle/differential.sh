@@ -14,13 +14,14 @@ find "$corpus/c" "$corpus/s" -name '*.luac' | LC_ALL=C sort > "$work/all"
 find "$corpus/c" -name '*.luac' -size -12k | LC_ALL=C sort > "$work/small"
 echo "undump, source_at:"
 "$bin/compare" exhaustive
+"$bin/compare" limits
 xargs -a "$work/small" "$bin/compare" 60
 echo "dump:"
 xargs -a "$work/small" "$bin/compare_dump" 20
 "$bin/compare_dump" limits
 echo "list_function:"
 xargs -a "$work/all" "$bin/listings" compare 2 20000
-echo "symbexec, get_local_name, kname, getobjname:"
+echo "symbexec, get_local_name, get_local_name_in, kname, getobjname:"
 mkdir "$work/names"
 head -n 44 "$work/small" | xargs "$bin/names" many "$work/names"
 "$bin/compare_names" "$work/names"

@@ -1,18 +1,23 @@
 //! Compares this library's calls with the Rust's, through the exported functions.
 //!
 //!     compare N CHUNK..        each chunk, and N damaged copies of it
+//!     compare limits           trees at the limits and one beyond them
 //!     compare exhaustive       all chunks of at most three bytes, and the sample with each byte replaced by each other
 //!
 //! undump: the refusal or the whole tree with sources filled in, the bytes read (the shortest prefix that the Rust accepts), that
 //! space beyond the used part and all space on a refusal is untouched, exact space, and one word and one byte too little.
 //! source_at: the source of every function of a chunk that is not large, and its refusals.
-//! A chunk that is refused by 6 or more lies outside the domain of comparison and is only counted.
+//! A chunk that is refused by 6 or 7 lies outside the domain of comparison: it is counted apart, and the refusal is held to src/made.rs,
+//! which is written from the scope.
 
 use std::panic::{AssertUnwindSafe, catch_unwind};
 
 use oracle::archive::{self, Undumped};
+use oracle::made::{self, Function, Text, listed, nested, tree};
 use oracle::random::Random;
-use oracle::vm::proto::Proto;
+use oracle::stored::MOST;
+use oracle::vm::dump::dump;
+use oracle::vm::proto::{Proto, ProtoRef};
 use oracle::vm::undump::undump;
 use oracle::vm::value::Val;
 
@@ -170,6 +175,9 @@ fn same(chunk: &[u8], words: &mut [u32], text: &mut [u8], counts: &mut Counts) -
     if !zeros || words_beyond.iter().any(|x| *x != WORD) || text_beyond.iter().any(|x| *x != BYTE) {
         return false;
     }
+    if r.refusal != made::refusal(chunk) {
+        return false;
+    }
     if r.refusal >= 6 {
         counts.outside += 1;
         return true;
@@ -197,7 +205,7 @@ fn same(chunk: &[u8], words: &mut [u32], text: &mut [u8], counts: &mut Counts) -
 
 fn compare(chunk: &[u8], counts: &mut Counts) {
     counts.chunks += 1;
-    let (mut words, mut text) = (vec![0; chunk.len() + 64], vec![0; 3 * chunk.len() + 64]);
+    let (mut words, mut text) = (vec![0; 3 * chunk.len() + 64], vec![0; 3 * chunk.len() + 64]);
     if !same(chunk, &mut words, &mut text, counts) {
         counts.differ += 1;
         eprintln!("differs: {chunk:02x?}");
@@ -225,15 +233,55 @@ fn exhaustive(counts: &mut Counts) {
     }
 }
 
+/// A chunk that is refused by this number, or not, where one word and one text byte more than the limits are lent.
+fn refused(chunk: &[u8], number: u32, counts: &mut Counts) {
+    counts.chunks += 1;
+    counts.outside += u64::from(number > 0);
+    counts.refusals[number as usize] += 1;
+    let (mut words, mut text) = (vec![WORD; MOST + 1], vec![BYTE; MOST + 1]);
+    let r = ours(chunk, &mut words, &mut text);
+    let untouched = words[r.words..].iter().all(|x| *x == WORD) && text[r.text..].iter().all(|x| *x == BYTE);
+    let zeros = number == 0 || [r.words, r.text, r.read] == [0, 0, 0];
+    if r.refusal != number || !untouched || !zeros {
+        counts.differ += 1;
+        eprintln!("differs: {} bytes, {r:?} and not {number}", chunk.len());
+    }
+}
+
+/// Each list as long as it can be and one longer, functions nested as deep as they can be and one deeper; as many words and text bytes
+/// as there can be, and one more of each.
+fn limits(counts: &mut Counts) {
+    for list in 0..6 {
+        for n in [65_534, 65_535, 65_536] {
+            compare(&dump(&listed(list, n), None, false), counts);
+        }
+    }
+    for depth in [1, 2, 199, 200, 201, 202] {
+        compare(&nested(depth, Function::empty(Text::of(b"@i"))).chunk(), counts);
+    }
+    for more in [0, 1] {
+        refused(&dump(&Proto::new(&"x".repeat(MOST + more)), None, false), 9 * more as u32, counts);
+        let child = ProtoRef::new(Proto { code: vec![1; 65_535], ..Proto::new("") });
+        let mut p = Proto { protos: vec![child; 255], code: vec![2; 60_000], ..Proto::new("") };
+        p.line_info = vec![3; MOST - tree(&p).words.len() + more];
+        refused(&dump(&p, None, false), 8 * more as u32, counts);
+    }
+}
+
 fn main() {
     let args: Vec<String> = std::env::args().skip(1).collect();
     std::panic::set_hook(Box::new(|_| {}));
     let (mut counts, mut random) = (Counts::default(), Random(7));
-    let copies: usize = if args[0] == "exhaustive" {
-        exhaustive(&mut counts);
-        0
-    } else {
-        args[0].parse().expect("compare N CHUNK.. | compare exhaustive")
+    let copies: usize = match &args[0][..] {
+        "exhaustive" => {
+            exhaustive(&mut counts);
+            0
+        }
+        "limits" => {
+            limits(&mut counts);
+            0
+        }
+        n => n.parse().expect("compare N CHUNK.. | compare limits | compare exhaustive"),
     };
     for path in &args[1..] {
         let chunk = std::fs::read(path).unwrap();

@@ -8,11 +8,11 @@
 //! reads from the chunk, and for a damaged store the tree that src/stored.rs finds in it. What was dumped is read back too.
 
 use oracle::archive::{self, Written};
-use oracle::made::{Constant, Function, Store, Text, nested, stripped, tree};
+use oracle::made::{Constant, Function, Store, Text, listed, nested, stripped, tree};
 use oracle::random::Random;
 use oracle::stored::{MOST, tree_of};
 use oracle::vm::dump::dump;
-use oracle::vm::proto::{LocalVar, Proto, ProtoRef};
+use oracle::vm::proto::{Proto, ProtoRef};
 use oracle::vm::undump::undump;
 use oracle::vm::value::Val;
 
@@ -150,23 +150,6 @@ fn damaged_store(store: &Store, r: &mut Random) -> Store {
 
 fn found(store: &Store, counts: &mut Counts, room: usize) {
     counts.store(store, |name| tree_of(&store.words, &store.text, name).map(ProtoRef::new), room);
-}
-
-/// A function with n items in the list of this number; small ones, since each is dumped many times.
-fn listed(list: usize, n: usize) -> Proto {
-    let mut p = Proto::new("@l");
-    match list {
-        0 => p.code = vec![0x8765_4321; n],
-        1 => p.constants = vec![Val::Num(-0.0); n],
-        2 => p.protos = vec![ProtoRef::new(Proto::new("@l")); n],
-        3 => p.line_info = vec![u32::MAX; n],
-        4 => {
-            let v = LocalVar { name: "v".into(), start_pc: 1, end_pc: u32::MAX };
-            p.local_vars = vec![v; n];
-        }
-        _ => p.upvalue_names = vec!["é".into(); n],
-    }
-    p
 }
 
 fn limits(counts: &mut Counts) {
