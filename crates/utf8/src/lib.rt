@@ -225,7 +225,7 @@ fn put_replacement(out: &mut [u8], at: usize) -> usize
 }
 
 // Writes bytes at a place, each maximal subpart of an ill-formed subsequence replaced by U+FFFD. Answers the next place.
-pub fn repair(bytes: &[u8], out: &mut [u8], at: usize) -> usize
+fn repair_steps(bytes: &[u8], out: &mut [u8], at: usize) -> usize
     ensures { λ r. ⌜ Puts (repaired (now (bytes .entry))) at (now (out .entry)) r (now (out .exit)) ⌝ }
 {
     let mut i: usize = 0;
@@ -239,4 +239,14 @@ pub fn repair(bytes: &[u8], out: &mut [u8], at: usize) -> usize
         o = put_replacement(out, o);
         i = end + step_at(bytes, end).len;
     }
+}
+
+// The same, where ASCII, which most names are, is copied at once.
+pub fn repair(bytes: &[u8], out: &mut [u8], at: usize) -> usize
+    ensures { λ r. ⌜ Puts (repaired (now (bytes .entry))) at (now (out .entry)) r (now (out .exit)) ⌝ }
+{
+    if ascii_end(bytes, 0) == bytes.len() {
+        return lent::put_bytes(out, at, bytes);
+    }
+    repair_steps(bytes, out, at)
 }
