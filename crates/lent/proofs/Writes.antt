@@ -29,6 +29,14 @@ sets-suc l s i j h =
     let e : length (take j s) ≡ j = length-take-le j s (omega arith) in
     rw (add-one j, take-suc s j 0 h) (rw e at (sets-append (take j s) l (getD s j 0 ∷ []) i))
 
+pub sets-two : (l : List ℕ) (i a b : ℕ) → set (set l i a) (i + 1) b ≡ sets l i (a ∷ b ∷ [])
+sets-two l i a b = ap (λ (j : ℕ). set (set l i a) j b) (add-one i)
+
+pub sets-three : (l : List ℕ) (i a b c : ℕ) → set (set (set l i a) (i + 1) b) (i + 2) c ≡ sets l i (a ∷ b ∷ c ∷ [])
+sets-three l i a b c =
+    let e : i + 2 ≡ suc (suc i) = omega arith in
+    ap (λ (m : List ℕ). set m (i + 2) c) (sets-two l i a b) ∙ ap (λ (j : ℕ). set (set (set l i a) (suc i) b) j c) e
+
 -- n items reach the end
 sets-take : (l s : List ℕ) (i n : ℕ) → n ≤ length s → length l ≤ i + n → sets l i (take n s) ≡ sets l i s
 sets-take l s i n h k =
@@ -77,6 +85,10 @@ module _ {items : List ℕ} {at at′ : ℕ} {out out′ : List ℕ} where
   put-fits p h k =
       let q = p .puts (omega arith) k in
       (omega arith, q .1 ∙ sets-eq items out at h)
+
+-- the items fit, and no place stops
+pub put-within : {items : List ℕ} {at at′ : ℕ} {out out′ : List ℕ} → at′ ≡ at + length items → at + length items ≤ length out → out′ ≡ sets out at items → Puts items at out at′ out′
+put-within p h q = record { puts = λ i k. (omega arith, q) }
 
 -- ---- writes one after the other
 

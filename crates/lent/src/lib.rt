@@ -65,3 +65,36 @@ pub fn put_word(out: &mut [u32], at: usize, w: u32) -> usize
     }
     further(at, 1)
 }
+
+// Two words. Answers the next place.
+pub fn put_two(out: &mut [u32], at: usize, a: u32, b: u32) -> usize
+    ensures { λ r. ⌜ Puts (a ∷ b ∷ []) at (now (out .entry)) r (now (out .exit)) ⌝ }
+{
+    if out.len() <= at {
+        return further(at, 2);
+    }
+    if out.len() - at < 2 {
+        let p = put_word(out, at, a);
+        return put_word(out, p, b);
+    }
+    out[at] = a;
+    out[at + 1] = b;
+    at + 2
+}
+
+// Three words. Answers the next place.
+pub fn put_three(out: &mut [u32], at: usize, a: u32, b: u32, c: u32) -> usize
+    ensures { λ r. ⌜ Puts (a ∷ b ∷ c ∷ []) at (now (out .entry)) r (now (out .exit)) ⌝ }
+{
+    if out.len() <= at {
+        return further(at, 3);
+    }
+    if out.len() - at < 3 {
+        let p = put_two(out, at, a, b);
+        return put_word(out, p, c);
+    }
+    out[at] = a;
+    out[at + 1] = b;
+    out[at + 2] = c;
+    at + 3
+}

@@ -1,7 +1,7 @@
 -- What is read, stored: one thing, and things one after the other.
 use Prim.Native.Nat.{ℕ, _+_, _-_}
 use mathlib.Core.Path.{_≡_, _∙_}
-use mathlib.Core.List.{List}
+use mathlib.Core.List.{List, [], _∷_}
 use mathlib.Core.Bool.{true, false}
 use native.Mathlib.Omega.{arith}
 use lib.ListN.{take, drop}
@@ -9,14 +9,13 @@ use Rattle.lent.specs.Memory.{Puts}
 use Rattle.utf8.specs.Utf8.{repair}
 use Rattle.format.specs.Tree.{Constant as Value}
 use Rattle.format.specs.Read.{Reader, loadString, loadText, loadConstant}
-use Rattle.format.specs.Store.{Piece, word, string, constantPiece}
+use Rattle.format.specs.Store.{Piece, plain, word, _⊕_, string, constantPiece}
 use Rattle.format.specs.Stored.{part}
 use Rattle.load_state.specs.declared.cursor.Cursor.{Cursor}
 use Rattle.load.specs.declared.cursor.Span.{Span}
 use Rattle.load.specs.declared.Load.{Load}
-use Rattle.load.specs.Step.{Step, Strings, Space, space, Does, world, moved, Loads, repairedName, repairedSourcePiece}
+use Rattle.load.specs.Step.{Step, Strings, space, Does, world, moved, Loads, repairedName, repairedSourcePiece}
 use Rattle.load.proofs.Steps.{weaken}
-use Rattle.load.proofs.Stores.{join}
 use Rattle.load.proofs.Strings.{text-of}
 
 -- a step that does something with its value, and ends at the cursor of r
@@ -52,17 +51,16 @@ module _ {bs : List ℕ} {s p r : Load} {z : Span} {t : ℕ} {ws ws′ ts ts′ 
       stores (text-of h) (f ∙ rw e) (λ a q. rw q (rw e at (k (repair (part bs (z .start) (z .len))) ts ts′ (rw e g′))))
 
   -- a source of its own
-  pub source-own : {q : Load} {ws₁ : List ℕ} → z .own ≡ true → q .cursor ≡ p .cursor → r .cursor ≡ q .cursor → Does (word 1) (space p ws ts) (space q ws₁ ts)
-      → Puts (repair (lentPart bs z)) (q .text) ts t ts′ → ((b u u′ : List ℕ) → Puts b (q .text) u t u′ → Does (string b) (space q ws₁ u) (space r ws′ u′))
-      → Loads bs loadString repairedSourcePiece (world s ws ts) (world r ws′ ts′)
-  source-own {q} o f₁ f₂ d g k =
-      let g′ : Puts (repair (part bs (z .start) (z .len))) (q .text) ts t ts′ = rw (part-is bs z) at g in
-      stores (h .reads) (f₂ ∙ f₁ ∙ rw e) (λ a w. rw (w, o) (join (rw e at d) (k (repair (part bs (z .start) (z .len))) ts ts′ g′)))
+  pub source-own : z .own ≡ true → r .cursor ≡ p .cursor → Puts (repair (lentPart bs z)) (p .text) ts t ts′
+      → ((b u u′ : List ℕ) → Puts b (p .text) u t u′ → Does (word 1 ⊕ string b) (space p ws u) (space r ws′ u′)) → Loads bs loadString repairedSourcePiece (world s ws ts) (world r ws′ ts′)
+  source-own o f g k =
+      let g′ : Puts (repair (part bs (z .start) (z .len))) (p .text) ts t ts′ = rw (part-is bs z) at g in
+      stores (h .reads) (f ∙ rw e) (λ a w. rw (w, o) (rw e at (k (repair (part bs (z .start) (z .len))) ts ts′ g′)))
 
 -- no source: three zeros
-pub source-none : {bs : List ℕ} {s p r : Load} {z : Span} {ws ws′ ts : List ℕ} {m₁ m₂ : Space} → Strings bs (s .cursor) z → p ≡ moved s (z .cursor) → z .own ≡ false → r .cursor ≡ p .cursor
-    → Does (word 0) (space p ws ts) m₁ → Does (word 0) m₁ m₂ → Does (word 0) m₂ (space r ws′ ts) → Loads bs loadString repairedSourcePiece (world s ws ts) (world r ws′ ts)
-source-none h e o f d₁ d₂ d₃ = stores (h .reads) (f ∙ rw e) (λ a q. rw (q, o) (join (rw e at d₁) (join d₂ d₃)))
+pub source-none : {bs : List ℕ} {s p r : Load} {z : Span} {ws ws′ ts : List ℕ} → Strings bs (s .cursor) z → p ≡ moved s (z .cursor) → z .own ≡ false → r .cursor ≡ p .cursor
+    → Does (plain (0 ∷ 0 ∷ 0 ∷ [])) (space p ws ts) (space r ws′ ts) → Loads bs loadString repairedSourcePiece (world s ws ts) (world r ws′ ts)
+source-none h e o f d = stores (h .reads) (f ∙ rw e) (λ a q. rw (q, o) (rw e at d))
 
 -- ---- constants
 

@@ -46,28 +46,43 @@ regroup p q r d =
     (λ τ. let e : τ + length (p .text ++ q .text) ≡ τ + length (p .text) + length (q .text) = simp length-append (omega arith) in rw e (append-assoc (p .words τ) _ _))
     (append-assoc (p .text) (q .text) (r .text)) d
 
--- one word
-pub word-does : {σ : Space} {v n : ℕ} {ws′ : List ℕ} → Puts (v ∷ []) (σ .wordsAt) (σ .words) n ws′ → Does (word v) σ (record { wordsAt = n; textAt = σ .textAt; words = ws′; text = σ .text })
-word-does {σ} {v} p = record { does = λ τ f h. record { stored = v ∷ []; many = refl; exact = λ k. refl; words = p; text = put-none } }
+-- words that name no text
+pub plain-does : {σ : Space} {n : ℕ} {ws′ : List ℕ} (l : List ℕ) → Puts l (σ .wordsAt) (σ .words) n ws′ → Does (plain l) σ (record { wordsAt = n; textAt = σ .textAt; words = ws′; text = σ .text })
+plain-does l p = record { does = λ τ f h. record { stored = l; many = refl; exact = λ k. refl; words = p; text = put-none } }
 
--- a string's place and length, its bytes in the text
-pub string-does : {σ m μ : Space} {x y t : ℕ} {b ts′ : List ℕ}
-    → (σ .textAt < 4294967296 → x ≡ σ .textAt) → (t - σ .textAt < 4294967296 → y ≡ t - σ .textAt)
-    → Does (word x) σ m → Does (word y) m μ → Puts b (σ .textAt) (σ .text) t ts′
-    → Does (string b) σ (record { wordsAt = μ .wordsAt; textAt = t; words = μ .words; text = ts′ })
-string-does {σ} {m} {μ} {x} {y} {t} {b} ex ey d e g =
-    record {
-      does = λ τ f h.
-          let a = join d e .does τ f h in
-          let l : t ≡ min (σ .textAt + length b) far = g .puts (omega arith) h .0 in
-          record {
-            stored = a .stored;
-            many = a .many;
-            exact = λ k.
-                let i : x ≡ τ = ex (omega arith) ∙ omega arith in
-                let j : y ≡ length b = ey (omega arith) ∙ omega arith in
-                a .exact (omega arith) ∙ ap (λ (l : List ℕ). x ∷ l) (ap (λ (k : ℕ). k ∷ []) j) ∙ ap (λ (k : ℕ). k ∷ length b ∷ []) i;
-            words = a .words;
-            text = g;
-          };
-    }
+module _ {σ : Space} {x y t n : ℕ} {b ws′ ts′ : List ℕ} (ex : σ .textAt < 4294967296 → x ≡ σ .textAt) (ey : t - σ .textAt < 4294967296 → y ≡ t - σ .textAt) (g : Puts b (σ .textAt) (σ .text) t ts′) where
+  -- a tag, and a string's place and length, its bytes in the text
+  pub tagged-does : (tag : ℕ) → Puts (tag ∷ x ∷ y ∷ []) (σ .wordsAt) (σ .words) n ws′ → Does (word tag ⊕ string b) σ (record { wordsAt = n; textAt = t; words = ws′; text = ts′ })
+  tagged-does tag p =
+      record {
+        does = λ τ f h.
+            let l : t ≡ min (σ .textAt + length b) far = g .puts (omega arith) h .0 in
+            record {
+              stored = tag ∷ x ∷ y ∷ [];
+              many = refl;
+              exact = λ k.
+                  let i : x ≡ τ + 0 = ex (omega arith) ∙ omega arith in
+                  let j : y ≡ length b = ey (omega arith) ∙ omega arith in
+                  rw (i, j);
+              words = p;
+              text = g;
+            };
+      }
+
+  -- without a tag
+  pub string-does : Puts (x ∷ y ∷ []) (σ .wordsAt) (σ .words) n ws′ → Does (string b) σ (record { wordsAt = n; textAt = t; words = ws′; text = ts′ })
+  string-does p =
+      record {
+        does = λ τ f h.
+            let l : t ≡ min (σ .textAt + length b) far = g .puts (omega arith) h .0 in
+            record {
+              stored = x ∷ y ∷ [];
+              many = refl;
+              exact = λ k.
+                  let i : x ≡ τ = ex (omega arith) ∙ omega arith in
+                  let j : y ≡ length b = ey (omega arith) ∙ omega arith in
+                  rw (i, j);
+              words = p;
+              text = g;
+            };
+      }

@@ -7,11 +7,11 @@ use cursor::load_int;
 use cursor::load_string;
 use load_state::cursor::Cursor;
 ghost use mathlib.Core.Path.{_≡_};
-ghost use mathlib.Core.List.{List};
+ghost use mathlib.Core.List.{List, [], _∷_};
 ghost use Prim.Native.Nat.{ℕ, _-_, _<_};
 ghost use Rattle.lent.specs.Memory.{Puts};
 ghost use Rattle.format.specs.Read.{loadInt, loadCount, loadString, loadText};
-ghost use Rattle.format.specs.Store.{string};
+ghost use Rattle.format.specs.Store.{plain, string, _⊕_};
 ghost use Rattle.format.specs.Store.{word as wordPiece};
 ghost use Rattle.load.specs.Step.{Step, space, world, moved, Does, Loads, repairedName, repairedSourcePiece};
 
@@ -70,13 +70,38 @@ pub fn put(words: &mut [u32], s: Load, v: u32) -> Load
 pub fn put_string(words: &mut [u32], s: Load, t: usize) -> Load
     ensures { λ r. ⌜ (r .cursor ≡ s .cursor) × ((b u u′ : List ℕ) → Puts b (s .text) u t u′ → Does (string b) (space s (now (words .entry)) u) (space r (now (words .exit)) u′)) ⌝ }
 {
-    let p = put(words, s, word(s.text));
-    let q = put(words, p, word(less(t, s.text)));
-    let cursor = q.cursor;
+    let w = lent::put_two(words, s.words, word(s.text), word(less(t, s.text)));
+    let cursor = s.cursor;
     Load {
         cursor,
-        words: q.words,
+        words: w,
         text: t,
+    }
+}
+
+// A tag before them.
+pub fn put_tagged(words: &mut [u32], s: Load, tag: u32, t: usize) -> Load
+    ensures { λ r. ⌜ (r .cursor ≡ s .cursor) × ((b u u′ : List ℕ) → Puts b (s .text) u t u′ → Does (wordPiece tag ⊕ string b) (space s (now (words .entry)) u) (space r (now (words .exit)) u′)) ⌝ }
+{
+    let w = lent::put_three(words, s.words, tag, word(s.text), word(less(t, s.text)));
+    let cursor = s.cursor;
+    Load {
+        cursor,
+        words: w,
+        text: t,
+    }
+}
+
+// Three words are stored.
+pub fn put3(words: &mut [u32], s: Load, a: u32, b: u32, c: u32) -> Load
+    ensures { λ r. ⌜ (r .cursor ≡ s .cursor) × ((t : List ℕ) → Does (plain (a ∷ b ∷ c ∷ [])) (space s (now (words .entry)) t) (space r (now (words .exit)) t)) ⌝ }
+{
+    let w = lent::put_three(words, s.words, a, b, c);
+    let cursor = s.cursor;
+    Load {
+        cursor,
+        words: w,
+        text: s.text,
     }
 }
 
@@ -98,15 +123,12 @@ pub fn load_source(chunk: &[u8], words: &mut [u32], text: &mut [u8], s: Load) ->
     let z = load_string(chunk, s.cursor);
     let p = at(s, z.cursor);
     if !z.own {
-        let a = put(words, p, 0);
-        let b = put(words, a, 0);
-        return put(words, b, 0);
+        return put3(words, p, 0, 0, 0);
     }
     let start = z.start;
     let end = start + z.len;
-    let q = put(words, p, 1);
-    let t = utf8::repair(&chunk[start..end], text, q.text);
-    put_string(words, q, t)
+    let t = utf8::repair(&chunk[start..end], text, p.text);
+    put_tagged(words, p, 1, t)
 }
 
 // An integer goes from the chunk to the words.

@@ -6,14 +6,14 @@ use load::copy_int;
 use load::cursor::Constant;
 use load::cursor::load_constant;
 use load::load_name;
-use load::put;
-use load::put_string;
+use load::put_tagged;
+use load::put3;
 ghost use mathlib.Core.Path.{_≡_};
 ghost use mathlib.Core.Bool.{cond};
-ghost use mathlib.Core.List.{List, [], _∷_};
+ghost use mathlib.Core.List.{List};
 ghost use Prim.Native.Nat.{ℕ};
 ghost use Rattle.format.specs.Read.{loadList, loadText, loadLocal, loadConstant};
-ghost use Rattle.format.specs.Store.{constantPiece, plain};
+ghost use Rattle.format.specs.Store.{constantPiece};
 ghost use Rattle.format.specs.Store.{list as listPiece};
 ghost use Rattle.load.specs.Step.{valueOf, Within, space, world, Does, Loads};
 ghost use Rattle.load_function.specs.Repaired.{repairedLocalPiece, repairedLocals, repairedNames};
@@ -22,15 +22,6 @@ fn bit(b: bool) -> u32
     ensures { λ r. ⌜ r ≡ cond b 1 0 ⌝ }
 {
     if b { 1 } else { 0 }
-}
-
-// Three words are stored.
-fn put3(words: &mut [u32], s: Load, a: u32, b: u32, c: u32) -> Load
-    ensures { λ r. ⌜ (r .cursor ≡ s .cursor) × ((t : List ℕ) → Does (plain (a ∷ b ∷ c ∷ [])) (space s (now (words .entry)) t) (space r (now (words .exit)) t)) ⌝ }
-{
-    let p = put(words, s, a);
-    let q = put(words, p, b);
-    put(words, q, c)
 }
 
 // A constant that was read goes to the store.
@@ -43,10 +34,9 @@ fn put_constant(chunk: &[u8], words: &mut [u32], text: &mut [u8], s: Load, k: Co
         Constant::Bool(b) => put3(words, s, 1, bit(b), 0),
         Constant::Num(high, low) => put3(words, s, 3, high, low),
         Constant::String(start, len) => {
-            let p = put(words, s, 4);
             let end = start + len;
-            let t = lent::put_bytes(text, p.text, &chunk[start..end]);
-            put_string(words, p, t)
+            let t = lent::put_bytes(text, s.text, &chunk[start..end]);
+            put_tagged(words, s, 4, t)
         }
     }
 }

@@ -1,8 +1,6 @@
 -- By the constant's kind, the three words and the text of its piece.
 use borrow.Author.Needs.{needs}
 use native.Mathlib.Omega.{arith}
-use mathlib.Core.Path.{_∙_}
-use Rattle.load.proofs.Stores.{join}
 use Rattle.load.proofs.Loads.{string-part}
 use Rattle.load_function.proofs.list.put_constant.Statement.{statement}
 use Rattle.load_function.proofs.list.put_constant.Tie as tie
@@ -31,14 +29,8 @@ put3-requires-3 c κs = search needs
 enum-known-k-3 : tie.Need-enum-known-k-3
 enum-known-k-3 c = search needs
 
-put-requires : tie.Need-put-requires
-put-requires c κs = search needs
-
 add-end : tie.Need-add-end
-add-end c =
-    let c₁ = c .before .before .before .before .before in
-    let c₂ = c₁ .before .before .before .before .before in
-    let w = rw (c₁ .k3 .given .1) at (c₂ .pre) in omega arith
+add-end c = let w = rw (c .before .k3 .given .1) at (c .before .before .before .before .before .before .pre) in omega arith
 
 sub-put-bytes : tie.Need-sub-put-bytes
 sub-put-bytes c = search needs
@@ -47,16 +39,13 @@ part-put-bytes-start : tie.Need-part-put-bytes-start
 part-put-bytes-start c = search needs
 
 part-put-bytes-end : tie.Need-part-put-bytes-end
-part-put-bytes-end c =
-    let c₁ = c .before .before .before .before .before .before in
-    let c₂ = c₁ .before .before .before .before .before in
-    let w = rw (c₁ .k3 .given .1) at (c₂ .pre) in omega arith
+part-put-bytes-end c = let w = rw (c .before .before .k3 .given .1) at (c .before .before .before .before .before .before .before .pre) in omega arith
 
 put-bytes-requires : tie.Need-put-bytes-requires
 put-bytes-requires c κs = search needs
 
-put-string-requires : tie.Need-put-string-requires
-put-string-requires c κs = search needs
+put-tagged-requires : tie.Need-put-tagged-requires
+put-tagged-requires c κs = search needs
 
 same-length : tie.Need-same-length
 same-length c = search needs
@@ -90,9 +79,8 @@ returns-4 : tie.Need-returns-4
 returns-4 c =
     let c₁ = c .before .before in
     let c₂ = c₁ .before .before .before .before in
-    let c₃ = c₂ .before .before .before .before .before in
-    let c₄ = c₃ .before .before .before in
-    (c₁ .put-string .ensures .0 ∙ c₃ .put .ensures .0, rw (c₄ .k3 .given .1) (join (c₃ .put .ensures .1 _) (c₁ .put-string .ensures .1 _ _ _ (rw string-part at (c₂ .put-bytes .ensures)))))
+    let c₃ = c₂ .before .before .before .before in
+    (c₁ .put-tagged .ensures .0, rw (c₃ .k3 .given .1) (c₁ .put-tagged .ensures .1 _ _ _ (rw string-part at (c₂ .put-bytes .ensures))))
 
 pub put-constant-spec : {M : Type 1} → statement M
 put-constant-spec =
@@ -106,13 +94,12 @@ put-constant-spec =
     enum-known-k-2
     put3-requires-3
     enum-known-k-3
-    put-requires
     add-end
     sub-put-bytes
     part-put-bytes-start
     part-put-bytes-end
     put-bytes-requires
-    put-string-requires
+    put-tagged-requires
     same-length
     returns
     same-length-2
