@@ -1,3 +1,4 @@
+-- Past the end nothing is stored; where there is room, the words are, at once.
 use borrow.Author.Needs.{needs}
 use native.Mathlib.Omega.{arith}
 use mathlib.Core.Path.{refl}
