@@ -10,15 +10,15 @@ use lib.ListN.{length, drop, getD, length-append, length-drop, length-take, List
 use lib.Seq.{getD-take, getD-drop, length-take-le}
 use Rattle.lent.specs.Memory.{Every, Word, Bytes}
 use Rattle.utf8.specs.Utf8.{isUtf8}
-use Rattle.utf8.specs.Laws.{utf8-bytes}
+use Rattle.utf8.specs.Laws.{utf8-bytes, utf8-ascii}
 use Rattle.format.specs.Store.{Piece, word, _⊕_, string, pieces, list, ints}
 use Rattle.format.specs.Stored.{part, Here}
 use Rattle.format.specs.Valid.{Name, ValidList}
 use Rattle.format.proofs.Stored.{here-left, here-right, here-part}
 use Rattle.proto.specs.declared.formed.Checked.{Checked}
 use Rattle.proto.specs.Walk.{Stands}
-use Rattle.proto.specs.Formed.{Passed, Check, Within, three, Three}
-use Rattle.proto.proofs.Heres.{here-length, here-get, here-none, here-one, here-join, here-take}
+use Rattle.proto.specs.Formed.{Passed, Check, Within, three, Three, Ascii}
+use Rattle.proto.proofs.Heres.{here-length, here-item, here-get, here-none, here-one, here-two, here-three, here-join, here-take}
 use Rattle.proto.proofs.Pieces.{Same, same-refl, stands-same, same-sym, stands-left, stands-right}
 
 pub never : {b : Bool} → b ≡ true → b ≡ false → ⊥
@@ -115,22 +115,34 @@ module _ {words text : List ℕ} where
   any-word c =
       check-as (λ v k. record { value = v; valid = omega (arith, k .below); same = same-refl }) (λ v k t. record { value = v; valid = record { above = zero-le; below = omega arith }; same = same-refl }) c
 
-  -- three words
-  pub check-three : {s a b r : Checked} (kind x y : ℕ) → Check words text (Within kind kind) word s a → Check words text (Within 0 x) word a b → Check words text (Within 0 y) word b r
-      → Check words text (Three kind x y) three s r
-  check-three kind x y c d f =
-      check-as
-      (λ v k. record {
-        value = record { first = v .0; second = v .1 .0; third = v .1 .1 };
-        valid = record { is = omega (arith, k .0 .above, k .0 .below); second = k .1 .0 .below; third = k .1 .1 .below };
-        same = same-refl;
-      })
-      (λ w k t. record {
-        value = (w .first, (w .second, w .third));
-        valid = (record { above = omega (arith, k .is); below = omega (arith, k .is) }, (record { above = zero-le; below = k .second }, record { above = zero-le; below = k .third }));
-        same = same-refl;
-      })
-      (check-then c (check-then d f))
+  -- ---- three words
+
+  module _ {s : Checked} {kind x y : ℕ} where
+    pub three-good : s .ok ≡ true → s .at + 3 ≤ length words → getD words (s .at) 0 ≡ kind → getD words (s .at + 1) 0 ≤ x → getD words (s .at + 2) 0 ≤ y
+        → Check words text (Three kind x y) three s (record { ok = true; at = s .at + 3; to = s .to })
+    three-good e h i j k =
+        record {
+          sound = λ z. (
+            e,
+            record {
+              value = record { first = getD words (s .at) 0; second = getD words (s .at + 1) 0; third = getD words (s .at + 2) 0 };
+              valid = record { is = i; second = j; third = k };
+              stands = record { in-words = here-three h; in-text = here-none };
+            },
+          );
+          complete = λ z v u t. record { ok = refl; at = refl; to = sym (add-zero _) };
+        }
+
+    pub three-bad : {r : Checked} → r .ok ≡ false → (s .ok ≡ true → s .at + 3 ≤ length words → getD words (s .at) 0 ≡ kind → getD words (s .at + 1) 0 ≤ x → getD words (s .at + 2) 0 ≤ y → ⊥)
+        → Check words text (Three kind x y) three s r
+    three-bad e f =
+        check-wrong e
+        (λ o v k t.
+        let w = t .in-words in
+        let l = v .first ∷ v .second ∷ v .third ∷ [] in
+        let i : getD words (s .at + 1) 0 ≡ v .second = here-item l 1 (omega arith) w in
+        let j : getD words (s .at + 2) 0 ≡ v .third = here-item l 2 (omega arith) w in
+        f o (omega (arith, here-length l w)) (here-get (v .first) _ w ∙ k .is) (omega (arith, k .second)) (omega (arith, k .third)))
 
 -- ---- lists
 
@@ -237,43 +249,29 @@ module _ {words : List ℕ} (text : List ℕ) {s m : Checked} {n : ℕ} (e : n �
 
 -- ---- strings
 
-module _ {words : List ℕ} (text : List ℕ) {s a b : Checked} {place n : ℕ} {found : List ℕ} (c : (t : List ℕ) → Check words t (Within 0 4294967295) word s a) (d : (t : List ℕ) → Check words t (Within 0 4294967295) word a b)
-    (e : place ≡ getD words (s .at) 0) (f : n ≡ getD words (a .at) 0) (g : found ≡ part text place n) (w : (i : ℕ) → getD words i 0 < 2 ^ 32) where
-  both : Check {A = ℕ × ℕ} words text (λ v. Within 0 4294967295 (v .0) × Within 0 4294967295 (v .1)) (λ v. word (v .0) ⊕ word (v .1)) s b
-  both = check-then (c text) (d text)
-
-  -- where two words stand, they are those that were read
-  two-words : {x y : ℕ} → s .ok ≡ true → Here words (s .at) (x ∷ y ∷ []) → (place ≡ x) × (n ≡ y) × Passed (word x ⊕ word y) s b
-  two-words {x} {y} o h =
-      let k = here-get x (y ∷ []) h in
-      let i : Within 0 4294967295 x = record { above = zero-le; below = omega (arith, w (s .at)) } in
-      let m = c text .complete o x i (record { in-words = here-left (x ∷ []) (y ∷ []) h; in-text = here-none }) in
-      let l : getD words (a .at) 0 ≡ y = rw (m .at) (here-get y [] (here-right (x ∷ []) (y ∷ []) h)) in
-      let j : Within 0 4294967295 y = record { above = zero-le; below = omega (arith, w (a .at)) } in
-      (e ∙ k, f ∙ l, both .complete o (x, y) (i, j) (record { in-words = h; in-text = here-none }))
-
-  pub string-good : ((i : ℕ) → getD text i 0 < 256) → b .ok ≡ true → place ≡ s .to → length found ≡ n → Check words text Bytes string s (record { ok = true; at = b .at; to = place + n })
-  string-good y o q z =
+module _ {words text : List ℕ} {s : Checked} where
+  pub string-good : ((i : ℕ) → getD text i 0 < 256) → s .ok ≡ true → s .at + 2 ≤ length words → getD words (s .at) 0 ≡ s .to → getD words (s .at + 1) 0 ≤ length text - s .to
+      → Check words text Bytes string s (record { ok = true; at = s .at + 2; to = s .to + getD words (s .at + 1) 0 })
+  string-good y o h p q =
+      let n = getD words (s .at + 1) 0 in
+      let l = part text (s .to) n in
+      let g : length l ≡ n = length-take-le n (drop (s .to) text) (rw length-drop q) in
       record {
-        sound = λ h.
-            let x = both .sound o in
-            let v = x .1 .value in
-            let r = two-words {x = v .0} {y = v .1} (x .0) (x .1 .stands .in-words) in
-            let e₀ : v .0 ≡ s .to = sym (r .0) ∙ q in
-            let e₁ : v .1 ≡ length found = sym (r .1) ∙ sym z in
-            let i : Here words (s .at) (s .to ∷ length found ∷ []) = rw (e₀, e₁) at (x .1 .stands .in-words) in
-            let j : Here text (s .to) found = rw (g, q) (here-take n) in
-            (x .0, record { value = found; valid = rw g (part-below 256 text place n y); stands = record { in-words = i; in-text = j } });
-        complete = λ h l k u. let r = two-words {x = s .to} {y = length l} h (u .in-words) in record { ok = refl; at = r .2 .at; to = omega (arith, r .0, r .1) };
+        sound = λ z. (
+          o,
+          record { value = l; valid = part-below 256 text (s .to) n y; stands = record { in-words = rw g (rw p at (here-two {xs = words} {at = s .at} h)); in-text = here-take n } },
+        );
+        complete = λ z x v t. let i = here-item (s .to ∷ length x ∷ []) 1 (omega arith) (t .in-words) in record { ok = refl; at = refl; to = omega (arith, i) };
       }
 
-  pub string-bad : {r : Checked} → r .ok ≡ false → (b .ok ≡ true → place ≡ s .to → length found ≡ n → ⊥) → Check words text Bytes string s r
-  string-bad o q =
-      check-wrong o
-      (λ h l k u.
-      let r = two-words {x = s .to} {y = length l} h (u .in-words) in
-      let i : found ≡ l = g ∙ rw (r .0, r .1) (here-part l (u .in-text)) in
-      q (r .2 .ok) (r .0) (ap length i ∙ sym (r .1)))
+  pub string-bad : {r : Checked} → r .ok ≡ false → (s .ok ≡ true → s .at + 2 ≤ length words → getD words (s .at) 0 ≡ s .to → getD words (s .at + 1) 0 ≤ length text - s .to → ⊥) → Check words text Bytes string s r
+  string-bad e f =
+      check-wrong e
+      (λ o x v t.
+      let w = t .in-words in
+      let l = s .to ∷ length x ∷ [] in
+      let i : getD words (s .at + 1) 0 ≡ length x = here-item l 1 (omega arith) w in
+      f o (omega (arith, here-length l w)) (here-get (s .to) _ w) (omega (arith, here-length x (t .in-text))))
 
 module _ {words text : List ℕ} {s r : Checked} (c : Check words text Bytes string s r) where
   pub string-within : r .ok ≡ true → s .to ≤ r .to
@@ -298,3 +296,14 @@ module _ {words text : List ℕ} {s r : Checked} (c : Check words text Bytes str
 
   pub name-stopped : {q : Checked} → r .ok ≡ false → q .ok ≡ false → Check words text (λ n. Name n) string s q
   name-stopped o k = check-wrong k (λ h l v t. never (c .complete h l (utf8-bytes l v) t .ok) o)
+
+  -- each name is text where all of the text is ASCII
+  pub ascii-name : Ascii text → Check words text (λ n. Name n) string s r
+  ascii-name h =
+      record {
+        sound = λ z.
+            let x = c .sound z in
+            let l = x .1 .value in
+            (x .0, record { value = l; valid = utf8-ascii l (rw (here-part l (x .1 .stands .in-text)) at (part-below 0x80 text (s .to) (length l) h)); stands = x .1 .stands });
+        complete = λ z l v t. c .complete z l (utf8-bytes l v) t;
+      }

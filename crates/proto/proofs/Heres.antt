@@ -1,5 +1,5 @@
 -- A list that stands at a place of another: its length, its items, and two of them one behind the other.
-use Prim.Native.Nat.{ℕ, _+_, _-_, _<_, min}
+use Prim.Native.Nat.{ℕ, _+_, _-_, _≤_, _<_, min}
 use mathlib.Core.Path.{_≡_, refl, sym, ap, _∙_}
 use mathlib.Core.List.{List, [], _∷_, _++_, append-assoc, append-nil}
 use native.Mathlib.Omega.{arith}
@@ -37,6 +37,15 @@ module _ {xs : List ℕ} {at : ℕ} where
   -- what stands there is a part of the list
   pub here-take : (n : ℕ) → Here xs at (take n (drop at xs))
   here-take n = record { more = drop n (drop at xs); is = sym (take-append-drop n (drop at xs)) }
+
+-- two words, and three
+pub here-two : {xs : List ℕ} {at : ℕ} → at + 2 ≤ length xs → Here xs at (getD xs at 0 ∷ getD xs (at + 1) 0 ∷ [])
+here-two {xs} {at} h = here-join (getD xs at 0 ∷ []) (getD xs (at + 1) 0 ∷ []) (here-one (omega arith)) (here-one (omega arith))
+
+pub here-three : {xs : List ℕ} {at : ℕ} → at + 3 ≤ length xs → Here xs at (getD xs at 0 ∷ getD xs (at + 1) 0 ∷ getD xs (at + 2) 0 ∷ [])
+here-three {xs} {at} h =
+    let e : at + 1 + 1 ≡ at + 2 = omega arith in
+    here-join (getD xs at 0 ∷ []) (getD xs (at + 1) 0 ∷ getD xs (at + 2) 0 ∷ []) (here-one (omega arith)) (rw e at (here-two {xs = xs} {at = at + 1} (omega arith)))
 
 nil-of : (l : List ℕ) → length l ≡ 0 → l ≡ []
 nil-of [] e = refl

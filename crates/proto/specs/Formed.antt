@@ -1,10 +1,10 @@
 -- Whether a store is well formed, and what a step of the check answers.
-use Prim.Native.Nat.{ℕ, _+_, _≤_}
+use Prim.Native.Nat.{ℕ, _+_, _-_, _≤_, _<_}
 use mathlib.Core.Path.{_≡_}
 use mathlib.Core.List.{List, [], _∷_}
 use mathlib.Core.Bool.{Bool, true, false}
 use mathlib.Core.Option.{Option, none, some}
-use lib.ListN.{length}
+use lib.ListN.{length, getD}
 use Rattle.format.specs.Tree.{Function, Functions, count}
 use Rattle.format.specs.Read.{limit}
 use Rattle.format.specs.Store.{Piece, plain}
@@ -36,6 +36,11 @@ pub record Check {A : Type 0} (words text : List ℕ) (ok : A → Type 0) (piece
   pub sound : r .ok ≡ true → (s .ok ≡ true) × Found words text ok piece s
   pub complete : s .ok ≡ true → (a : A) → ok a → Stands words text (s .at) (s .to) (piece a) → Passed (piece a) s r
 
+-- what a test of room says: n items from a place on are within so many, or they are not
+pub record Room (r : Bool) (len at n : ℕ) : Type 0 where
+  pub is : r ≡ true → n ≤ len - at
+  pub not : r ≡ false → n ≤ len - at → ⊥
+
 -- ---- what the steps look for
 
 pub record Within (low high w : ℕ) : Type 0 where
@@ -55,6 +60,10 @@ pub record Three (kind a b : ℕ) (w : Words) : Type 0 where
   pub is : w .first ≡ kind
   pub second : w .second ≤ a
   pub third : w .third ≤ b
+
+-- every byte is ASCII, and so is what stands past the end
+abbrev pub Ascii : List ℕ → Type 0
+Ascii text = (k : ℕ) → getD text k 0 < 0x80
 
 -- the functions in a function
 pub record ValidChildren (allowance : ℕ) (fs : Functions) : Type 0 where

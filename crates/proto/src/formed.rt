@@ -4,7 +4,7 @@ use crate::walk::word_at;
 use format::MOST;
 pub use format::name_ok;
 ghost use mathlib.Core.Path.{_≡_};
-ghost use mathlib.Core.Bool.{false};
+ghost use mathlib.Core.Bool.{false, true};
 ghost use mathlib.Core.List.{List};
 ghost use Prim.Native.Nat.{ℕ};
 ghost use Rattle.lent.specs.Memory.{Word, Bytes};
@@ -13,7 +13,7 @@ ghost use Rattle.format.specs.Store.{word as wordPiece};
 ghost use Rattle.format.specs.Stored.{treeOf};
 ghost use Rattle.format.specs.Valid.{Name, Valid, ValidSource, ValidConstant, ValidLocal, ValidList};
 ghost use Rattle.proto.specs.Walk.{childrenPiece};
-ghost use Rattle.proto.specs.Formed.{isHeld, Check, Within, Three, three, ValidChildren};
+ghost use Rattle.proto.specs.Formed.{isHeld, Check, Room, Within, Three, three, Ascii, ValidChildren};
 
 // The greatest word.
 const ANY: u32 = 4294967295;
@@ -65,40 +65,77 @@ fn check_word(words: &[u32], s: Checked, low: u32, high: u32) -> Checked
     wrong()
 }
 
+// Whether n items from a place on are within so many.
+fn is_within(len: usize, at: usize, n: usize) -> bool
+    ensures { λ r. ⌜ Room r len at n ⌝ }
+{
+    if n == 0 {
+        return true;
+    }
+    if len < n {
+        return false;
+    }
+    if len - n < at {
+        return false;
+    }
+    true
+}
+
 // Three words: a kind, and two with their greatest values.
 fn check_three(words: &[u32], s: Checked, kind: u32, a: u32, b: u32) -> Checked
     ensures { λ r. ⌜ ((t : List ℕ) → Check (now (words .entry)) t (Three kind a b) three s r) ⌝ }
 {
-    let first = check_word(words, s, kind, kind);
-    let second = check_word(words, first, 0, a);
-    check_word(words, second, 0, b)
+    let at = s.at;
+    if !s.ok {
+        return s;
+    }
+    if !is_within(words.len(), at, 3) {
+        return wrong();
+    }
+    if words[at] != kind {
+        return wrong();
+    }
+    if a < words[at + 1] {
+        return wrong();
+    }
+    if b < words[at + 2] {
+        return wrong();
+    }
+    Checked {
+        ok: true,
+        at: at + 3,
+        to: s.to,
+    }
 }
 
 // The place and the length of a string, which stands next in the text.
 fn check_string(words: &[u32], text: &[u8], s: Checked) -> Checked
     ensures { λ r. ⌜ Check (now (words .entry)) (now (text .entry)) Bytes string s r ⌝ }
 {
-    let a = check_word(words, s, 0, ANY);
-    let b = check_word(words, a, 0, ANY);
-    let place = word_at(words, s.at) as usize;
-    let n = word_at(words, a.at) as usize;
-    let found = part(text, place, n);
-    if b.ok {
-        if place == s.to {
-            if found.len() == n {
-                return Checked {
-                    ok: true,
-                    at: b.at,
-                    to: place + n,
-                };
-            }
-        }
+    let at = s.at;
+    let to = s.to;
+    if !s.ok {
+        return s;
     }
-    wrong()
+    if !is_within(words.len(), at, 2) {
+        return wrong();
+    }
+    if words[at] as usize != to {
+        return wrong();
+    }
+    let n = words[at + 1] as usize;
+    if !is_within(text.len(), to, n) {
+        return wrong();
+    }
+    Checked {
+        ok: true,
+        at: at + 2,
+        to: to + n,
+    }
 }
 
 // A string that is UTF-8.
-fn check_name(words: &[u32], text: &[u8], s: Checked) -> Checked
+fn check_utf8(words: &[u32], text: &[u8], s: Checked) -> Checked
     ensures { λ r. ⌜ Check (now (words .entry)) (now (text .entry)) Name string s r ⌝ }
 {
     let r = check_string(words, text, s);
@@ -110,15 +147,27 @@ fn check_name(words: &[u32], text: &[u8], s: Checked) -> Checked
     wrong()
 }
 
+// A string that is UTF-8, as each is where the whole text is ASCII.
+fn check_name(words: &[u32], text: &[u8], ascii: bool, s: Checked) -> Checked
+    requires { ⌜ (ascii ≡ true → Ascii (now text)) ⌝ }
+    ensures { λ r. ⌜ Check (now (words .entry)) (now (text .entry)) Name string s r ⌝ }
+{
+    if ascii {
+        return check_string(words, text, s);
+    }
+    check_utf8(words, text, s)
+}
+
 // The source of a function: inherited, or its own.
-fn check_source(words: &[u32], text: &[u8], s: Checked) -> Checked
+fn check_source(words: &[u32], text: &[u8], ascii: bool, s: Checked) -> Checked
+    requires { ⌜ (ascii ≡ true → Ascii (now text)) ⌝ }
     ensures { λ r. ⌜ Check (now (words .entry)) (now (text .entry)) ValidSource sourcePiece s r ⌝ }
 {
     if word_at(words, s.at) == 0 {
         return check_three(words, s, 0, 0, 0);
     }
     let own = check_word(words, s, 1, 1);
-    check_name(words, text, own)
+    check_name(words, text, ascii, own)
 }
 
 // A constant: Nil, Bool, Num or String.
@@ -138,10 +187,11 @@ fn check_constant(words: &[u32], text: &[u8], s: Checked) -> Checked
 }
 
 // A local: its name, start and end.
-fn check_local(words: &[u32], text: &[u8], s: Checked) -> Checked
+fn check_local(words: &[u32], text: &[u8], ascii: bool, s: Checked) -> Checked
+    requires { ⌜ (ascii ≡ true → Ascii (now text)) ⌝ }
     ensures { λ r. ⌜ Check (now (words .entry)) (now (text .entry)) ValidLocal localPiece s r ⌝ }
 {
-    let name = check_name(words, text, s);
+    let name = check_name(words, text, ascii, s);
     let start = check_word(words, name, 0, ANY);
     check_word(words, start, 0, ANY)
 }
@@ -183,7 +233,8 @@ fn check_constants(words: &[u32], text: &[u8], s: Checked) -> Checked
 }
 
 // The locals.
-fn check_locals(words: &[u32], text: &[u8], s: Checked) -> Checked
+fn check_locals(words: &[u32], text: &[u8], ascii: bool, s: Checked) -> Checked
+    requires { ⌜ (ascii ≡ true → Ascii (now text)) ⌝ }
     ensures { λ r. ⌜ Check (now (words .entry)) (now (text .entry)) (ValidList ValidLocal) (list localPiece) s r ⌝ }
 {
     let n = word_at(words, s.at);
@@ -193,14 +244,15 @@ fn check_locals(words: &[u32], text: &[u8], s: Checked) -> Checked
         if !p.ok {
             return p;
         }
-        p = check_local(words, text, p);
+        p = check_local(words, text, ascii, p);
         i += 1;
     }
     p
 }
 
 // The upvalues' names.
-fn check_names(words: &[u32], text: &[u8], s: Checked) -> Checked
+fn check_names(words: &[u32], text: &[u8], ascii: bool, s: Checked) -> Checked
+    requires { ⌜ (ascii ≡ true → Ascii (now text)) ⌝ }
     ensures { λ r. ⌜ Check (now (words .entry)) (now (text .entry)) (ValidList (λ n. Name n)) (list string) s r ⌝ }
 {
     let n = word_at(words, s.at);
@@ -210,14 +262,15 @@ fn check_names(words: &[u32], text: &[u8], s: Checked) -> Checked
         if !p.ok {
             return p;
         }
-        p = check_name(words, text, p);
+        p = check_name(words, text, ascii, p);
         i += 1;
     }
     p
 }
 
 // The functions in a function, each with so many nested at most.
-fn check_functions(words: &[u32], text: &[u8], s: Checked, allowance: u32) -> Checked
+fn check_functions(words: &[u32], text: &[u8], ascii: bool, s: Checked, allowance: u32) -> Checked
+    requires { ⌜ (ascii ≡ true → Ascii (now text)) ⌝ }
     ensures { λ r. ⌜ Check (now (words .entry)) (now (text .entry)) (ValidChildren allowance) childrenPiece s r ⌝ }
 {
     let n = word_at(words, s.at);
@@ -227,29 +280,30 @@ fn check_functions(words: &[u32], text: &[u8], s: Checked, allowance: u32) -> Ch
         if !p.ok {
             return p;
         }
-        p = check_function(words, text, p, allowance);
+        p = check_function(words, text, ascii, p, allowance);
         i += 1;
     }
     p
 }
 
 // A function.
-fn check_function(words: &[u32], text: &[u8], s: Checked, allowance: u32) -> Checked
+fn check_function(words: &[u32], text: &[u8], ascii: bool, s: Checked, allowance: u32) -> Checked
+    requires { ⌜ (ascii ≡ true → Ascii (now text)) ⌝ }
     ensures { λ r. ⌜ Check (now (words .entry)) (now (text .entry)) (λ f. Valid f allowance) functionPiece s r ⌝ }
 {
     if allowance == 0 {
         return wrong();
     }
-    let source = check_source(words, text, s);
+    let source = check_source(words, text, ascii, s);
     let first = check_word(words, source, 0, ANY);
     let last = check_word(words, first, 0, ANY);
     let packed = check_word(words, last, 0, ANY);
     let code = check_ints(words, packed);
     let constants = check_constants(words, text, code);
-    let functions = check_functions(words, text, constants, allowance - 1);
+    let functions = check_functions(words, text, ascii, constants, allowance - 1);
     let lines = check_ints(words, functions);
-    let locals = check_locals(words, text, lines);
-    check_names(words, text, locals)
+    let locals = check_locals(words, text, ascii, lines);
+    check_names(words, text, ascii, locals)
 }
 
 // Whether the store holds a tree: refusal 10 where it does not.
@@ -267,7 +321,8 @@ pub fn check_store(words: &[u32], text: &[u8]) -> bool
         at: 0,
         to: 0,
     };
-    let r = check_function(words, text, start, DEPTH);
+    let ascii = utf8::is_ascii(text);
+    let r = check_function(words, text, ascii, start, DEPTH);
     if r.ok {
         if r.at == words.len() {
             return r.to == text.len();

@@ -217,3 +217,10 @@ sequence-bytes (b ∷ bs) h = row-bytes (rowOf table3-7 b) b bs (leads table3-7 
 pub utf8-bytes : (s : List ℕ) → isUtf8 s ≡ true → Bytes s
 unfolding Every
 utf8-bytes = by-sequences Bytes tt (λ q rest h i. every-append Byte q rest (sequence-bytes q h) i)
+
+-- ---- ASCII is text
+
+pub utf8-ascii : (s : List ℕ) → Every (λ b. b < 0x80) s → isUtf8 s ≡ true
+unfolding Every
+utf8-ascii [] h = utf8-nil
+utf8-ascii (b ∷ bs) h = utf8-sequence bs (b ∷ []) (ascii-sequence b (h .0)) ∙ utf8-ascii bs (h .1)

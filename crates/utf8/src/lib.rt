@@ -1,5 +1,5 @@
 // UTF-8: whether bytes are well-formed, and their repair.
-ghost use Prim.Native.Nat.{_+_, _≤_, _<_};
+ghost use Prim.Native.Nat.{ℕ, _+_, _≤_, _<_};
 ghost use mathlib.Core.Path.{_≡_};
 ghost use mathlib.Core.Bool.{true};
 ghost use lib.ListN.{length, drop, getD};
@@ -215,6 +215,22 @@ pub fn is_utf8(bytes: &[u8]) -> bool
     ensures { λ r. ⌜ r ≡ isUtf8 (now (bytes .entry)) ⌝ }
 {
     text_end(bytes, 0) == bytes.len()
+}
+
+// Whether bytes are ASCII. The loop has one way out, so that it becomes vector instructions.
+pub fn is_ascii(bytes: &[u8]) -> bool
+    ensures { λ r. ⌜ (r ≡ true → (k : ℕ) → getD (now (bytes .entry)) k 0 < 0x80) ⌝ }
+{
+    let mut top: u8 = 0;
+    let mut i: usize = 0;
+    while i < bytes.len() {
+        let b = bytes[i];
+        if top < b {
+            top = b;
+        }
+        i += 1;
+    }
+    top < 0x80
 }
 
 // Writes U+FFFD at a place. Answers the next place.

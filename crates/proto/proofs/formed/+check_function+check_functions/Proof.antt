@@ -30,10 +30,10 @@ use Rattle.proto.proofs.formed.+check_function+check_functions.{stateme
 use Rattle.proto.proofs.formed.+check_function+check_functions.Tie.{close}
 
 abbrev μ-check-function : Measures 2 check-function-kinds.ps ℕ
-μ-check-function κs a = a .1 .1 .1 .0 + a .1 .1 .1 .0
+μ-check-function κs a = a .1 .1 .1 .1 .0 + a .1 .1 .1 .1 .0
 
 abbrev μ-check-functions : Measures 2 check-functions-kinds.ps ℕ
-μ-check-functions κs a = a .1 .1 .1 .0 + a .1 .1 .1 .0 + 1
+μ-check-functions κs a = a .1 .1 .1 .1 .0 + a .1 .1 .1 .1 .0 + 1
 
 abbrev check-function-at : ℕ → In 2 check-function-kinds.ps
 check-function-at t =
@@ -106,16 +106,20 @@ check-function-check-functions-requires :
 check-function-check-functions-requires t c κs =
     let c₁ = c .before .before .before .before .before .before in
     let c₂ = c₁ .before .before .before in
-    (omega (arith, c₂ .pre .0, c₁ .if1 .left), tt)
+    (omega (arith, c₂ .pre .0, c₁ .if1 .left), c₂ .pre .1)
 
 check-function-check-ints-requires-2 : (t : ℕ) → check-function-lts.Need-check-ints-requires-2 (check-function-calls t) (check-function-at t) check-function.Post
 check-function-check-ints-requires-2 t c κs = search needs
 
 check-function-check-locals-requires : (t : ℕ) → check-function-lts.Need-check-locals-requires (check-function-calls t) (check-function-at t) check-function.Post
-check-function-check-locals-requires t c κs = search needs
+check-function-check-locals-requires t c κs =
+    let c₁ = c .before .before .before .before .before .before .before .before .before .before .before in
+    c₁ .pre .1
 
 check-function-check-names-requires : (t : ℕ) → check-function-lts.Need-check-names-requires (check-function-calls t) (check-function-at t) check-function.Post
-check-function-check-names-requires t c κs = search needs
+check-function-check-names-requires t c κs =
+    let c₁ = c .before .before .before .before .before .before .before .before .before .before .before .before in
+    c₁ .pre .1
 
 check-function-returns-2 : (t : ℕ) → check-function-lts.Need-returns-2 (check-function-calls t) (check-function-at t) check-function.Post
 check-function-returns-2 t c =
@@ -135,10 +139,10 @@ check-function-returns-2 t c =
     rw e (function-checked n (c₉ .check-source .ensures) (c₈ .check-word .ensures _) (c₇ .check-word2 .ensures _) (c₆ .check-word3 .ensures _) (c₅ .check-ints .ensures _) (c₄ .check-constants .ensures) (c₃ .check-functions .ensures) (c₂ .check-ints2 .ensures _) (c₁ .check-locals .ensures) (c .check-names .ensures))
 
 abbrev check-functions-Inv-loop : check-functions-lts.InvT-loop
-check-functions-Inv-loop words text allowance n p₀ i₀ p i = Loop (CheckAll words text (λ f. Valid f allowance) functionPiece) n p₀ i p
+check-functions-Inv-loop words text ascii allowance n p₀ i₀ p i = Loop (CheckAll words text (λ f. Valid f allowance) functionPiece) n p₀ i p
 
 abbrev check-functions-μ-loop : check-functions-lts.MeasureT-loop
-check-functions-μ-loop words text allowance n p₀ i₀ p i = n - i
+check-functions-μ-loop words text ascii allowance n p₀ i₀ p i = n - i
 
 check-functions-word-at-requires : (t : ℕ) → check-functions-lts.Need-word-at-requires (check-functions-calls t) (check-functions-at t) check-functions.Post check-functions-Inv-loop check-functions-μ-loop
 check-functions-word-at-requires t c κs = search needs
@@ -159,7 +163,7 @@ check-functions-returns t c =
 
 check-functions-check-function-requires :
     (t : ℕ) → check-functions-lts.Need-check-function-requires (check-functions-calls t) (check-functions-at t) check-functions.Post check-functions-Inv-loop check-functions-μ-loop
-check-functions-check-function-requires t c κs = (omega (arith, c .before .before .before .before .before .before .before .before .pre .0), tt)
+check-functions-check-function-requires t c κs = let p = c .before .before .before .before .before .before .before .before .pre in (omega (arith, p .0), p .1)
 
 check-functions-add-i : (t : ℕ) → check-functions-lts.Need-add-i (check-functions-calls t) (check-functions-at t) check-functions.Post check-functions-Inv-loop check-functions-μ-loop
 check-functions-add-i t c = omega arith

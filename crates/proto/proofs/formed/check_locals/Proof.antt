@@ -11,10 +11,10 @@ use Rattle.proto.proofs.formed.check_locals.Statement.{statement}
 use Rattle.proto.proofs.formed.check_locals.Tie as tie
 
 abbrev Inv-loop : tie.InvT-loop
-Inv-loop words text n p₀ i₀ p i = Loop (CheckAll words text ValidLocal localPiece) n p₀ i p
+Inv-loop words text ascii n p₀ i₀ p i = Loop (CheckAll words text ValidLocal localPiece) n p₀ i p
 
 abbrev μ-loop : tie.MeasureT-loop
-μ-loop words text n p₀ i₀ p i = n - i
+μ-loop words text ascii n p₀ i₀ p i = n - i
 
 word-at-requires : tie.Need-word-at-requires Inv-loop μ-loop
 word-at-requires c κs = search needs

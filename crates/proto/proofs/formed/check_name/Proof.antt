@@ -1,40 +1,21 @@
--- What was checked is the text from the place reached before it to the one reached behind it.
+-- Where the text is ASCII, a string of it is UTF-8.
 use borrow.Author.Needs.{needs}
 use native.Mathlib.Omega.{arith}
-use mathlib.Core.Logic.{⊎-elim}
-use Rattle.proto.proofs.Checks.{string-within, name-good, name-bad, name-stopped}
+use Rattle.proto.proofs.Checks.{ascii-name}
 use Rattle.proto.proofs.formed.check_name.Statement.{statement}
 use Rattle.proto.proofs.formed.check_name.Tie as tie
 
 check-string-requires : tie.Need-check-string-requires
 check-string-requires c κs = search needs
 
-sub-part : tie.Need-sub-part
-sub-part c = omega (arith, string-within (c .before .before .before .check-string .ensures) (c .before .before .if1 .taken))
-
-part-requires : tie.Need-part-requires
-part-requires c κs = search needs
-
-is-utf8-requires : tie.Need-is-utf8-requires
-is-utf8-requires c κs = search needs
-
 returns : tie.Need-returns
-returns c = name-good (c .before .before .before .before .before .before .check-string .ensures) (c .before .is-utf8 .ensures) (c .before .before .part .ensures) (c .if2 .taken)
+returns c = ascii-name (c .check-string .ensures) (c .before .before .before .before .pre (c .before .if1 .taken))
 
-wrong-requires : tie.Need-wrong-requires
-wrong-requires c κs = search needs
+check-utf8-requires : tie.Need-check-utf8-requires
+check-utf8-requires c κs = search needs
 
 returns-2 : tie.Need-returns-2
-returns-2 c = ⊎-elim (λ w. name-bad (c .before .before .check-string .ensures) (w .4 .ensures) (w .3 .ensures) (c .wrong .ensures) (w .5 .left)) (λ w. name-stopped (c .before .before .check-string .ensures) (w .left) (c .wrong .ensures)) (c .before .if1 .came)
+returns-2 c = search needs
 
 pub check-name-spec : {M : Type 1} → statement M
-check-name-spec =
-    tie.close
-    (tie.spec
-    check-string-requires
-    sub-part
-    part-requires
-    is-utf8-requires
-    returns
-    wrong-requires
-    returns-2)
+check-name-spec = tie.close (tie.spec check-string-requires returns check-utf8-requires returns-2)

@@ -12,8 +12,11 @@ returns c = held-no _ _ (λ f h. omega (arith, h .words-fit))
 returns-2 : tie.Need-returns-2
 returns-2 c = held-no _ _ (λ f h. omega (arith, h .text-fits))
 
+is-ascii-requires : tie.Need-is-ascii-requires
+is-ascii-requires c κs = search needs
+
 check-function-requires : tie.Need-check-function-requires
-check-function-requires c κs = search needs
+check-function-requires c κs = c .is-ascii .ensures
 
 returns-3 : tie.Need-returns-3
 returns-3 c = store-held (c .before .before .before .before .check-function .ensures) (c .before .before .before .if3 .taken) (omega arith) (omega arith) (omega arith)
@@ -26,4 +29,4 @@ returns-5 c = held-no _ _ (λ f h. never (store-passed (c .before .check-functio
 
 pub check-store-spec : {M : Type 1} → statement M
 check-store-spec =
-    tie.close (tie.spec returns returns-2 check-function-requires returns-3 returns-4 returns-5)
+    tie.close (tie.spec returns returns-2 is-ascii-requires check-function-requires returns-3 returns-4 returns-5)

@@ -1,75 +1,104 @@
--- Two words that were read are the place and the length. A string stands there only if they are the place reached and a length that the text has.
+-- The two words are the place reached and a length that the text has from there on, or no string stands there.
 use borrow.Author.Needs.{needs}
 use native.Mathlib.Omega.{arith}
-use mathlib.Core.Logic.{⊎-elim}
-use Rattle.proto.proofs.Checks.{never, string-good, string-bad}
+use Prim.Native.Nat.{_+_}
+use borrow.Author.Tests.{not-true, not-false}
+use Rattle.proto.proofs.Checks.{check-stopped, string-good, string-bad}
 use Rattle.proto.proofs.formed.check_string.Statement.{statement}
 use Rattle.proto.proofs.formed.check_string.Tie as tie
 
-check-word-requires : tie.Need-check-word-requires
-check-word-requires c κs = search needs
-
-check-word-requires-2 : tie.Need-check-word-requires-2
-check-word-requires-2 c κs = search needs
-
-word-at-requires : tie.Need-word-at-requires
-word-at-requires c κs = search needs
-
-cast-place : tie.Need-cast-place
-cast-place c = search needs
-
-word-at-requires-2 : tie.Need-word-at-requires-2
-word-at-requires-2 c κs = search needs
-
-cast-n : tie.Need-cast-n
-cast-n c = search needs
-
-part-requires : tie.Need-part-requires
-part-requires c κs = search needs
-
-add-t14 : tie.Need-add-t14
-add-t14 c = search needs
-
 returns : tie.Need-returns
-returns c =
-    let c₁ = c .before .before .before in
-    let c₂ = c₁ .before in
-    let c₃ = c₂ .before in
-    let c₄ = c₃ .before in
-    let c₅ = c₄ .before in
-    let c₆ = c₅ .before in
-    let c₇ = c₆ .before in
-    let c₈ = c₇ .before in
-    let c₉ = c₈ .before in
-    string-good (c₉ .args .text .now) (c₆ .check-word .ensures) (c₅ .check-word2 .ensures) (c₄ .word-at .ensures) (c₃ .word-at2 .ensures) (c₂ .part .ensures) (λ i. omega (arith, c₈ .shared-slice-known .given i)) (λ i. omega (arith, c₇ .shared-slice-known2 .given i)) (c₁ .if1 .taken) (omega arith) (omega arith)
+returns c = check-stopped (not-true _ (c .if1 .taken))
+
+is-within-requires : tie.Need-is-within-requires
+is-within-requires c κs = search needs
 
 wrong-requires : tie.Need-wrong-requires
 wrong-requires c κs = search needs
 
 returns-2 : tie.Need-returns-2
-returns-2 c =
-    let c₁ = c .before in
+returns-2 c = string-bad (c .wrong .ensures) (λ o h i j. c .before .before .is-within .ensures .not (not-true _ (c .before .if2 .taken)) (omega arith))
+
+mul-if3 : tie.Need-mul-if3
+mul-if3 c = omega (arith, c .before .is-within .ensures .is (not-false _ (c .if2 .left)))
+
+shared-slice-read-if3 : tie.Need-shared-slice-read-if3
+shared-slice-read-if3 c = omega (arith, c .before .before .is-within .ensures .is (not-false _ (c .before .if2 .left)))
+
+cast-if3 : tie.Need-cast-if3
+cast-if3 c =
+    let c₁ = c .before .before .before .before .before .before in
     let c₂ = c₁ .before in
+    omega (arith, c₁ .shared-slice-known .given (c₂ .args .s .at))
+
+wrong-requires-2 : tie.Need-wrong-requires-2
+wrong-requires-2 c κs = search needs
+
+returns-3 : tie.Need-returns-3
+returns-3 c = string-bad (c .wrong2 .ensures) (λ o h i j. omega arith)
+
+add-n : tie.Need-add-n
+add-n c = omega (arith, c .before .before .before .is-within .ensures .is (not-false _ (c .before .before .if2 .left)))
+
+mul-n : tie.Need-mul-n
+mul-n c = omega (arith, c .before .before .before .is-within .ensures .is (not-false _ (c .before .before .if2 .left)))
+
+shared-slice-read-n : tie.Need-shared-slice-read-n
+shared-slice-read-n c = omega (arith, c .before .before .before .before .is-within .ensures .is (not-false _ (c .before .before .before .if2 .left)))
+
+cast-n : tie.Need-cast-n
+cast-n c =
+    let c₁ = c .before .before .before .before .before .before .before .before in
+    let c₂ = c₁ .before in
+    omega (arith, c₁ .shared-slice-known .given (c₂ .args .s .at + 1))
+
+is-within-requires-2 : tie.Need-is-within-requires-2
+is-within-requires-2 c κs = search needs
+
+wrong-requires-3 : tie.Need-wrong-requires-3
+wrong-requires-3 c κs = search needs
+
+returns-4 : tie.Need-returns-4
+returns-4 c = string-bad (c .wrong3 .ensures) (λ o h i j. c .before .before .is-within2 .ensures .not (not-true _ (c .before .if4 .taken)) j)
+
+add-t12 : tie.Need-add-t12
+add-t12 c =
+    let c₁ = c .before .before .before .before .before in
+    let c₂ = c₁ .before in
+    omega (arith, c₂ .is-within .ensures .is (not-false _ (c₁ .if2 .left)))
+
+add-t8 : tie.Need-add-t8
+add-t8 c = omega (arith, c .before .is-within2 .ensures .is (not-false _ (c .if4 .left)))
+
+returns-5 : tie.Need-returns-5
+returns-5 c =
+    let c₁ = c .before in
+    let c₂ = c₁ .before .before .before .before in
     let c₃ = c₂ .before in
     let c₄ = c₃ .before in
-    let c₅ = c₄ .before in
-    let c₆ = c₅ .before in
-    let c₇ = c₆ .before .before in
-    let c₈ = c₇ .before in
-    string-bad (c₈ .args .text .now) (c₆ .check-word .ensures) (c₅ .check-word2 .ensures) (c₄ .word-at .ensures) (c₃ .word-at2 .ensures) (c₂ .part .ensures) (λ i. omega (arith, c₇ .shared-slice-known .given i)) (c .wrong .ensures) (λ x y z. ⊎-elim (λ w. omega arith) (λ w. ⊎-elim (λ w. omega arith) (λ w. never x (w .left)) w) (c₁ .if1 .came))
+    let c₅ = c₄ .before .before in
+    string-good (λ i. omega (arith, c₅ .shared-slice-known2 .given i)) (not-false _ (c₄ .if1 .left)) (omega (arith, c₃ .is-within .ensures .is (not-false _ (c₂ .if2 .left)))) (omega arith) (c₁ .is-within2 .ensures .is (not-false _ (c .if4 .left)))
 
 pub check-string-spec : {M : Type 1} → statement M
 check-string-spec =
     tie.close
     (tie.spec
-    check-word-requires
-    check-word-requires-2
-    word-at-requires
-    cast-place
-    word-at-requires-2
-    cast-n
-    part-requires
-    add-t14
     returns
+    is-within-requires
     wrong-requires
-    returns-2)
+    returns-2
+    mul-if3
+    shared-slice-read-if3
+    cast-if3
+    wrong-requires-2
+    returns-3
+    add-n
+    mul-n
+    shared-slice-read-n
+    cast-n
+    is-within-requires-2
+    wrong-requires-3
+    returns-4
+    add-t12
+    add-t8
+    returns-5)
