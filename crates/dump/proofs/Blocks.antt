@@ -1,15 +1,14 @@
 -- The bytes of integers, sizes and strings: stored one by one, and in a loop.
-use Prim.Native.Nat.{ℕ, suc, _+_, _*_, _/_, _%_, _≤_, _<_, min}
+use Prim.Native.Nat.{ℕ, suc, _+_, _*_, _/_, _%_, _≤_, _<_}
 use mathlib.Core.Path.{_≡_, refl, sym, ap, _∙_}
 use mathlib.Core.List.{List, [], _∷_, _++_, append-assoc, append-nil}
 use native.Mathlib.Omega.{arith}
 use native.Mathlib.Nat.{mul-suc}
 use native.Mathlib.Numerals.{add-one}
-use lib.ListN.{length, take, drop, getD, set, length-append, drop-of-length-le}
+use lib.ListN.{length, take, getD, set, length-append}
 use lib.Seq.{sets, take-suc, take-length, length-take-le}
 use Rattle.lent.specs.Memory.{far, Puts}
-use Rattle.lent.proofs.Lists.{drop-more}
-use Rattle.lent.proofs.Writes.{sets-append, put-stored, put-lost, put-then}
+use Rattle.lent.proofs.Writes.{sets-append, put-stored}
 use Rattle.format.specs.Write.{dumpNumber, dumpInt, dumpSize, dumpText, each}
 
 -- ---- one integer
@@ -54,38 +53,43 @@ size-ints n =
     let e : n / 256 / 256 / 256 / 256 ≡ high = d .1 ∙ omega arith in
     rw (a .0, b .0, c .0, d .0, e)
 
--- ---- a string
+-- ---- one behind the other
 
-pub string-puts : {at a b r : ℕ} {out out₁ out₂ out′ : List ℕ} (s : List ℕ) → Puts (dumpSize (length s + 1)) at out a out₁ → Puts s a out₁ b out₂ → Puts (0 ∷ []) b out₂ r out′ → Puts (dumpText s) at out r out′
-string-puts s p q t = put-then (put-then p q) t
+-- b is stored behind a
+stored-then : {l m : List ℕ} (a b out : List ℕ) (at k : ℕ) → length a ≡ k → l ≡ sets out at a → m ≡ sets l (at + k) b → m ≡ sets out at (a ++ b)
+stored-then a b out at k n e f = f ∙ rw (e, ← n) (sets-append a out b at)
 
 pub size-length : (n : ℕ) → length (dumpSize n) ≡ 8
 size-length n = rw (size-ints n) (length-append (dumpInt (n % 4294967296)) _ ∙ rw (int-length (n % 4294967296), int-length (n / 4294967296)))
+
+pub size-stored : {out₁ out₂ : List ℕ} (out : List ℕ) (at n : ℕ) → out₁ ≡ sets out at (dumpInt (n % 4294967296)) → out₂ ≡ sets out₁ (at + 4) (dumpInt (n / 4294967296)) → out₂ ≡ sets out at (dumpSize n)
+size-stored out at n e f = rw (size-ints n) (stored-then (dumpInt (n % 4294967296)) (dumpInt (n / 4294967296)) out at 4 (int-length (n % 4294967296)) e f)
 
 pub string-length : (s : List ℕ) → length (dumpText s) ≡ length s + 9
 string-length s =
     let a : length (dumpSize (length s + 1) ++ s) ≡ 8 + length s = length-append (dumpSize (length s + 1)) s ∙ rw (size-length (length s + 1)) in
     length-append (dumpSize (length s + 1) ++ s) (0 ∷ []) ∙ omega (arith, a)
 
--- b is stored behind a
-stored-then : {l m : List ℕ} (a b out : List ℕ) (at k : ℕ) → length a ≡ k → l ≡ sets out at a → m ≡ sets l (at + k) b → m ≡ sets out at (a ++ b)
-stored-then a b out at k n e f = f ∙ rw (e, ← n) (sets-append a out b at)
-
-pub string-stored : {out₁ out₂ out₃ : List ℕ} (out s : List ℕ) (at : ℕ) → out₁ ≡ sets out at (dumpInt ((length s + 1) % 4294967296)) → out₂ ≡ sets out₁ (at + 4) (dumpInt ((length s + 1) / 4294967296))
-    → out₃ ≡ sets out₂ (at + 8) (take (length s) s) → set out₃ (at + 8 + length s) 0 ≡ sets out at (dumpText s)
-string-stored {out₂ = out₂} {out₃ = out₃} out s at e f g =
+pub string-stored : {out₁ out₂ : List ℕ} (out s : List ℕ) (at : ℕ) → out₁ ≡ sets out at (dumpSize (length s + 1)) → out₂ ≡ sets out₁ (at + 8) (take (length s) s)
+    → set out₂ (at + 8 + length s) 0 ≡ sets out at (dumpText s)
+string-stored {out₂ = out₂} out s at e g =
     let size = length s + 1 in
-    let a : out₂ ≡ sets out at (dumpSize size) = rw (size-ints size) (stored-then (dumpInt (size % 4294967296)) (dumpInt (size / 4294967296)) out at 4 (int-length (size % 4294967296)) e f) in
-    let b : out₃ ≡ sets out at (dumpSize size ++ s) = stored-then (dumpSize size) s out at 8 (size-length size) a (g ∙ rw (take-length s)) in
+    let b : out₂ ≡ sets out at (dumpSize size ++ s) = stored-then (dumpSize size) s out at 8 (size-length size) e (g ∙ rw (take-length s)) in
     let n : length (dumpSize size ++ s) ≡ 8 + length s = length-append (dumpSize size) s ∙ rw (size-length size) in
     let i : at + 8 + length s ≡ at + (8 + length s) = omega arith in
     stored-then (dumpSize size ++ s) (0 ∷ []) out at (8 + length s) n b (rw i)
 
-pub string-fits : {at : ℕ} {out out′ : List ℕ} (s : List ℕ) → at + (length s + 9) ≤ far → out′ ≡ sets out at (dumpText s) → Puts (dumpText s) at out (at + length s + 9) out′
-string-fits s h e = put-stored (omega (arith, string-length s)) e
+-- ---- what is stored is written
 
-pub string-lost : {at a r : ℕ} {out : List ℕ} (s : List ℕ) → length out ≤ at → a ≡ min (at + length s) far → r ≡ min (a + 9) far → Puts (dumpText s) at out r out
-string-lost s h p q = put-lost (omega (arith, string-length s)) h refl
+module _ {at r : ℕ} {out out′ : List ℕ} where
+  pub int-fits : (n : ℕ) → at + 4 ≤ far → r ≡ at + 4 → out′ ≡ sets out at (dumpInt n) → Puts (dumpInt n) at out r out′
+  int-fits n h k e = put-stored (omega (arith, int-length n)) e
+
+  pub size-fits : (n : ℕ) → at + 8 ≤ far → r ≡ at + 8 → out′ ≡ sets out at (dumpSize n) → Puts (dumpSize n) at out r out′
+  size-fits n h k e = put-stored (omega (arith, size-length n)) e
+
+  pub string-fits : (s : List ℕ) → at + (length s + 9) ≤ far → r ≡ at + length s + 9 → out′ ≡ sets out at (dumpText s) → Puts (dumpText s) at out r out′
+  string-fits s h k e = put-stored (omega (arith, string-length s)) e
 
 -- ---- a list
 
@@ -118,19 +122,6 @@ ints-turn out₀ l at i h e q =
     let t : each dumpInt (take (i + 1) l) ≡ each dumpInt (take i l) ++ dumpInt (getD l i 0) = rw (add-one i, take-suc l i 0 h) (each-append dumpInt (take i l) (getD l i 0 ∷ []) ∙ rw (each-one (getD l i 0))) in
     rw (q, e, t) (rw n at (sets-append (each dumpInt (take i l)) out₀ (dumpInt (getD l i 0)) at))
 
--- the next integer of those that are left
-pub ints-next : (l : List ℕ) (i : ℕ) → i < length l → each dumpInt (drop i l) ≡ dumpInt (getD l i 0) ++ each dumpInt (drop (i + 1) l)
-unfolding each
-ints-next l i h = rw (drop-more l i h)
-
-pub ints-none : (l : List ℕ) (i : ℕ) → length l ≤ i → each dumpInt (drop i l) ≡ []
-unfolding each
-ints-none l i h = rw (drop-of-length-le l h)
-
--- integers that fit, and integers for which there is no room
-pub ints-stored : {at : ℕ} {out out′ : List ℕ} (l : List ℕ) → at + 4 * length l ≤ far → out′ ≡ sets out at (each dumpInt l) → Puts (each dumpInt l) at out (at + 4 * length l) out′
-ints-stored l h e = put-stored (omega (arith, ints-length l)) e
-
-pub ints-lost : {at a b c r : ℕ} {out : List ℕ} (l : List ℕ) → length out ≤ at → a ≡ min (at + length l) far → b ≡ min (a + length l) far → c ≡ min (b + length l) far → r ≡ min (c + length l) far
-    → Puts (each dumpInt l) at out r out
-ints-lost l h p q s t = put-lost (omega (arith, ints-length l)) h refl
+-- they are written
+pub ints-fit : {at r : ℕ} {out out′ : List ℕ} (l : List ℕ) → at + 4 * length l ≤ far → r ≡ at + 4 * length l → out′ ≡ sets out at (each dumpInt l) → Puts (each dumpInt l) at out r out′
+ints-fit l h k e = put-stored (omega (arith, ints-length l)) e

@@ -1,6 +1,6 @@
 -- Functions: their source, and their parts one behind the other.
-use Prim.Native.Nat.{ℕ, suc, _+_}
-use mathlib.Core.Path.{_≡_, refl, sym}
+use Prim.Native.Nat.{ℕ, suc, _+_, _*_, _≤_, _<_}
+use mathlib.Core.Path.{_≡_, refl, sym, _∙_}
 use mathlib.Core.List.{List, [], _∷_, _++_, append-assoc}
 use mathlib.Core.Bool.{Bool, true, false, cond}
 use native.Mathlib.Omega.{arith}
@@ -8,7 +8,7 @@ use native.Mathlib.Nat.{add-assoc}
 use lib.ListN.{length, getD, length-append}
 use lib.Dec.{eqb}
 use borrow.Author.Tests.{ne-eqb}
-use Rattle.lent.specs.Memory.{Puts}
+use Rattle.lent.specs.Memory.{Every, Puts}
 use Rattle.format.specs.Tree.{Constant as Value}
 use Rattle.format.specs.Tree.{Source, Debug, Parts, Function, Functions, count, filled, kept}
 use Rattle.format.specs.Read.{same}
@@ -18,11 +18,13 @@ use Rattle.format.specs.Write.{dumpInt, dumpSize, dumpString, dumpText, dumpLis
 use Rattle.format.proofs.RoundTrip.{same-is}
 use Rattle.proto.specs.Walk.{Stands, Skips, children, childrenPiece}
 use Rattle.proto.proofs.Heres.{here-get}
-use Rattle.proto.proofs.Pieces.{Same, same-refl, same-is as same-pieces, stands-left, source-words}
+use Rattle.proto.proofs.Pieces.{Same, same-refl, same-is as same-pieces, same-behind, stands-left, source-words}
 use Rattle.proto.proofs.Walks.{past-words}
 use Rattle.proto.proofs.Stores.{children-count, children-list, every-valid}
-use Rattle.dump.specs.Step.{Reached, Dumps, constantsPiece, around}
+use Rattle.dump.specs.Step.{Reached, Dumps, Fits, Ready, SourceFits, Any, constantsPiece, around}
+use Rattle.dump.proofs.Blocks.{int-length, size-length, string-length}
 use Rattle.dump.proofs.Steps.{dumps-same, dumps-then, dumps-past, DumpsAll, counted}
+use Rattle.dump.proofs.Readies.{fits-same, fits-left, fits-right, word-fits, ints-fit}
 
 -- ---- the source
 
@@ -39,11 +41,17 @@ elided-inherited root source outer (Source.own s) e g z h f = absurd (omega (ari
 pub elided-compared : (t root : Bool) (source outer : List ℕ) → root ≡ false → (t ≡ true → source ≡ outer) × (source ≡ outer → t ≡ true) → t ≡ same source (around root outer)
 elided-compared t root source outer e h = sym (rw e (same-is t source outer h))
 
-module _ {at r : ℕ} {out out′ : List ℕ} (source : List ℕ) {e : Bool} where
-  pub put-elided : e ≡ true → Puts (dumpSize 0) at out r out′ → Puts (dumpString (cond e Source.inherited (Source.own source))) at out r out′
+module _ (at : ℕ) (source : List ℕ) {e : Bool} where
+  pub room-elided : {n : ℕ} → e ≡ true → at + length (dumpString (cond e Source.inherited (Source.own source))) ≤ n → at + 8 ≤ n
+  room-elided h r = let i : at + length (dumpSize 0) ≤ _ = rw h at r in omega (arith, i, size-length 0)
+
+  pub room-own : {n : ℕ} → e ≡ false → at + length (dumpString (cond e Source.inherited (Source.own source))) ≤ n → at + (length source + 9) ≤ n
+  room-own h r = let i : at + length (dumpText source) ≤ _ = rw h at r in omega (arith, i, string-length source)
+
+  pub put-elided : {r : ℕ} {out out′ : List ℕ} → e ≡ true → Puts (dumpSize 0) at out r out′ → Puts (dumpString (cond e Source.inherited (Source.own source))) at out r out′
   put-elided h p = rw h p
 
-  pub put-own : e ≡ false → Puts (dumpText source) at out r out′ → Puts (dumpString (cond e Source.inherited (Source.own source))) at out r out′
+  pub put-own : {r : ℕ} {out out′ : List ℕ} → e ≡ false → Puts (dumpText source) at out r out′ → Puts (dumpString (cond e Source.inherited (Source.own source))) at out r out′
   put-own h p = rw h p
 
 pub source-dumped : {words : List ℕ} {at a len n : ℕ} {out out′ : List ℕ} {e : Bool} (root : Bool) (outer source : List ℕ)
@@ -103,3 +111,161 @@ module _ {words text : List ℕ} {s a b c d e f r : Reached} (n : ℕ) (strip ro
   unfolding functionPiece
   function-dumped (Function.function p fs) v =
       record { dumps = λ to h. with-source p fs v (own (p .source) to (stands-left (sourcePiece (p .source)) (behind p fs) h)) .dumps to h }
+
+-- ---- what the parts of a function ask for
+
+-- a function up to each of its parts
+abbrev toLine : Parts → Piece
+toLine p = sourcePiece (p .source)
+
+abbrev toLast : Parts → Piece
+toLast p = toLine p ⊕ word (p .lineDefined)
+
+abbrev toPacked : Parts → Piece
+toPacked p = toLast p ⊕ word (p .lastLineDefined)
+
+abbrev toCode : Parts → Piece
+toCode p = toPacked p ⊕ word (packed p)
+
+abbrev toConstants : Parts → Piece
+toConstants p = toCode p ⊕ ints (p .code)
+
+abbrev toDebug : Parts → Functions → Piece
+toDebug p fs = toConstants p ⊕ constantsPiece (p .constants) fs
+
+abbrev fourBytes : Parts → List ℕ
+fourBytes p = p .numUpvalues ∷ p .numParams ∷ p .isVararg ∷ p .maxStackSize ∷ []
+
+module _ {words text : List ℕ} (s : Reached) (n : ℕ) (strip root : Bool) (outer source : List ℕ) (own : (v : Source) (to : ℕ) → Stands words text (s .at) to (sourcePiece v) → source ≡ filled outer v) where
+  abbrev first : List ℕ
+  first = dumpString (elided (around root outer) source)
+
+  abbrev Function-fits : Function → Type 0
+  Function-fits g = Fits words text (functionPiece g) (dumpFunction g strip (around root outer) outer) s
+
+  is-own : (p : Parts) (fs : Functions) → Function-fits (Function.function p fs) → source ≡ filled outer (p .source)
+  unfolding functionPiece
+  is-own p fs f = own (p .source) (f .to) (stands-left (sourcePiece (p .source)) (behind p fs) (f .stands))
+
+  module _ (p : Parts) (fs : Functions) (f : Function-fits (Function.function p fs)) where
+    abbrev inside : List ℕ
+    inside = dumpConstants (p .constants) (count fs) (dumpFunctions fs strip source)
+
+    fits₇ : Fits words text (toDebug p fs ⊕ debugPiece (p .debug)) (first ++ dumpInt (p .lineDefined) ++ dumpInt (p .lastLineDefined) ++ fourBytes p ++ dumpCode (p .code) ++ inside ++ dumpDebug (kept strip (p .debug))) s
+    unfolding functionPiece dumpFunction
+    fits₇ =
+        let g = is-own p fs f in
+        fits-same
+        (regroup (sourcePiece (p .source)) (word (p .lineDefined)) (word (p .lastLineDefined)) (word (packed p)) (ints (p .code)) (list constantPiece (p .constants)) (childrenPiece fs) (debugPiece (p .debug)))
+        (rw g)
+        f
+
+    fits₆ : Fits words text (toDebug p fs) (first ++ dumpInt (p .lineDefined) ++ dumpInt (p .lastLineDefined) ++ fourBytes p ++ dumpCode (p .code) ++ inside) s
+    fits₆ = fits-left (toDebug p fs) (debugPiece (p .debug)) (first ++ dumpInt (p .lineDefined) ++ dumpInt (p .lastLineDefined) ++ fourBytes p ++ dumpCode (p .code) ++ inside) (dumpDebug (kept strip (p .debug))) fits₇
+
+    fits₅ : Fits words text (toConstants p) (first ++ dumpInt (p .lineDefined) ++ dumpInt (p .lastLineDefined) ++ fourBytes p ++ dumpCode (p .code)) s
+    fits₅ = fits-left (toConstants p) (constantsPiece (p .constants) fs) (first ++ dumpInt (p .lineDefined) ++ dumpInt (p .lastLineDefined) ++ fourBytes p ++ dumpCode (p .code)) inside fits₆
+
+    fits₄ : Fits words text (toCode p) (first ++ dumpInt (p .lineDefined) ++ dumpInt (p .lastLineDefined) ++ fourBytes p) s
+    fits₄ = fits-left (toCode p) (ints (p .code)) (first ++ dumpInt (p .lineDefined) ++ dumpInt (p .lastLineDefined) ++ fourBytes p) (dumpCode (p .code)) fits₅
+
+    fits₃ : Fits words text (toPacked p) (first ++ dumpInt (p .lineDefined) ++ dumpInt (p .lastLineDefined)) s
+    fits₃ = fits-left (toPacked p) (word (packed p)) (first ++ dumpInt (p .lineDefined) ++ dumpInt (p .lastLineDefined)) (fourBytes p) fits₄
+
+    fits₂ : Fits words text (toLast p) (first ++ dumpInt (p .lineDefined)) s
+    fits₂ = fits-left (toLast p) (word (p .lastLineDefined)) (first ++ dumpInt (p .lineDefined)) (dumpInt (p .lastLineDefined)) fits₃
+
+  pub source-ready : (g : Function) → Function-fits g → SourceFits words outer source first s
+  source-ready (Function.function p fs) f =
+      record { text = text; value = p .source; filled-in = is-own p fs f; fits = fits-left (toLine p) (word (p .lineDefined)) first (dumpInt (p .lineDefined)) (fits₂ p fs f) }
+
+  module _ {a : Reached} (d₁ : (v : Source) (t : List ℕ) → ((to : ℕ) → Stands words t (s .at) to (sourcePiece v) → source ≡ filled outer v) → Dumps words t (sourcePiece v) (dumpString (elided (around root outer) source)) s a) where
+    dumps₁ : (p : Parts) → Dumps words text (toLine p) first s a
+    dumps₁ p = d₁ (p .source) text (own (p .source))
+
+    pub line-ready : (g : Function) → Function-fits g → (a .at < length words) × (a .len + 4 ≤ length (a .out))
+    line-ready (Function.function p fs) f =
+        word-fits (p .lineDefined) (dumpInt (p .lineDefined)) (int-length (p .lineDefined)) (fits-right (toLine p) (word (p .lineDefined)) first (dumpInt (p .lineDefined)) (fits₂ p fs f) (dumps₁ p))
+
+    module _ {b : Reached} (d₂ : (v : ℕ) (t : List ℕ) → Dumps words t (word v) (dumpInt v) a b) where
+      dumps₂ : (p : Parts) → Dumps words text (toLast p) (first ++ dumpInt (p .lineDefined)) s b
+      dumps₂ p = dumps-then (dumps₁ p) (d₂ (p .lineDefined) text)
+
+      pub last-ready : (g : Function) → Function-fits g → (b .at < length words) × (b .len + 4 ≤ length (b .out))
+      last-ready (Function.function p fs) f =
+          word-fits (p .lastLineDefined) (dumpInt (p .lastLineDefined)) (int-length (p .lastLineDefined))
+          (fits-right (toLast p) (word (p .lastLineDefined)) (first ++ dumpInt (p .lineDefined)) (dumpInt (p .lastLineDefined)) (fits₃ p fs f) (dumps₂ p))
+
+      module _ {c : Reached} (d₃ : (v : ℕ) (t : List ℕ) → Dumps words t (word v) (dumpInt v) b c) where
+        dumps₃ : (p : Parts) → Dumps words text (toPacked p) (first ++ dumpInt (p .lineDefined) ++ dumpInt (p .lastLineDefined)) s c
+        dumps₃ p = dumps-then (dumps₂ p) (d₃ (p .lastLineDefined) text)
+
+        pub packed-ready : (g : Function) → Function-fits g → (c .at < length words) × (c .len + 4 ≤ length (c .out))
+        packed-ready (Function.function p fs) f =
+            word-fits (packed p) (fourBytes p) refl
+            (fits-right (toPacked p) (word (packed p)) (first ++ dumpInt (p .lineDefined) ++ dumpInt (p .lastLineDefined)) (fourBytes p) (fits₄ p fs f) (dumps₃ p))
+
+        module _ {d : Reached} (d₄ : (p : Parts) (t : List ℕ) → ValidParts p → Dumps words t (word (packed p)) (p .numUpvalues ∷ p .numParams ∷ p .isVararg ∷ p .maxStackSize ∷ []) c d) where
+          dumps₄ : (p : Parts) → ValidParts p → Dumps words text (toCode p) (first ++ dumpInt (p .lineDefined) ++ dumpInt (p .lastLineDefined) ++ fourBytes p) s d
+          dumps₄ p v = dumps-then (dumps₃ p) (d₄ p text v)
+
+          pub code-ready : (g : Function) → Valid g (suc n) → Function-fits g → (d .at + (1 + getD words (d .at) 0) ≤ length words) × (d .len + (4 + 4 * getD words (d .at) 0) ≤ length (d .out))
+          unfolding Valid
+          code-ready (Function.function p fs) v f =
+              ints-fit (p .code)
+              (fits-right (toCode p) (ints (p .code)) (first ++ dumpInt (p .lineDefined) ++ dumpInt (p .lastLineDefined) ++ fourBytes p) (dumpCode (p .code)) (fits₅ p fs f) (dumps₄ p (v .0)))
+
+          module _ {e : Reached} (d₅ : (l t : List ℕ) → Dumps words t (ints l) (dumpCode l) d e) where
+            dumps₅ : (p : Parts) → ValidParts p → Dumps words text (toConstants p) (first ++ dumpInt (p .lineDefined) ++ dumpInt (p .lastLineDefined) ++ fourBytes p ++ dumpCode (p .code)) s e
+            dumps₅ p v = dumps-then (dumps₄ p v) (d₅ (p .code) text)
+
+            pub constants-ready : (g : Function) → Valid g (suc n) → Function-fits g
+                → Ready {A = List Value × Functions} words text (λ v. ValidAll (v .1) n) (λ v. constantsPiece (v .0) (v .1)) (λ v. dumpConstants (v .0) (count (v .1)) (dumpFunctions (v .1) strip source)) e
+            unfolding Valid
+            constants-ready (Function.function p fs) v f =
+                record {
+                  value = (p .constants, fs);
+                  valid = v .2;
+                  fits = fits-right (toConstants p) (constantsPiece (p .constants) fs) (first ++ dumpInt (p .lineDefined) ++ dumpInt (p .lastLineDefined) ++ fourBytes p ++ dumpCode (p .code)) (inside p fs f) (fits₆ p fs f) (dumps₅ p (v .0));
+                }
+
+            module _ {f : Reached} (d₆ : (ks : List Value) (fs : Functions) → ValidAll fs n → Dumps words text (constantsPiece ks fs) (dumpConstants ks (count fs) (dumpFunctions fs strip source)) e f) where
+              pub debug-ready : (g : Function) → Valid g (suc n) → Function-fits g → Ready words text Any debugPiece (λ d. dumpDebug (kept strip d)) f
+              unfolding Valid
+              debug-ready (Function.function p fs) v h =
+                  record {
+                    value = p .debug;
+                    valid = tt;
+                    fits = fits-right (toDebug p fs) (debugPiece (p .debug)) (first ++ dumpInt (p .lineDefined) ++ dumpInt (p .lastLineDefined) ++ fourBytes p ++ dumpCode (p .code) ++ inside p fs h) (dumpDebug (kept strip (p .debug))) (fits₇ p fs h) (dumps-then (dumps₅ p (v .0)) (d₆ (p .constants) fs (v .2)));
+                  }
+
+-- ---- what the constants and the functions ask for
+
+module _ {words text : List ℕ} {s : Reached} (n : ℕ) (strip : Bool) (source : List ℕ)
+    (r : Ready {A = List Value × Functions} words text (λ v. ValidAll (v .1) n) (λ v. constantsPiece (v .0) (v .1)) (λ v. dumpConstants (v .0) (count (v .1)) (dumpFunctions (v .1) strip source)) s) where
+  abbrev bytesOf : Function → List ℕ
+  bytesOf f = dumpFunction f strip source source
+
+  both-fit : Fits words text (list constantPiece (r .value .0) ⊕ list functionPiece (children (r .value .1))) (dumpList dumpConstant (r .value .0) ++ dumpList bytesOf (children (r .value .1))) s
+  both-fit =
+      let ks = r .value .0 in
+      let fs = r .value .1 in
+      fits-same (same-behind (list constantPiece ks) (same-pieces (sym (children-list fs))))
+      (append-assoc (dumpList dumpConstant ks) (dumpInt (count fs)) (dumpFunctions fs strip source) ∙ rw (children-count fs, children-bytes fs strip source))
+      (r .fits)
+
+  pub values-ready : Ready words text Any (list constantPiece) (dumpList dumpConstant) s
+  values-ready =
+      let ks = r .value .0 in
+      let fs = children (r .value .1) in
+      record { value = ks; valid = tt; fits = fits-left (list constantPiece ks) (list functionPiece fs) (dumpList dumpConstant ks) (dumpList bytesOf fs) both-fit }
+
+  pub children-ready : {m : Reached} → ((l : List Value) → Dumps words text (list constantPiece l) (dumpList dumpConstant l) s m) → Ready words text (λ l. Every (λ f. Valid f n) l) (list functionPiece) (dumpList (λ f. dumpFunction f strip source source)) m
+  children-ready d =
+      let ks = r .value .0 in
+      let fs = children (r .value .1) in
+      record {
+        value = fs;
+        valid = every-valid n (r .value .1) (r .valid);
+        fits = fits-right (list constantPiece ks) (list functionPiece fs) (dumpList dumpConstant ks) (dumpList bytesOf fs) both-fit (d ks);
+      }

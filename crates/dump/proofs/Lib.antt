@@ -1,5 +1,7 @@
 pub mod Blocks
 pub mod Steps
+pub mod Readies
+pub mod Counts
 pub mod Functions
 pub mod Bounds
 pub mod Calls

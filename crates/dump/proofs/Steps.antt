@@ -1,26 +1,32 @@
 -- Steps of the writer: one behind the other, and in a loop.
-use Prim.Native.Nat.{ℕ, suc, _+_, _*_, _/_, _%_}
+use Prim.Native.Nat.{ℕ, suc, _+_, _-_, _*_, _/_, _%_, _≤_}
 use mathlib.Core.Path.{_≡_, refl, sym, ap, _∙_}
 use mathlib.Core.List.{List, [], _∷_, _++_, append-nil}
 use mathlib.Core.Bool.{Bool, true, false}
 use mir.Val.{boolByte}
 use native.Mathlib.Omega.{arith}
 use native.Mathlib.Nat.{add-zero, add-assoc}
-use lib.ListN.{length, getD, length-append}
+use lib.ListN.{length, take, drop, getD, length-append, length-drop}
+use lib.Seq.{length-take-le}
 use Rattle.lent.specs.Memory.{Every, Byte, Puts}
 use Rattle.lent.proofs.Writes.{put-none, put-then}
 use Rattle.format.specs.Tree.{Constant as Value}
 use Rattle.format.specs.Tree.{Local, Debug, Parts, noDebug, kept}
 use Rattle.format.specs.Store.{Piece, plain, word, _⊕_, string, pieces, list, ints, constantPiece, localPiece, debugPiece, packed}
 use Rattle.format.specs.Valid.{ValidParts}
-use Rattle.format.specs.Write.{dumpInt, dumpText, dumpList, dumpCode, dumpConstant, dumpLocal, dumpDebug, each}
+use Rattle.format.specs.Write.{dumpNumber, dumpInt, dumpText, dumpList, dumpCode, dumpConstant, dumpLocal, dumpDebug, each}
 use Rattle.proto.specs.Walk.{Stands, Skips, Past}
 use Rattle.proto.proofs.Heres.{here-get}
-use Rattle.format.proofs.Stored.{here-left, here-right}
+use Rattle.format.specs.Stored.{part}
+use Rattle.format.proofs.Stored.{here-right, here-part}
 use Rattle.proto.proofs.Walks.{past-word, past-words}
 use Rattle.proto.proofs.Pieces.{Same, same-sym, same-assoc, stands-same, stands-left, stands-right, constant-words}
-use Rattle.dump.specs.Step.{Reached, Dumps}
-use Rattle.dump.proofs.Blocks.{int-bytes}
+use Rattle.dump.specs.Step.{Reached, Dumps, Any}
+use Rattle.dump.proofs.Blocks.{int-bytes, string-length}
+
+-- the place n words on
+pub skips-on : {words : List ℕ} {n at : ℕ} → Skips words n at (at + n)
+skips-on = record { skips = λ l e h. refl }
 
 module _ {words text : List ℕ} where
   -- the same piece and the same bytes by other names
@@ -58,7 +64,28 @@ module _ {at r : ℕ} {out out′ : List ℕ} where
   pub str-puts : {a : ℕ} {s t out₁ : List ℕ} → s ≡ t → Puts (4 ∷ []) at out a out₁ → Puts (dumpText s) a out₁ r out′ → Puts (dumpConstant (Value.str t)) at out r out′
   str-puts e p q = rw e at (put-then p q)
 
+-- the room that a constant takes
+module _ {k : Value} (at : ℕ) {n : ℕ} where
+  pub room-nil : k ≡ Value.nil → at + length (dumpConstant k) ≤ n → at + 1 ≤ n
+  room-nil e h = rw e at h
+
+  pub room-bool : {b : Bool} → k ≡ Value.bool b → at + length (dumpConstant k) ≤ n → at + 2 ≤ n
+  room-bool e h = rw e at h
+
+  pub room-num : {high low : ℕ} → k ≡ Value.num high low → at + length (dumpConstant k) ≤ n → at + 9 ≤ n
+  unfolding dumpNumber
+  room-num e h = rw e at h
+
+  pub room-str : {s : List ℕ} → k ≡ Value.str s → at + length (dumpConstant k) ≤ n → at + (length s + 10) ≤ n
+  room-str {s} e h = let i : at + suc (length (dumpText s)) ≤ n = rw e at h in omega (arith, i, string-length s)
+
 -- ---- single items
+
+-- the items behind a count, cut out of the words
+pub code-items : (words : List ℕ) (at n : ℕ) → at + (1 + n) ≤ length words → (take (at + 1 + n - (at + 1)) (drop (at + 1) words) ≡ part words (at + 1) n) × (length (take (at + 1 + n - (at + 1)) (drop (at + 1) words)) ≡ n)
+code-items words at n h =
+    let e : at + 1 + n - (at + 1) ≡ n = omega arith in
+    (rw e, rw e (length-take-le n (drop (at + 1) words) (rw length-drop (omega arith))))
 
 unpacked : (p : Parts) → ValidParts p
     → (packed p / 16777216 ≡ p .numUpvalues) × (packed p / 65536 % 256 ≡ p .numParams) × (packed p / 256 % 256 ≡ p .isVararg) × (packed p % 256 ≡ p .maxStackSize)
@@ -88,18 +115,15 @@ module _ {words : List ℕ} {at a len n : ℕ} {out out′ : List ℕ} where
       rw (g, u .0, u .1, u .2, u .3, four-bytes (p .maxStackSize) (p .isVararg) (p .numParams) (p .numUpvalues) (v .maxStackSize) (v .isVararg) (v .numParams) (v .numUpvalues)) at q)
 
   -- a list of words: its count, and its items
-  pub ints-dumped : {x b m : ℕ} {items out₁ : List ℕ} → x ≡ getD words at 0 → ((l t : List ℕ) (to : ℕ) → Stands words t at to (ints l) → items ≡ l) → Skips words 1 at b → Skips words (length items) b a
-      → Puts (dumpInt x) len out m out₁ → Puts (each dumpInt items) m out₁ n out′
+  pub code-dumped : {m : ℕ} {items out₁ : List ℕ} → items ≡ part words (at + 1) (getD words at 0) → a ≡ at + 1 + getD words at 0 → Puts (dumpInt (getD words at 0)) len out m out₁ → Puts (each dumpInt items) m out₁ n out′
       → (l t : List ℕ) → Dumps words t (ints l) (dumpCode l) (record { at = at; len = len; out = out }) (record { at = a; len = n; out = out′ })
-  ints-dumped {x} {b} {items = items} e f s k p q l t =
+  code-dumped {items = items} e d p q l t =
       record {
         dumps = λ to h.
             let w = h .in-words in
-            let g : x ≡ length l = e ∙ here-get (length l) l w in
-            let i : items ≡ l = f l t to h in
-            let j : b ≡ at + 1 = s .skips (length l ∷ []) refl (here-left (length l ∷ []) l w) in
-            let d : a ≡ b + length items = k .skips l (ap length (sym i)) (rw j (here-right (length l ∷ []) l w)) in
-            (omega (arith, d, j, ap length i), rw (g, i) at (put-then p q));
+            let g : getD words at 0 ≡ length l = here-get (length l) l w in
+            let i : items ≡ l = e ∙ rw g (here-part l (here-right (length l ∷ []) l w)) in
+            (omega (arith, d, g), rw (g, i) at (put-then p q));
       }
 
   pub name-dumped : {name text : List ℕ} → Skips words 2 at a → ((s : List ℕ) (to : ℕ) → Stands words text at to (string s) → name ≡ s) → Puts (dumpText name) len out n out′
@@ -147,10 +171,6 @@ module _ {A : Type 0} {words text : List ℕ} {ok : A → Type 0} {piece : A →
             let g : length l ≡ _ = sym (here-get (length l) _ (h .in-words)) ∙ sym e in
             dumps-then (d (length l) text) (w .all l k g) .dumps to h;
       }
-
--- nothing is asked of an item
-abbrev pub Any : {A : Type 0} → A → Type 0
-Any a = Unit {0}
 
 pub every-any : {A : Type 0} (l : List A) → Every Any l
 unfolding Every

@@ -1,6 +1,6 @@
-// Functions, written to a chunk from the store.
-use crate::block::dump_size;
-use crate::block::dump_string;
+// Functions, written to a chunk from the store, where they stand in it and the chunk has room for them.
+use crate::block::store_size;
+use crate::block::store_string;
 use crate::list::DumpState;
 use crate::list::dump_code;
 use crate::list::dump_debug;
@@ -8,12 +8,12 @@ use crate::list::dump_packed;
 use crate::list::dump_values;
 use crate::list::dump_word;
 use proto::walk::own_source;
-use proto::walk::skip;
 use proto::walk::word_at;
-ghost use Prim.Native.Nat.{ℕ};
+ghost use Prim.Native.Nat.{ℕ, _+_, _≤_};
 ghost use mathlib.Core.Path.{_≡_};
 ghost use mathlib.Core.List.{List};
 ghost use mathlib.Core.Bool.{cond};
+ghost use lib.ListN.{length};
 ghost use Rattle.lent.specs.Memory.{Puts};
 ghost use Rattle.format.specs.Tree.{Constant as Value};
 ghost use Rattle.format.specs.Tree.{Source, Functions, Function, count, filled};
@@ -22,10 +22,10 @@ ghost use Rattle.format.specs.Store.{sourcePiece, functionPiece};
 ghost use Rattle.format.specs.Valid.{Valid, ValidAll};
 ghost use Rattle.format.specs.Write.{dumpString, elided, dumpConstants, dumpFunction, dumpFunctions};
 ghost use Rattle.proto.specs.Walk.{Stands};
-ghost use Rattle.dump.specs.Step.{Dumps, reached, constantsPiece, around};
+ghost use Rattle.dump.specs.Step.{Dumps, reached, Ready, SourceFits, constantsPiece, around};
 
 // Whether a function's source is the one around it. One that is inherited is, except at the root.
-fn is_elided(words: &[u32], at: usize, outer: &[u8], source: &[u8], root: bool) -> bool
+pub fn is_elided(words: &[u32], at: usize, outer: &[u8], source: &[u8], root: bool) -> bool
     ensures { λ r. ⌜ ((s : Source) (t : List ℕ) (to : ℕ) → Stands (now (words .entry)) t at to (sourcePiece s) → now (source .entry) ≡ filled (now (outer .entry)) s → r ≡ sameBytes (now (source .entry)) (around root (now (outer .entry)))) ⌝ }
 {
     if root {
@@ -37,14 +37,17 @@ fn is_elided(words: &[u32], at: usize, outer: &[u8], source: &[u8], root: bool) 
     check::same(source, outer)
 }
 
-// A source, none where it is elided.
+// A source, none where it is elided. Answers the place behind it.
 fn put_source(out: &mut [u8], at: usize, source: &[u8], elide: bool) -> usize
+    requires { ⌜ at + length (dumpString (cond elide Source.inherited (Source.own (now source)))) ≤ length (now out) ⌝ }
     ensures { λ r. ⌜ Puts (dumpString (cond elide Source.inherited (Source.own (now (source .entry))))) at (now (out .entry)) r (now (out .exit)) ⌝ }
 {
     if elide {
-        return dump_size(out, at, 0);
+        store_size(out, at, 0);
+        return at + 8;
     }
-    dump_string(out, at, source)
+    store_string(out, at, source);
+    at + source.len() + 9
 }
 
 // The source of a function: none where it is the one around it.
@@ -56,14 +59,13 @@ fn dump_source(
     out: &mut [u8],
     s: DumpState,
 ) -> DumpState
+    requires { ⌜ SourceFits (now words) (now outer) (now source) (dumpString (elided (around root (now outer)) (now source))) (reached s (now out)) ⌝ }
     ensures { λ r. ⌜ ((v : Source) (t : List ℕ) → ((to : ℕ) → Stands (now (words .entry)) t (s .at) to (sourcePiece v) → now (source .entry) ≡ filled (now (outer .entry)) v) → Dumps (now (words .entry)) t (sourcePiece v) (dumpString (elided (around root (now (outer .entry))) (now (source .entry)))) (reached s (now (out .entry))) (reached r (now (out .exit)))) ⌝ }
 {
-    let elide = is_elided(words, s.at, outer, source, root);
+    let at = s.at;
+    let elide = is_elided(words, at, outer, source, root);
     let len = put_source(out, s.len, source, elide);
-    DumpState {
-        at: skip(words, s.at, 3),
-        len,
-    }
+    DumpState { at: at + 3, len }
 }
 
 // A function; an inherited source stands for outer.
@@ -77,6 +79,7 @@ pub fn dump_function<'a>(
     s: DumpState,
     allowance: u32,
 ) -> DumpState
+    requires { ⌜ Ready (now words) (now text) (λ f. Valid f allowance) functionPiece (λ f. dumpFunction f strip (around root (now outer)) (now outer)) (reached s (now out)) ⌝ }
     ensures { λ r. ⌜ ((f : Function) → Valid f allowance → Dumps (now (words .entry)) (now (text .entry)) (functionPiece f) (dumpFunction f strip (around root (now (outer .entry))) (now (outer .entry))) (reached s (now (out .entry))) (reached r (now (out .exit)))) ⌝ }
 {
     if allowance == 0 {
@@ -102,6 +105,7 @@ pub fn dump_constants<'a>(
     s: DumpState,
     allowance: u32,
 ) -> DumpState
+    requires { ⌜ Ready {A = List Value × Functions} (now words) (now text) (λ v. ValidAll (v .1) allowance) (λ v. constantsPiece (v .0) (v .1)) (λ v. dumpConstants (v .0) (count (v .1)) (dumpFunctions (v .1) strip (now source))) (reached s (now out)) ⌝ }
     ensures { λ r. ⌜ ((ks : List Value) (fs : Functions) → ValidAll fs allowance → Dumps (now (words .entry)) (now (text .entry)) (constantsPiece ks fs) (dumpConstants ks (count fs) (dumpFunctions fs strip (now (source .entry)))) (reached s (now (out .entry))) (reached r (now (out .exit)))) ⌝ }
 {
     let values = dump_values(words, text, out, s);

@@ -1,12 +1,14 @@
 // Writing a chunk from a tree in lent memory (ldump.c; in the Rust, dump.rs).
 pub mod block;
+pub mod count;
 pub mod function;
 pub mod list;
 
-use block::dump_block;
+use count::count_function;
 use format::Written;
 use format::name_ok;
 use function::dump_function;
+use lent::copy;
 use list::DumpState;
 use proto::formed::DEPTH;
 use proto::formed::check_store;
@@ -14,11 +16,13 @@ ghost use Prim.Native.Nat.{_+_, _*_, _≤_};
 ghost use mathlib.Core.Path.{_≡_};
 ghost use mathlib.Core.Bool.{true};
 ghost use mathlib.Core.List.{[]};
+ghost use lib.ListN.{length};
 ghost use Rattle.lent.specs.Memory.{Puts};
 ghost use Rattle.format.specs.Tree.{Function};
 ghost use Rattle.format.specs.Valid.{Holds};
 ghost use Rattle.format.specs.Write.{dumpHeader, dumpChunk};
 ghost use Rattle.format.specs.Dump.{writeLeft, writeRefused, dumped};
+ghost use Rattle.dump.specs.Step.{ChunkFits};
 
 fn refused(n: u32) -> Written
     ensures { λ r. ⌜ r ≡ writeRefused n [] .answer ⌝ }
@@ -27,13 +31,14 @@ fn refused(n: u32) -> Written
 }
 
 // The signature, then the version, the format and the sizes: 12 bytes.
-fn dump_header(out: &mut [u8]) -> usize
-    ensures { λ r. ⌜ Puts dumpHeader 0 (now (out .entry)) r (now (out .exit)) ⌝ }
+fn dump_header(out: &mut [u8])
+    requires { ⌜ 12 ≤ length (now out) ⌝ }
+    ensures { λ r. ⌜ Puts dumpHeader 0 (now (out .entry)) 12 (now (out .exit)) ⌝ }
 {
-    dump_block(out, 0, b"\x1bLua\x51\x00\x01\x04\x08\x04\x08\x00")
+    copy(out, 0, b"\x1bLua\x51\x00\x01\x04\x08\x04\x08\x00", 12);
 }
 
-// The chunk of the tree that a store holds. Answers how many bytes it has.
+// The chunk of the tree that a store holds, where there is room for it. Answers how many bytes it has.
 fn dump_chunk<'a>(
     words: &[u32],
     text: &'a [u8],
@@ -41,13 +46,21 @@ fn dump_chunk<'a>(
     strip: bool,
     out: &mut [u8],
 ) -> usize
+    requires { ⌜ ChunkFits (now words) (now text) (now name) strip (now out) ⌝ }
     ensures { λ r. ⌜ ((f : Function) → Holds (now (words .entry)) (now (text .entry)) f → Puts (dumpChunk strip (now (name .entry)) f) 0 (now (out .entry)) r (now (out .exit))) ⌝ }
 {
-    let start = DumpState {
-        at: 0,
-        len: dump_header(out),
-    };
+    dump_header(out);
+    let start = DumpState { at: 0, len: 12 };
     let end = dump_function(words, text, strip, name, true, out, start, DEPTH);
+    end.len
+}
+
+// How many bytes it has.
+fn count_chunk<'a>(words: &[u32], text: &'a [u8], name: &'a [u8], strip: bool) -> usize
+    ensures { λ r. ⌜ ((f : Function) → Holds (now (words .entry)) (now (text .entry)) f → Puts (dumpChunk strip (now (name .entry)) f) 0 [] r []) ⌝ }
+{
+    let start = DumpState { at: 0, len: 12 };
+    let end = count_function(words, text, strip, name, true, start, DEPTH);
     end.len
 }
 
@@ -68,8 +81,8 @@ fn has_room(space: usize, words: usize, a: usize, b: usize) -> bool
     words <= (left - b) / 5
 }
 
-// Writes the chunk of a store to lent memory. No chunk is longer than has_room asks for; where there is less room, a run with no
-// space counts first. Refused by 1, 10, 11.
+// Writes the chunk of a store to lent memory. No chunk is longer than has_room asks for; where there is less room, a walk counts
+// first. Refused by 1, 10, 11.
 pub fn dump<'a>(
     words: &[u32],
     text: &'a [u8],
@@ -89,8 +102,7 @@ pub fn dump<'a>(
         let len = dump_chunk(words, text, name, strip, out);
         return Written { refusal: 0, len };
     }
-    let mut no_space = [0u8; 0];
-    let len = dump_chunk(words, text, name, strip, &mut no_space);
+    let len = count_chunk(words, text, name, strip);
     if out.len() < len {
         return refused(11);
     }

@@ -1,21 +1,18 @@
+-- The header, and behind it the root.
 use borrow.Author.Needs.{needs}
-use Rattle.dump.proofs.Calls.{chunk-puts}
+use native.Mathlib.Omega.{arith}
+use Rattle.dump.proofs.Calls.{chunk-puts, header-fits, root-ready}
 use Rattle.dump.proofs.dump_chunk.Statement.{statement}
 use Rattle.dump.proofs.dump_chunk.Tie as tie
 
--- The header, and behind it the root.
-
--- The header, and behind it the root.
-
--- The header, and behind it the root.
-
--- The header, and behind it the root.
-
 dump-header-requires : tie.Need-dump-header-requires
-dump-header-requires c κs = search needs
+dump-header-requires c κs = header-fits (c .before .before .before .before .before .pre)
 
 dump-function-requires : tie.Need-dump-function-requires
-dump-function-requires c κs = search needs
+dump-function-requires c κs =
+    let c₁ = c .before .before .before in
+    let c₂ = c₁ .before .before .before .before .before .before in
+    root-ready (c₂ .pre) (c₁ .dump-header .ensures)
 
 same-length : tie.Need-same-length
 same-length c = search needs

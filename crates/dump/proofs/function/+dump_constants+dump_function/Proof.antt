@@ -1,7 +1,10 @@
+-- The parts of a function one behind the other. The loop's invariant: whatever writes the other functions from here writes all of them, and there is room for them.
+-- The measure is twice the allowance, and one more for dump_constants, which calls dump_function at the same allowance.
+use Prim.Native.Nat.{ℕ, suc, _+_, _-_, _<_}
 use borrow.Author.Needs.{needs}
 use native.Mathlib.Omega.{arith}
-use Prim.Native.Nat.{ℕ, suc, _+_, _-_, _<_}
 use mathlib.Core.Path.{_≡_, refl, _∙_}
+use mathlib.Core.List.{[]}
 use lib.ListN.{length}
 use Rattle.format.specs.Store.{functionPiece}
 use Rattle.format.specs.Valid.{Valid}
@@ -10,7 +13,8 @@ use Rattle.proto.proofs.Loops.{Loop, loop-start, loop-turn, loop-end}
 use Rattle.proto.proofs.Walks.{none-deep}
 use Rattle.dump.specs.Step.{reached}
 use Rattle.dump.proofs.Steps.{DumpsAll, all-none, all-more}
-use Rattle.dump.proofs.Functions.{constants-dumped, function-dumped}
+use Rattle.dump.proofs.Readies.{Left, count-fits, left-start, left-item, left-more}
+use Rattle.dump.proofs.Functions.{constants-dumped, function-dumped, source-ready, line-ready, last-ready, packed-ready, code-ready, constants-ready, debug-ready, values-ready, children-ready}
 use borrow.Fn.Kinds.{In}
 use borrow.Fn.PlainCycle.{Measures, is, falls, and}
 use Rattle.dump.proofs.function.dump_constants.Reads as dump-constants
@@ -29,9 +33,6 @@ use Rattle.proto.proofs.walk.own_source.Reads as own-source-reads
 use Rattle.proto.proofs.walk.word_at.Reads as word-at-reads
 use Rattle.dump.proofs.function.+dump_constants+dump_function.{statement}
 use Rattle.dump.proofs.function.+dump_constants+dump_function.Tie.{close}
-
--- The parts of a function one behind the other. The loop's invariant: whatever writes the other functions from here writes all of them.
--- The measure is twice the allowance, and one more for dump_constants, which calls dump_function at the same allowance.
 
 abbrev μ-dump-constants : Measures 3 dump-constants-kinds.ps ℕ
 μ-dump-constants κs a = a .1 .1 .1 .1 .1 .1 .0 + a .1 .1 .1 .1 .1 .1 .0 + 1
@@ -67,139 +68,65 @@ dump-function-below t =
     (falls 3 dump-function-kinds.ps _<_ μ-dump-function t)
     dump-function.Pre
 
+abbrev dump-constants-calls : ℕ → dump-constants-lts.Claims
+dump-constants-calls t = (dump-values-reads.Asked, dump-values-reads.Learnt, word-at-reads.Asked, word-at-reads.Learnt, dump-word-reads.Asked, dump-word-reads.Learnt, dump-function-below t, dump-function.Post)
+
+abbrev dump-function-calls : ℕ → dump-function-lts.Claims
+dump-function-calls t = (own-source-reads.Asked, own-source-reads.Learnt, dump-source-reads.Asked, dump-source-reads.Learnt, dump-word-reads.Asked, dump-word-reads.Learnt, dump-packed-reads.Asked, dump-packed-reads.Learnt, dump-code-reads.Asked, dump-code-reads.Learnt, dump-constants-below t, dump-constants.Post, dump-debug-reads.Asked, dump-debug-reads.Learnt)
+
 abbrev dump-constants-Inv-loop : dump-constants-lts.InvT-loop
-dump-constants-Inv-loop words text strip source out₀ allowance n p₀ i₀ out p i = (length out ≡ length out₀) × Loop (DumpsAll words text (λ f. Valid f allowance) functionPiece (λ f. dumpFunction f strip source source)) n (reached p₀ out₀) i (reached p out)
+dump-constants-Inv-loop words text strip source out₀ allowance n p₀ i₀ out p i = (length out ≡ length out₀) × Loop (DumpsAll words text (λ f. Valid f allowance) functionPiece (λ f. dumpFunction f strip source source)) n (reached p₀ out₀) i (reached p out) × Left words text (λ f. Valid f allowance) functionPiece (λ f. dumpFunction f strip source source) (n - i) (reached p out)
 
 abbrev dump-constants-μ-loop : dump-constants-lts.MeasureT-loop
 dump-constants-μ-loop words text strip source out₀ allowance n p₀ i₀ out p i = n - i
 
-dump-constants-dump-values-requires : (t : ℕ) → dump-constants-lts.Need-dump-values-requires (
-  dump-values-reads.Asked,
-  dump-values-reads.Learnt,
-  word-at-reads.Asked,
-  word-at-reads.Learnt,
-  dump-word-reads.Asked,
-  dump-word-reads.Learnt,
-  dump-function-below t,
-  dump-function.Post,
-) (dump-constants-at t) dump-constants.Post dump-constants-Inv-loop dump-constants-μ-loop
-dump-constants-dump-values-requires t c κs = search needs
+dump-constants-dump-values-requires : (t : ℕ) → dump-constants-lts.Need-dump-values-requires (dump-constants-calls t) (dump-constants-at t) dump-constants.Post dump-constants-Inv-loop dump-constants-μ-loop
+dump-constants-dump-values-requires t c κs = let a = c .before .before .before .before .before .args in values-ready (a .allowance) (a .strip) (a .source .now) (c .before .before .before .before .before .pre .1)
 
-dump-constants-word-at-requires : (t : ℕ) → dump-constants-lts.Need-word-at-requires (
-  dump-values-reads.Asked,
-  dump-values-reads.Learnt,
-  word-at-reads.Asked,
-  word-at-reads.Learnt,
-  dump-word-reads.Asked,
-  dump-word-reads.Learnt,
-  dump-function-below t,
-  dump-function.Post,
-) (dump-constants-at t) dump-constants.Post dump-constants-Inv-loop dump-constants-μ-loop
+dump-constants-word-at-requires : (t : ℕ) → dump-constants-lts.Need-word-at-requires (dump-constants-calls t) (dump-constants-at t) dump-constants.Post dump-constants-Inv-loop dump-constants-μ-loop
 dump-constants-word-at-requires t c κs = search needs
 
-dump-constants-dump-word-requires : (t : ℕ) → dump-constants-lts.Need-dump-word-requires (
-  dump-values-reads.Asked,
-  dump-values-reads.Learnt,
-  word-at-reads.Asked,
-  word-at-reads.Learnt,
-  dump-word-reads.Asked,
-  dump-word-reads.Learnt,
-  dump-function-below t,
-  dump-function.Post,
-) (dump-constants-at t) dump-constants.Post dump-constants-Inv-loop dump-constants-μ-loop
-dump-constants-dump-word-requires t c κs = search needs
+dump-constants-dump-word-requires : (t : ℕ) → dump-constants-lts.Need-dump-word-requires (dump-constants-calls t) (dump-constants-at t) dump-constants.Post dump-constants-Inv-loop dump-constants-μ-loop
+dump-constants-dump-word-requires t c κs =
+    let c₁ = c .before .before .before .before in
+    let c₂ = c₁ .before .before .before .before .before .before in
+    count-fits functionPiece (λ f. dumpFunction f (c₂ .args .strip) (c₂ .args .source .now) (c₂ .args .source .now)) (children-ready (c₂ .args .allowance) (c₂ .args .strip) (c₂ .args .source .now) (c₂ .pre .1) (c₁ .dump-values .ensures))
 
-dump-constants-loop-holds : (t : ℕ) → dump-constants-lts.Need-loop-holds (
-  dump-values-reads.Asked,
-  dump-values-reads.Learnt,
-  word-at-reads.Asked,
-  word-at-reads.Learnt,
-  dump-word-reads.Asked,
-  dump-word-reads.Learnt,
-  dump-function-below t,
-  dump-function.Post,
-) (dump-constants-at t) dump-constants.Post dump-constants-Inv-loop dump-constants-μ-loop
-dump-constants-loop-holds t c = (refl, loop-start)
+dump-constants-loop-holds : (t : ℕ) → dump-constants-lts.Need-loop-holds (dump-constants-calls t) (dump-constants-at t) dump-constants.Post dump-constants-Inv-loop dump-constants-μ-loop
+dump-constants-loop-holds t c =
+    let c₁ = c .before .before in
+    let c₂ = c₁ .before .before in
+    let c₃ = c₂ .before .before .before in
+    let c₄ = c₃ .before .before .before .before .before .before in
+    (refl, loop-start, left-start (λ f. Valid f (c₄ .args .allowance)) functionPiece (λ f. dumpFunction f (c₄ .args .strip) (c₄ .args .source .now) (c₄ .args .source .now)) (λ l h. h) (c₂ .word-at .ensures) (children-ready (c₄ .args .allowance) (c₄ .args .strip) (c₄ .args .source .now) (c₄ .pre .1) (c₃ .dump-values .ensures)) (c₁ .dump-word .ensures))
 
-dump-constants-dump-function-requires : (t : ℕ) → dump-constants-lts.Need-dump-function-requires (
-  dump-values-reads.Asked,
-  dump-values-reads.Learnt,
-  word-at-reads.Asked,
-  word-at-reads.Learnt,
-  dump-word-reads.Asked,
-  dump-word-reads.Learnt,
-  dump-function-below t,
-  dump-function.Post,
-) (dump-constants-at t) dump-constants.Post dump-constants-Inv-loop dump-constants-μ-loop
+dump-constants-dump-function-requires : (t : ℕ) → dump-constants-lts.Need-dump-function-requires (dump-constants-calls t) (dump-constants-at t) dump-constants.Post dump-constants-Inv-loop dump-constants-μ-loop
 dump-constants-dump-function-requires t c κs =
-    let c₁ = c .before .before .before .before .before .before .before .before .before .before .before .before .before .before .before .before in
-    (omega (arith, c₁ .pre .0), tt)
+    let c₁ = c .before .before in
+    let c₂ = c₁ .before .before .before .before .before .before .before .before .before .before .before .before .before .before in
+    (omega (arith, c₂ .pre .0), left-item (λ f. Valid f (c₂ .args .allowance)) functionPiece (λ f. dumpFunction f (c₂ .args .strip) (c₂ .args .source .now) (c₂ .args .source .now)) (omega arith) (c₁ .loop .inv .2))
 
-dump-constants-add-i : (t : ℕ) → dump-constants-lts.Need-add-i (
-  dump-values-reads.Asked,
-  dump-values-reads.Learnt,
-  word-at-reads.Asked,
-  word-at-reads.Learnt,
-  dump-word-reads.Asked,
-  dump-word-reads.Learnt,
-  dump-function-below t,
-  dump-function.Post,
-) (dump-constants-at t) dump-constants.Post dump-constants-Inv-loop dump-constants-μ-loop
+dump-constants-add-i : (t : ℕ) → dump-constants-lts.Need-add-i (dump-constants-calls t) (dump-constants-at t) dump-constants.Post dump-constants-Inv-loop dump-constants-μ-loop
 dump-constants-add-i t c = omega arith
 
-dump-constants-loop-less : (t : ℕ) → dump-constants-lts.Need-loop-less (
-  dump-values-reads.Asked,
-  dump-values-reads.Learnt,
-  word-at-reads.Asked,
-  word-at-reads.Learnt,
-  dump-word-reads.Asked,
-  dump-word-reads.Learnt,
-  dump-function-below t,
-  dump-function.Post,
-) (dump-constants-at t) dump-constants.Post dump-constants-Inv-loop dump-constants-μ-loop
+dump-constants-loop-less : (t : ℕ) → dump-constants-lts.Need-loop-less (dump-constants-calls t) (dump-constants-at t) dump-constants.Post dump-constants-Inv-loop dump-constants-μ-loop
 dump-constants-loop-less t c = omega arith
 
-dump-constants-loop-again : (t : ℕ) → dump-constants-lts.Need-loop-again (
-  dump-values-reads.Asked,
-  dump-values-reads.Learnt,
-  word-at-reads.Asked,
-  word-at-reads.Learnt,
-  dump-word-reads.Asked,
-  dump-word-reads.Learnt,
-  dump-function-below t,
-  dump-function.Post,
-) (dump-constants-at t) dump-constants.Post dump-constants-Inv-loop dump-constants-μ-loop
+dump-constants-loop-again : (t : ℕ) → dump-constants-lts.Need-loop-again (dump-constants-calls t) (dump-constants-at t) dump-constants.Post dump-constants-Inv-loop dump-constants-μ-loop
 dump-constants-loop-again t c =
     let c₁ = c .before .before in
     let c₂ = c₁ .before .before .before in
-    (c₁ .dump-function .kept .1 .1 .1 .1 .1 .0 ∙ c₂ .loop .inv .0, loop-turn (omega arith) (c₂ .loop .inv .1) (all-more (c₁ .dump-function .ensures)))
+    let a = c₂ .before .before .before .before .before .before .before .before .before .before .before .before .before .before .args in
+    (c₁ .dump-function .kept .1 .1 .1 .1 .1 .0 ∙ c₂ .loop .inv .0, loop-turn (omega arith) (c₂ .loop .inv .1) (all-more (c₁ .dump-function .ensures)), left-more (λ f. Valid f (a .allowance)) functionPiece (λ f. dumpFunction f (a .strip) (a .source .now) (a .source .now)) (omega arith) (c₂ .loop .inv .2) (c₁ .dump-function .ensures))
 
-dump-constants-same-length : (t : ℕ) → dump-constants-lts.Need-same-length (
-  dump-values-reads.Asked,
-  dump-values-reads.Learnt,
-  word-at-reads.Asked,
-  word-at-reads.Learnt,
-  dump-word-reads.Asked,
-  dump-word-reads.Learnt,
-  dump-function-below t,
-  dump-function.Post,
-) (dump-constants-at t) dump-constants.Post dump-constants-Inv-loop dump-constants-μ-loop
+dump-constants-same-length : (t : ℕ) → dump-constants-lts.Need-same-length (dump-constants-calls t) (dump-constants-at t) dump-constants.Post dump-constants-Inv-loop dump-constants-μ-loop
 dump-constants-same-length t c =
     let c₁ = c .before in
     let c₂ = c₁ .before .before .before in
     let c₃ = c₂ .before .before .before .before .before in
     c₁ .loop .inv .0 ∙ c₂ .dump-word .kept .1 .0 ∙ c₃ .dump-values .kept .1 .1 .0
 
-dump-constants-returns : (t : ℕ) → dump-constants-lts.Need-returns (
-  dump-values-reads.Asked,
-  dump-values-reads.Learnt,
-  word-at-reads.Asked,
-  word-at-reads.Learnt,
-  dump-word-reads.Asked,
-  dump-word-reads.Learnt,
-  dump-function-below t,
-  dump-function.Post,
-) (dump-constants-at t) dump-constants.Post dump-constants-Inv-loop dump-constants-μ-loop
+dump-constants-returns : (t : ℕ) → dump-constants-lts.Need-returns (dump-constants-calls t) (dump-constants-at t) dump-constants.Post dump-constants-Inv-loop dump-constants-μ-loop
 dump-constants-returns t c =
     let c₁ = c .before in
     let c₂ = c₁ .before .before .before in
@@ -208,207 +135,111 @@ dump-constants-returns t c =
     let c₅ = c₄ .before .before .before .before .before .before in
     constants-dumped (c₅ .args .allowance) (c₅ .args .strip) (c₅ .args .source .now) (c₄ .dump-values .ensures) (c₃ .word-at .ensures) (c₂ .dump-word .ensures) (loop-end (omega arith) (c₁ .loop .inv .1) all-none)
 
-dump-function-returns : (t : ℕ) → dump-function-lts.Need-returns (
-  own-source-reads.Asked,
-  own-source-reads.Learnt,
-  dump-source-reads.Asked,
-  dump-source-reads.Learnt,
-  dump-word-reads.Asked,
-  dump-word-reads.Learnt,
-  dump-packed-reads.Asked,
-  dump-packed-reads.Learnt,
-  dump-code-reads.Asked,
-  dump-code-reads.Learnt,
-  dump-constants-below t,
-  dump-constants.Post,
-  dump-debug-reads.Asked,
-  dump-debug-reads.Learnt,
-) (dump-function-at t) dump-function.Post
+dump-function-returns : (t : ℕ) → dump-function-lts.Need-returns (dump-function-calls t) (dump-function-at t) dump-function.Post
 dump-function-returns t c = λ f v. absurd (none-deep (c .if1 .taken) f v)
 
-dump-function-own-source-requires : (t : ℕ) → dump-function-lts.Need-own-source-requires (
-  own-source-reads.Asked,
-  own-source-reads.Learnt,
-  dump-source-reads.Asked,
-  dump-source-reads.Learnt,
-  dump-word-reads.Asked,
-  dump-word-reads.Learnt,
-  dump-packed-reads.Asked,
-  dump-packed-reads.Learnt,
-  dump-code-reads.Asked,
-  dump-code-reads.Learnt,
-  dump-constants-below t,
-  dump-constants.Post,
-  dump-debug-reads.Asked,
-  dump-debug-reads.Learnt,
-) (dump-function-at t) dump-function.Post
+dump-function-own-source-requires : (t : ℕ) → dump-function-lts.Need-own-source-requires (dump-function-calls t) (dump-function-at t) dump-function.Post
 dump-function-own-source-requires t c κs = search needs
 
-dump-function-dump-source-requires : (t : ℕ) → dump-function-lts.Need-dump-source-requires (
-  own-source-reads.Asked,
-  own-source-reads.Learnt,
-  dump-source-reads.Asked,
-  dump-source-reads.Learnt,
-  dump-word-reads.Asked,
-  dump-word-reads.Learnt,
-  dump-packed-reads.Asked,
-  dump-packed-reads.Learnt,
-  dump-code-reads.Asked,
-  dump-code-reads.Learnt,
-  dump-constants-below t,
-  dump-constants.Post,
-  dump-debug-reads.Asked,
-  dump-debug-reads.Learnt,
-) (dump-function-at t) dump-function.Post
-dump-function-dump-source-requires t c κs = search needs
+dump-function-dump-source-requires : (t : ℕ) → dump-function-lts.Need-dump-source-requires (dump-function-calls t) (dump-function-at t) dump-function.Post
+dump-function-dump-source-requires t c κs =
+    let c₁ = c .before in
+    let c₂ = c₁ .before .before .before .before .before .before in
+    let a = c₂ .args in
+    let r = c₂ .pre .1 in
+    let n = a .allowance - 1 in
+    source-ready (reached (a .s) (a .out .now)) n (a .strip) (a .root) (a .outer .now) (c₁ .own-source .result .now) (c₁ .own-source .ensures) (r .value) (r .fits)
 
-dump-function-dump-word-requires : (t : ℕ) → dump-function-lts.Need-dump-word-requires (
-  own-source-reads.Asked,
-  own-source-reads.Learnt,
-  dump-source-reads.Asked,
-  dump-source-reads.Learnt,
-  dump-word-reads.Asked,
-  dump-word-reads.Learnt,
-  dump-packed-reads.Asked,
-  dump-packed-reads.Learnt,
-  dump-code-reads.Asked,
-  dump-code-reads.Learnt,
-  dump-constants-below t,
-  dump-constants.Post,
-  dump-debug-reads.Asked,
-  dump-debug-reads.Learnt,
-) (dump-function-at t) dump-function.Post
-dump-function-dump-word-requires t c κs = search needs
+dump-function-dump-word-requires : (t : ℕ) → dump-function-lts.Need-dump-word-requires (dump-function-calls t) (dump-function-at t) dump-function.Post
+dump-function-dump-word-requires t c κs =
+    let c₁ = c .before .before .before in
+    let c₂ = c₁ .before .before in
+    let c₃ = c₂ .before .before .before .before .before .before in
+    let a = c₃ .args in
+    let r = c₃ .pre .1 in
+    let n = a .allowance - 1 in
+    line-ready (reached (a .s) (a .out .now)) n (a .strip) (a .root) (a .outer .now) (c₂ .own-source .result .now) (c₂ .own-source .ensures) (c₁ .dump-source .ensures) (r .value) (r .fits)
 
-dump-function-dump-word-requires-2 : (t : ℕ) → dump-function-lts.Need-dump-word-requires-2 (
-  own-source-reads.Asked,
-  own-source-reads.Learnt,
-  dump-source-reads.Asked,
-  dump-source-reads.Learnt,
-  dump-word-reads.Asked,
-  dump-word-reads.Learnt,
-  dump-packed-reads.Asked,
-  dump-packed-reads.Learnt,
-  dump-code-reads.Asked,
-  dump-code-reads.Learnt,
-  dump-constants-below t,
-  dump-constants.Post,
-  dump-debug-reads.Asked,
-  dump-debug-reads.Learnt,
-) (dump-function-at t) dump-function.Post
-dump-function-dump-word-requires-2 t c κs = search needs
+dump-function-dump-word-requires-2 : (t : ℕ) → dump-function-lts.Need-dump-word-requires-2 (dump-function-calls t) (dump-function-at t) dump-function.Post
+dump-function-dump-word-requires-2 t c κs =
+    let c₁ = c .before .before .before in
+    let c₂ = c₁ .before .before .before .before in
+    let c₃ = c₂ .before .before in
+    let c₄ = c₃ .before .before .before .before .before .before in
+    let a = c₄ .args in
+    let r = c₄ .pre .1 in
+    let n = a .allowance - 1 in
+    last-ready (reached (a .s) (a .out .now)) n (a .strip) (a .root) (a .outer .now) (c₃ .own-source .result .now) (c₃ .own-source .ensures) (c₂ .dump-source .ensures) (c₁ .dump-word .ensures) (r .value) (r .fits)
 
-dump-function-dump-packed-requires : (t : ℕ) → dump-function-lts.Need-dump-packed-requires (
-  own-source-reads.Asked,
-  own-source-reads.Learnt,
-  dump-source-reads.Asked,
-  dump-source-reads.Learnt,
-  dump-word-reads.Asked,
-  dump-word-reads.Learnt,
-  dump-packed-reads.Asked,
-  dump-packed-reads.Learnt,
-  dump-code-reads.Asked,
-  dump-code-reads.Learnt,
-  dump-constants-below t,
-  dump-constants.Post,
-  dump-debug-reads.Asked,
-  dump-debug-reads.Learnt,
-) (dump-function-at t) dump-function.Post
-dump-function-dump-packed-requires t c κs = search needs
+dump-function-dump-packed-requires : (t : ℕ) → dump-function-lts.Need-dump-packed-requires (dump-function-calls t) (dump-function-at t) dump-function.Post
+dump-function-dump-packed-requires t c κs =
+    let c₁ = c .before .before .before in
+    let c₂ = c₁ .before .before .before .before in
+    let c₃ = c₂ .before .before .before .before in
+    let c₄ = c₃ .before .before in
+    let c₅ = c₄ .before .before .before .before .before .before in
+    let a = c₅ .args in
+    let r = c₅ .pre .1 in
+    let n = a .allowance - 1 in
+    packed-ready (reached (a .s) (a .out .now)) n (a .strip) (a .root) (a .outer .now) (c₄ .own-source .result .now) (c₄ .own-source .ensures) (c₃ .dump-source .ensures) (c₂ .dump-word .ensures) (c₁ .dump-word2 .ensures) (r .value) (r .fits)
 
-dump-function-dump-code-requires : (t : ℕ) → dump-function-lts.Need-dump-code-requires (
-  own-source-reads.Asked,
-  own-source-reads.Learnt,
-  dump-source-reads.Asked,
-  dump-source-reads.Learnt,
-  dump-word-reads.Asked,
-  dump-word-reads.Learnt,
-  dump-packed-reads.Asked,
-  dump-packed-reads.Learnt,
-  dump-code-reads.Asked,
-  dump-code-reads.Learnt,
-  dump-constants-below t,
-  dump-constants.Post,
-  dump-debug-reads.Asked,
-  dump-debug-reads.Learnt,
-) (dump-function-at t) dump-function.Post
-dump-function-dump-code-requires t c κs = search needs
+dump-function-dump-code-requires : (t : ℕ) → dump-function-lts.Need-dump-code-requires (dump-function-calls t) (dump-function-at t) dump-function.Post
+dump-function-dump-code-requires t c κs =
+    let c₁ = c .before .before .before in
+    let c₂ = c₁ .before .before .before .before in
+    let c₃ = c₂ .before .before .before .before in
+    let c₄ = c₃ .before .before .before .before in
+    let c₅ = c₄ .before .before in
+    let c₆ = c₅ .before in
+    let c₇ = c₆ .before .before .before .before .before in
+    let a = c₇ .args in
+    let r = c₇ .pre .1 in
+    let n = a .allowance - 1 in
+    let e : a .allowance ≡ suc n = omega (arith, c₆ .if1 .left) in
+    let v : Valid (r .value) (suc n) = rw e at (r .valid) in
+    code-ready (reached (a .s) (a .out .now)) n (a .strip) (a .root) (a .outer .now) (c₅ .own-source .result .now) (c₅ .own-source .ensures) (c₄ .dump-source .ensures) (c₃ .dump-word .ensures) (c₂ .dump-word2 .ensures) (c₁ .dump-packed .ensures) (r .value) v (r .fits)
 
-dump-function-sub-dump-constants : (t : ℕ) → dump-function-lts.Need-sub-dump-constants (
-  own-source-reads.Asked,
-  own-source-reads.Learnt,
-  dump-source-reads.Asked,
-  dump-source-reads.Learnt,
-  dump-word-reads.Asked,
-  dump-word-reads.Learnt,
-  dump-packed-reads.Asked,
-  dump-packed-reads.Learnt,
-  dump-code-reads.Asked,
-  dump-code-reads.Learnt,
-  dump-constants-below t,
-  dump-constants.Post,
-  dump-debug-reads.Asked,
-  dump-debug-reads.Learnt,
-) (dump-function-at t) dump-function.Post
+dump-function-sub-dump-constants : (t : ℕ) → dump-function-lts.Need-sub-dump-constants (dump-function-calls t) (dump-function-at t) dump-function.Post
 dump-function-sub-dump-constants t c =
     let c₁ = c .before .before .before .before .before .before .before .before .before .before .before .before .before .before .before .before .before .before .before .before .before .before in
     omega (arith, c₁ .if1 .left)
 
-dump-function-dump-constants-requires : (t : ℕ) → dump-function-lts.Need-dump-constants-requires (
-  own-source-reads.Asked,
-  own-source-reads.Learnt,
-  dump-source-reads.Asked,
-  dump-source-reads.Learnt,
-  dump-word-reads.Asked,
-  dump-word-reads.Learnt,
-  dump-packed-reads.Asked,
-  dump-packed-reads.Learnt,
-  dump-code-reads.Asked,
-  dump-code-reads.Learnt,
-  dump-constants-below t,
-  dump-constants.Post,
-  dump-debug-reads.Asked,
-  dump-debug-reads.Learnt,
-) (dump-function-at t) dump-function.Post
+dump-function-dump-constants-requires : (t : ℕ) → dump-function-lts.Need-dump-constants-requires (dump-function-calls t) (dump-function-at t) dump-function.Post
 dump-function-dump-constants-requires t c κs =
-    let c₁ = c .before .before .before .before .before .before .before .before .before .before .before .before .before .before .before .before .before .before .before .before .before .before in
-    let c₂ = c₁ .before .before .before .before .before in
-    (omega (arith, c₂ .pre .0, c₁ .if1 .left), tt)
+    let c₁ = c .before .before .before in
+    let c₂ = c₁ .before .before .before .before in
+    let c₃ = c₂ .before .before .before .before in
+    let c₄ = c₃ .before .before .before .before in
+    let c₅ = c₄ .before .before .before .before in
+    let c₆ = c₅ .before .before in
+    let c₇ = c₆ .before in
+    let c₈ = c₇ .before .before .before .before .before in
+    let a = c₈ .args in
+    let r = c₈ .pre .1 in
+    let n = a .allowance - 1 in
+    let e : a .allowance ≡ suc n = omega (arith, c₇ .if1 .left) in
+    let v : Valid (r .value) (suc n) = rw e at (r .valid) in
+    (omega (arith, c₈ .pre .0, c₇ .if1 .left), constants-ready (reached (a .s) (a .out .now)) n (a .strip) (a .root) (a .outer .now) (c₆ .own-source .result .now) (c₆ .own-source .ensures) (c₅ .dump-source .ensures) (c₄ .dump-word .ensures) (c₃ .dump-word2 .ensures) (c₂ .dump-packed .ensures) (c₁ .dump-code .ensures) (r .value) v (r .fits))
 
-dump-function-dump-debug-requires : (t : ℕ) → dump-function-lts.Need-dump-debug-requires (
-  own-source-reads.Asked,
-  own-source-reads.Learnt,
-  dump-source-reads.Asked,
-  dump-source-reads.Learnt,
-  dump-word-reads.Asked,
-  dump-word-reads.Learnt,
-  dump-packed-reads.Asked,
-  dump-packed-reads.Learnt,
-  dump-code-reads.Asked,
-  dump-code-reads.Learnt,
-  dump-constants-below t,
-  dump-constants.Post,
-  dump-debug-reads.Asked,
-  dump-debug-reads.Learnt,
-) (dump-function-at t) dump-function.Post
-dump-function-dump-debug-requires t c κs = search needs
+dump-function-dump-debug-requires : (t : ℕ) → dump-function-lts.Need-dump-debug-requires (dump-function-calls t) (dump-function-at t) dump-function.Post
+dump-function-dump-debug-requires t c κs =
+    let c₁ = c .before .before .before in
+    let c₂ = c₁ .before .before .before .before in
+    let c₃ = c₂ .before .before .before .before in
+    let c₄ = c₃ .before .before .before .before in
+    let c₅ = c₄ .before .before .before .before in
+    let c₆ = c₅ .before .before .before .before in
+    let c₇ = c₆ .before .before in
+    let c₈ = c₇ .before in
+    let c₉ = c₈ .before .before .before .before .before in
+    let a = c₉ .args in
+    let r = c₉ .pre .1 in
+    let n = a .allowance - 1 in
+    let e : a .allowance ≡ suc n = omega (arith, c₈ .if1 .left) in
+    let v : Valid (r .value) (suc n) = rw e at (r .valid) in
+    debug-ready (reached (a .s) (a .out .now)) n (a .strip) (a .root) (a .outer .now) (c₇ .own-source .result .now) (c₇ .own-source .ensures) (c₆ .dump-source .ensures) (c₅ .dump-word .ensures) (c₄ .dump-word2 .ensures) (c₃ .dump-packed .ensures) (c₂ .dump-code .ensures) (c₁ .dump-constants .ensures) (r .value) v (r .fits)
 
-dump-function-same-length : (t : ℕ) → dump-function-lts.Need-same-length (
-  own-source-reads.Asked,
-  own-source-reads.Learnt,
-  dump-source-reads.Asked,
-  dump-source-reads.Learnt,
-  dump-word-reads.Asked,
-  dump-word-reads.Learnt,
-  dump-packed-reads.Asked,
-  dump-packed-reads.Learnt,
-  dump-code-reads.Asked,
-  dump-code-reads.Learnt,
-  dump-constants-below t,
-  dump-constants.Post,
-  dump-debug-reads.Asked,
-  dump-debug-reads.Learnt,
-) (dump-function-at t) dump-function.Post
+dump-function-same-length : (t : ℕ) → dump-function-lts.Need-same-length (dump-function-calls t) (dump-function-at t) dump-function.Post
 dump-function-same-length t c =
     let c₁ = c .before .before in
     let c₂ = c₁ .before .before .before .before in
@@ -419,22 +250,7 @@ dump-function-same-length t c =
     let c₇ = c₆ .before .before .before .before in
     c₁ .dump-debug .kept .1 .1 .1 .0 ∙ c₂ .dump-constants .kept .1 .1 .1 .1 .0 ∙ c₃ .dump-code .kept .1 .0 ∙ c₄ .dump-packed .kept .1 .0 ∙ c₅ .dump-word2 .kept .1 .0 ∙ c₆ .dump-word .kept .1 .0 ∙ c₇ .dump-source .kept .1 .1 .1 .1 .0
 
-dump-function-returns-2 : (t : ℕ) → dump-function-lts.Need-returns-2 (
-  own-source-reads.Asked,
-  own-source-reads.Learnt,
-  dump-source-reads.Asked,
-  dump-source-reads.Learnt,
-  dump-word-reads.Asked,
-  dump-word-reads.Learnt,
-  dump-packed-reads.Asked,
-  dump-packed-reads.Learnt,
-  dump-code-reads.Asked,
-  dump-code-reads.Learnt,
-  dump-constants-below t,
-  dump-constants.Post,
-  dump-debug-reads.Asked,
-  dump-debug-reads.Learnt,
-) (dump-function-at t) dump-function.Post
+dump-function-returns-2 : (t : ℕ) → dump-function-lts.Need-returns-2 (dump-function-calls t) (dump-function-at t) dump-function.Post
 dump-function-returns-2 t c =
     let c₁ = c .before .before in
     let c₂ = c₁ .before .before .before .before in
@@ -452,17 +268,7 @@ dump-function-returns-2 t c =
 
 pub +dump-constants+dump-function-spec : {M : Type 1} → statement M
 +dump-constants+dump-function-spec =
-    close μ-dump-constants μ-dump-function (λ t. dump-constants-lts.spec (
-      dump-values-reads.Asked,
-      dump-values-reads.Learnt,
-      word-at-reads.Asked,
-      word-at-reads.Learnt,
-      dump-word-reads.Asked,
-      dump-word-reads.Learnt,
-      dump-function-below t,
-      dump-function.Post,
-    )
-    (dump-constants-at t)
+    close μ-dump-constants μ-dump-function (λ t. dump-constants-lts.spec (dump-constants-calls t) (dump-constants-at t)
     dump-constants.Post
     dump-constants-Inv-loop
     dump-constants-μ-loop
@@ -476,23 +282,7 @@ pub +dump-constants+dump-function-spec : {M : Type 1} → statement M
     (dump-constants-loop-again t)
     (dump-constants-same-length t)
     (dump-constants-returns t))
-    λ t. dump-function-lts.spec (
-      own-source-reads.Asked,
-      own-source-reads.Learnt,
-      dump-source-reads.Asked,
-      dump-source-reads.Learnt,
-      dump-word-reads.Asked,
-      dump-word-reads.Learnt,
-      dump-packed-reads.Asked,
-      dump-packed-reads.Learnt,
-      dump-code-reads.Asked,
-      dump-code-reads.Learnt,
-      dump-constants-below t,
-      dump-constants.Post,
-      dump-debug-reads.Asked,
-      dump-debug-reads.Learnt,
-    )
-    (dump-function-at t)
+    λ t. dump-function-lts.spec (dump-function-calls t) (dump-function-at t)
     dump-function.Post
     (dump-function-returns t)
     (dump-function-own-source-requires t)

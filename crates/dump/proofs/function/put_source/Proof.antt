@@ -1,12 +1,23 @@
+-- A size of 0, or the string.
 use borrow.Author.Needs.{needs}
-use Rattle.dump.proofs.Functions.{put-elided, put-own}
+use native.Mathlib.Omega.{arith}
+use mathlib.Core.Path.{refl}
+use Rattle.dump.proofs.Blocks.{size-fits, string-fits}
+use Rattle.dump.proofs.Functions.{put-elided, put-own, room-elided, room-own}
 use Rattle.dump.proofs.function.put_source.Statement.{statement}
 use Rattle.dump.proofs.function.put_source.Tie as tie
 
--- A size of 0, or the string.
+store-size-requires : tie.Need-store-size-requires
+store-size-requires c κs =
+    let c₁ = c .before in
+    let c₂ = c₁ .before .before .before in
+    room-elided (c₂ .args .at) (c₂ .args .source .now) (c₁ .if1 .taken) (c₂ .pre)
 
-dump-size-requires : tie.Need-dump-size-requires
-dump-size-requires c κs = search needs
+add-result : tie.Need-add-result
+add-result c =
+    let c₁ = c .before .before .before .before in
+    let c₂ = c₁ .before .before .before in
+    omega (arith, room-elided (c₂ .args .at) (c₂ .args .source .now) (c₁ .if1 .taken) (c₂ .pre))
 
 same-length : tie.Need-same-length
 same-length c = search needs
@@ -16,10 +27,25 @@ returns c =
     let c₁ = c .before .before in
     let c₂ = c₁ .before .before in
     let c₃ = c₂ .before .before .before in
-    put-elided (c₃ .args .source .now) (c₂ .if1 .taken) (c₁ .dump-size .ensures)
+    put-elided (c₃ .args .at) (c₃ .args .source .now) (c₂ .if1 .taken) (size-fits 0 (omega (arith, room-elided (c₃ .args .at) (c₃ .args .source .now) (c₂ .if1 .taken) (c₃ .pre))) refl (c₁ .store-size .ensures))
 
-dump-string-requires : tie.Need-dump-string-requires
-dump-string-requires c κs = search needs
+store-string-requires : tie.Need-store-string-requires
+store-string-requires c κs =
+    let c₁ = c .before in
+    let c₂ = c₁ .before .before .before in
+    room-own (c₂ .args .at) (c₂ .args .source .now) (c₁ .if1 .left) (c₂ .pre)
+
+add-result-2 : tie.Need-add-result-2
+add-result-2 c =
+    let c₁ = c .before .before .before .before in
+    let c₂ = c₁ .before .before .before in
+    omega (arith, room-own (c₂ .args .at) (c₂ .args .source .now) (c₁ .if1 .left) (c₂ .pre))
+
+add-result-3 : tie.Need-add-result-3
+add-result-3 c =
+    let c₁ = c .before .before .before .before in
+    let c₂ = c₁ .before .before .before in
+    omega (arith, room-own (c₂ .args .at) (c₂ .args .source .now) (c₁ .if1 .left) (c₂ .pre))
 
 same-length-2 : tie.Need-same-length-2
 same-length-2 c = search needs
@@ -29,9 +55,18 @@ returns-2 c =
     let c₁ = c .before .before in
     let c₂ = c₁ .before .before in
     let c₃ = c₂ .before .before .before in
-    put-own (c₃ .args .source .now) (c₂ .if1 .left) (c₁ .dump-string .ensures)
+    put-own (c₃ .args .at) (c₃ .args .source .now) (c₂ .if1 .left) (string-fits (c₃ .args .source .now) (omega (arith, room-own (c₃ .args .at) (c₃ .args .source .now) (c₂ .if1 .left) (c₃ .pre))) refl (c₁ .store-string .ensures))
 
 pub put-source-spec : {M : Type 1} → statement M
 put-source-spec =
     tie.close
-    (tie.spec dump-size-requires same-length returns dump-string-requires same-length-2 returns-2)
+    (tie.spec
+    store-size-requires
+    add-result
+    same-length
+    returns
+    store-string-requires
+    add-result-2
+    add-result-3
+    same-length-2
+    returns-2)

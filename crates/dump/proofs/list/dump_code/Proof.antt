@@ -1,49 +1,94 @@
+-- The count, then the items behind it.
 use borrow.Author.Needs.{needs}
-use Rattle.dump.proofs.Steps.{ints-dumped}
+use native.Mathlib.Omega.{arith}
+use mathlib.Core.Path.{refl}
+use lib.ListN.{getD}
+use Rattle.dump.proofs.Blocks.{int-fits, ints-fit}
+use Rattle.dump.proofs.Steps.{code-items, code-dumped}
 use Rattle.dump.proofs.list.dump_code.Statement.{statement}
 use Rattle.dump.proofs.list.dump_code.Tie as tie
 
--- The count, then the items behind it.
+mul-n : tie.Need-mul-n
+mul-n c = search needs
 
-ints-at-requires : tie.Need-ints-at-requires
-ints-at-requires c κs = search needs
+shared-slice-read-n : tie.Need-shared-slice-read-n
+shared-slice-read-n c = search needs
 
-word-at-requires : tie.Need-word-at-requires
-word-at-requires c κs = search needs
+cast-n : tie.Need-cast-n
+cast-n c = search needs
 
-dump-int-requires : tie.Need-dump-int-requires
-dump-int-requires c κs = search needs
+add-start : tie.Need-add-start
+add-start c = search needs
 
-dump-ints-requires : tie.Need-dump-ints-requires
-dump-ints-requires c κs = search needs
+add-end : tie.Need-add-end
+add-end c = search needs
 
-skip-requires : tie.Need-skip-requires
-skip-requires c κs = search needs
+mul-store-int : tie.Need-mul-store-int
+mul-store-int c = search needs
 
-skip-requires-2 : tie.Need-skip-requires-2
-skip-requires-2 c κs = search needs
+shared-slice-read-store-int : tie.Need-shared-slice-read-store-int
+shared-slice-read-store-int c = search needs
+
+store-int-requires : tie.Need-store-int-requires
+store-int-requires c κs = search needs
+
+add-store-ints : tie.Need-add-store-ints
+add-store-ints c = search needs
+
+mul-store-ints : tie.Need-mul-store-ints
+mul-store-ints c = search needs
+
+sub-store-ints : tie.Need-sub-store-ints
+sub-store-ints c = search needs
+
+part-store-ints-start : tie.Need-part-store-ints-start
+part-store-ints-start c = search needs
+
+part-store-ints-end : tie.Need-part-store-ints-end
+part-store-ints-end c = search needs
+
+store-ints-requires : tie.Need-store-ints-requires
+store-ints-requires c κs = search needs
+
+add-t9 : tie.Need-add-t9
+add-t9 c = search needs
+
+mul-t20 : tie.Need-mul-t20
+mul-t20 c = search needs
+
+add-t18 : tie.Need-add-t18
+add-t18 c = search needs
 
 same-length : tie.Need-same-length
 same-length c = search needs
 
 returns : tie.Need-returns
 returns c =
-    let c₁ = c .before in
-    let c₂ = c₁ .before .before .before in
-    let c₃ = c₂ .before .before .before .before in
-    let c₄ = c₃ .before in
-    let c₅ = c₄ .before .before in
-    ints-dumped (c₄ .word-at .ensures) (c₅ .ints-at .ensures) (c₁ .skip .ensures) (c .skip2 .ensures) (c₃ .dump-int .ensures) (c₂ .dump-ints .ensures)
+    let c₁ = c .before .before in
+    let c₂ = c₁ .before .before .before .before .before in
+    let c₃ = c₂ .before .before .before .before .before .before in
+    let n = getD (c₃ .args .words .now) (c₃ .args .s .at) 0 in let i = code-items (c₃ .args .words .now) (c₃ .args .s .at) n (omega arith) in code-dumped (i .0) refl (int-fits n (omega arith) refl (c₂ .store-int .ensures)) (ints-fit _ (omega arith) (omega arith) (c₁ .store-ints .ensures))
 
 pub dump-code-spec : {M : Type 1} → statement M
 dump-code-spec =
     tie.close
     (tie.spec
-    ints-at-requires
-    word-at-requires
-    dump-int-requires
-    dump-ints-requires
-    skip-requires
-    skip-requires-2
+    mul-n
+    shared-slice-read-n
+    cast-n
+    add-start
+    add-end
+    mul-store-int
+    shared-slice-read-store-int
+    store-int-requires
+    add-store-ints
+    mul-store-ints
+    sub-store-ints
+    part-store-ints-start
+    part-store-ints-end
+    store-ints-requires
+    add-t9
+    mul-t20
+    add-t18
     same-length
     returns)

@@ -1,26 +1,31 @@
+-- The constant that stands there is the one written.
 use borrow.Author.Needs.{needs}
-use Rattle.dump.proofs.Steps.{constant-dumped}
+use native.Mathlib.Omega.{arith}
+use Rattle.dump.proofs.Steps.{skips-on, constant-dumped}
+use Rattle.dump.proofs.Readies.{constant-within}
 use Rattle.dump.proofs.list.dump_constant.Statement.{statement}
 use Rattle.dump.proofs.list.dump_constant.Tie as tie
-
--- The constant that stands there is the one written.
 
 constant-at-requires : tie.Need-constant-at-requires
 constant-at-requires c κs = search needs
 
 put-constant-requires : tie.Need-put-constant-requires
-put-constant-requires c κs = search needs
+put-constant-requires c κs =
+    let c₁ = c .before in
+    let c₂ = c₁ .before .before .before .before in
+    rw (c₁ .constant-at .ensures (c₂ .pre .value) _ (c₂ .pre .fits .to) (c₂ .pre .fits .stands)) (c₂ .pre .fits .room)
 
-skip-requires : tie.Need-skip-requires
-skip-requires c κs = search needs
+add-t10 : tie.Need-add-t10
+add-t10 c =
+    let c₁ = c .before .before .before .before .before .before .before .before in
+    omega (arith, constant-within (c₁ .pre .value) _ (c₁ .pre .fits))
 
 same-length : tie.Need-same-length
 same-length c = search needs
 
 returns : tie.Need-returns
-returns c = constant-dumped _ (c .skip .ensures) (λ k to h. c .before .before .before .before .before .constant-at .ensures k _ to h) (c .before .before .before .put-constant .ensures)
+returns c = constant-dumped _ skips-on (λ k to h. c .before .before .before .before .constant-at .ensures k _ to h) (c .before .before .put-constant .ensures)
 
 pub dump-constant-spec : {M : Type 1} → statement M
 dump-constant-spec =
-    tie.close
-    (tie.spec constant-at-requires put-constant-requires skip-requires same-length returns)
+    tie.close (tie.spec constant-at-requires put-constant-requires add-t10 same-length returns)

@@ -1,12 +1,13 @@
+-- Three counts of 0, or the three lists one behind the other.
 use borrow.Author.Needs.{needs}
+use native.Mathlib.Omega.{arith}
 use Rattle.dump.proofs.Steps.{debug-stripped, debug-dumped}
+use Rattle.dump.proofs.Readies.{no-debug-fits, lines-ready, locals-ready, names-ready}
 use Rattle.dump.proofs.list.dump_debug.Statement.{statement}
 use Rattle.dump.proofs.list.dump_debug.Tie as tie
 
--- Three counts of 0, or the three lists one behind the other.
-
-dump-no-debug-requires : tie.Need-dump-no-debug-requires
-dump-no-debug-requires c κs = search needs
+put-no-debug-requires : tie.Need-put-no-debug-requires
+put-no-debug-requires c κs = no-debug-fits (c .before .if1 .taken) (c .before .before .before .before .before .pre)
 
 after-debug-requires : tie.Need-after-debug-requires
 after-debug-requires c κs = search needs
@@ -15,16 +16,25 @@ same-length : tie.Need-same-length
 same-length c = search needs
 
 returns : tie.Need-returns
-returns c = debug-stripped (c .before .before .before .before .before .if1 .taken) (c .after-debug .ensures) (c .before .before .before .dump-no-debug .ensures)
+returns c = debug-stripped (c .before .before .before .before .before .if1 .taken) (c .after-debug .ensures) (c .before .before .before .put-no-debug .ensures)
 
 dump-code-requires : tie.Need-dump-code-requires
-dump-code-requires c κs = search needs
+dump-code-requires c κs = lines-ready (c .before .if1 .left) (c .before .before .before .before .before .pre)
 
 dump-locals-requires : tie.Need-dump-locals-requires
-dump-locals-requires c κs = search needs
+dump-locals-requires c κs =
+    let c₁ = c .before .before .before in
+    let c₂ = c₁ .before .before in
+    let c₃ = c₂ .before .before .before .before in
+    locals-ready (c₂ .if1 .left) (c₃ .pre) (c₁ .dump-code .ensures)
 
 dump-names-requires : tie.Need-dump-names-requires
-dump-names-requires c κs = search needs
+dump-names-requires c κs =
+    let c₁ = c .before .before .before in
+    let c₂ = c₁ .before .before .before .before in
+    let c₃ = c₂ .before .before in
+    let c₄ = c₃ .before .before .before .before in
+    names-ready (c₃ .if1 .left) (c₄ .pre) (c₂ .dump-code .ensures) (c₁ .dump-locals .ensures)
 
 same-length-2 : tie.Need-same-length-2
 same-length-2 c = search needs
@@ -41,7 +51,7 @@ pub dump-debug-spec : {M : Type 1} → statement M
 dump-debug-spec =
     tie.close
     (tie.spec
-    dump-no-debug-requires
+    put-no-debug-requires
     after-debug-requires
     same-length
     returns

@@ -1,18 +1,26 @@
+-- Three pieces one behind the other.
 use borrow.Author.Needs.{needs}
+use native.Mathlib.Omega.{arith}
 use Rattle.dump.proofs.Steps.{local-dumped}
+use Rattle.dump.proofs.Readies.{local-name, local-start, local-end}
 use Rattle.dump.proofs.list.dump_local.Statement.{statement}
 use Rattle.dump.proofs.list.dump_local.Tie as tie
 
--- Three pieces one behind the other.
-
 dump-name-requires : tie.Need-dump-name-requires
-dump-name-requires c κs = search needs
+dump-name-requires c κs = local-name (c .before .before .before .before .pre)
 
 dump-word-requires : tie.Need-dump-word-requires
-dump-word-requires c κs = search needs
+dump-word-requires c κs =
+    let c₁ = c .before .before .before in
+    let c₂ = c₁ .before .before .before .before .before in
+    local-start (c₂ .pre) (c₁ .dump-name .ensures)
 
 dump-word-requires-2 : tie.Need-dump-word-requires-2
-dump-word-requires-2 c κs = search needs
+dump-word-requires-2 c κs =
+    let c₁ = c .before .before .before in
+    let c₂ = c₁ .before .before .before .before in
+    let c₃ = c₂ .before .before .before .before .before in
+    local-end (c₃ .pre) (c₂ .dump-name .ensures) (c₁ .dump-word .ensures)
 
 same-length : tie.Need-same-length
 same-length c = search needs

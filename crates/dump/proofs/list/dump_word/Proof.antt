@@ -1,25 +1,41 @@
+-- The word that stands there is the one written.
 use borrow.Author.Needs.{needs}
-use Rattle.dump.proofs.Steps.{word-dumped}
+use native.Mathlib.Omega.{arith}
+use mathlib.Core.Path.{refl}
+use Rattle.dump.proofs.Blocks.{int-fits}
+use Rattle.dump.proofs.Steps.{skips-on, word-dumped}
 use Rattle.dump.proofs.list.dump_word.Statement.{statement}
 use Rattle.dump.proofs.list.dump_word.Tie as tie
 
--- The word that stands there is the one written.
+mul-store-int : tie.Need-mul-store-int
+mul-store-int c = search needs
 
-word-at-requires : tie.Need-word-at-requires
-word-at-requires c κs = search needs
+shared-slice-read-store-int : tie.Need-shared-slice-read-store-int
+shared-slice-read-store-int c = search needs
 
-dump-int-requires : tie.Need-dump-int-requires
-dump-int-requires c κs = search needs
+store-int-requires : tie.Need-store-int-requires
+store-int-requires c κs = search needs
 
-skip-requires : tie.Need-skip-requires
-skip-requires c κs = search needs
+add-t9 : tie.Need-add-t9
+add-t9 c = search needs
+
+add-t12 : tie.Need-add-t12
+add-t12 c = search needs
 
 same-length : tie.Need-same-length
 same-length c = search needs
 
 returns : tie.Need-returns
-returns c = word-dumped (c .before .before .before .before .word-at .ensures) (c .skip .ensures) (c .before .before .before .dump-int .ensures)
+returns c = word-dumped refl skips-on (int-fits _ (omega arith) refl (c .before .before .store-int .ensures))
 
 pub dump-word-spec : {M : Type 1} → statement M
 dump-word-spec =
-    tie.close (tie.spec word-at-requires dump-int-requires skip-requires same-length returns)
+    tie.close
+    (tie.spec
+    mul-store-int
+    shared-slice-read-store-int
+    store-int-requires
+    add-t9
+    add-t12
+    same-length
+    returns)

@@ -1,108 +1,181 @@
+-- The tag of each kind, then what it holds; there is room for it.
 use borrow.Author.Needs.{needs}
-use Rattle.dump.proofs.Steps.{bool-puts, num-puts, str-puts}
+use native.Mathlib.Omega.{arith}
+use mathlib.Core.Path.{refl, ap, _∙_}
+use lib.ListN.{length, length-set}
+use Rattle.lent.proofs.Writes.{put-stored}
+use Rattle.proto.specs.Constants.{valueOf}
+use Rattle.dump.proofs.Blocks.{int-fits, string-fits}
+use Rattle.dump.proofs.Steps.{bool-puts, num-puts, str-puts, room-nil, room-bool, room-num, room-str}
 use Rattle.dump.proofs.list.put_constant.Statement.{statement}
 use Rattle.dump.proofs.list.put_constant.Tie as tie
-
--- The tag of each kind, then what it holds.
 
 enum-told : tie.Need-enum-told
 enum-told c = search needs
 
-dump-byte-requires : tie.Need-dump-byte-requires
-dump-byte-requires c κs = search needs
+slice-write-out : tie.Need-slice-write-out
+slice-write-out c =
+    let c₁ = c .before .before .before .before in
+    omega (arith, room-nil (c₁ .args .at) (ap (valueOf (c₁ .args .text .now)) (c .enum-told .given .1)) (c₁ .pre))
+
+add-result : tie.Need-add-result
+add-result c =
+    let c₁ = c .before .before .before .before in
+    omega (arith, room-nil (c₁ .args .at) (ap (valueOf (c₁ .args .text .now)) (c .enum-told .given .1)) (c₁ .pre))
 
 enum-known-k : tie.Need-enum-known-k
 enum-known-k c = search needs
 
-dump-byte-requires-2 : tie.Need-dump-byte-requires-2
-dump-byte-requires-2 c κs = search needs
+slice-write-out-2 : tie.Need-slice-write-out-2
+slice-write-out-2 c =
+    let c₁ = c .before in
+    let c₂ = c₁ .before .before .before .before in
+    omega (arith, room-bool (c₂ .args .at) (ap (valueOf (c₂ .args .text .now)) (c₁ .k .given .1)) (c₂ .pre))
 
-cast-dump-byte : tie.Need-cast-dump-byte
-cast-dump-byte c = search needs
+cast-out : tie.Need-cast-out
+cast-out c = search needs
 
-dump-byte-requires-3 : tie.Need-dump-byte-requires-3
-dump-byte-requires-3 c κs = search needs
+add-out : tie.Need-add-out
+add-out c = search needs
+
+slice-write-out-3 : tie.Need-slice-write-out-3
+slice-write-out-3 c =
+    let c₁ = c .before in
+    let c₂ = c₁ .before .before .before .before in
+    simp length-set (omega (arith, room-bool (c₂ .args .at) (ap (valueOf (c₂ .args .text .now)) (c₁ .k .given .1)) (c₂ .pre)))
+
+add-result-2 : tie.Need-add-result-2
+add-result-2 c = search needs
 
 enum-known-k-2 : tie.Need-enum-known-k-2
 enum-known-k-2 c = search needs
 
-dump-byte-requires-4 : tie.Need-dump-byte-requires-4
-dump-byte-requires-4 c κs = search needs
+slice-write-out-4 : tie.Need-slice-write-out-4
+slice-write-out-4 c =
+    let c₁ = c .before in
+    let c₂ = c₁ .before .before .before .before in
+    omega (arith, room-num (c₂ .args .at) (ap (valueOf (c₂ .args .text .now)) (c₁ .k2 .given .1)) (c₂ .pre))
 
-dump-int-requires : tie.Need-dump-int-requires
-dump-int-requires c κs = search needs
+add-store-int : tie.Need-add-store-int
+add-store-int c = search needs
 
-dump-int-requires-2 : tie.Need-dump-int-requires-2
-dump-int-requires-2 c κs = search needs
+store-int-requires : tie.Need-store-int-requires
+store-int-requires c κs =
+    let c₁ = c .before .before in
+    let c₂ = c₁ .before .before .before .before in
+    simp length-set (omega (arith, room-num (c₂ .args .at) (ap (valueOf (c₂ .args .text .now)) (c₁ .k2 .given .1)) (c₂ .pre)))
+
+add-store-int-2 : tie.Need-add-store-int-2
+add-store-int-2 c = search needs
+
+store-int-requires-2 : tie.Need-store-int-requires-2
+store-int-requires-2 c κs =
+    let c₁ = c .before .before .before in
+    let c₂ = c₁ .before .before .before in
+    let c₃ = c₂ .before .before .before .before in
+    rw (c₁ .store-int .kept .0) (simp length-set (omega (arith, room-num (c₃ .args .at) (ap (valueOf (c₃ .args .text .now)) (c₂ .k2 .given .1)) (c₃ .pre))))
+
+add-result-3 : tie.Need-add-result-3
+add-result-3 c = search needs
 
 enum-known-k-3 : tie.Need-enum-known-k-3
 enum-known-k-3 c = search needs
 
-dump-byte-requires-5 : tie.Need-dump-byte-requires-5
-dump-byte-requires-5 c κs = search needs
-
 part-requires : tie.Need-part-requires
 part-requires c κs = search needs
 
-dump-string-requires : tie.Need-dump-string-requires
-dump-string-requires c κs = search needs
+slice-write-out-5 : tie.Need-slice-write-out-5
+slice-write-out-5 c =
+    let c₁ = c .before .before in
+    let c₂ = c₁ .before .before .before .before in
+    omega (arith, room-str (c₂ .args .at) (ap (valueOf (c₂ .args .text .now)) (c₁ .k3 .given .1)) (c₂ .pre))
+
+add-store-string : tie.Need-add-store-string
+add-store-string c = search needs
+
+store-string-requires : tie.Need-store-string-requires
+store-string-requires c κs =
+    let c₁ = c .before in
+    let c₂ = c₁ .before .before in
+    let c₃ = c₂ .before .before .before .before in
+    simp length-set (omega (arith, room-str (c₃ .args .at) (ap (valueOf (c₃ .args .text .now)) (c₂ .k3 .given .1)) (c₃ .pre), ap length (c₁ .part .ensures)))
+
+add-result-4 : tie.Need-add-result-4
+add-result-4 c = search needs
+
+add-result-5 : tie.Need-add-result-5
+add-result-5 c =
+    let c₁ = c .before .before .before .before in
+    let c₂ = c₁ .before .before in
+    let c₃ = c₂ .before .before .before .before in
+    omega (arith, room-str (c₃ .args .at) (ap (valueOf (c₃ .args .text .now)) (c₂ .k3 .given .1)) (c₃ .pre), ap length (c₁ .part .ensures))
 
 same-length : tie.Need-same-length
 same-length c = search needs
 
 returns : tie.Need-returns
-returns c = rw (c .before .before .before .before .enum-told .given .1) (c .before .before .dump-byte .ensures)
+returns c =
+    let c₁ = c .before .before .before .before in
+    let h = room-nil (c₁ .args .at) (ap (valueOf (c₁ .args .text .now)) (c .enum-told .given .1)) (c₁ .pre) in rw (c .enum-told .given .1) (put-stored (omega arith) refl)
 
 same-length-2 : tie.Need-same-length-2
 same-length-2 c = search needs
 
 returns-2 : tie.Need-returns-2
 returns-2 c =
-    let c₁ = c .before .before in
+    let c₁ = c .before in
     let c₂ = c₁ .before .before .before .before in
-    let c₃ = c₂ .before .before .before in
-    rw (c₃ .k .given .1) (bool-puts (c₃ .k .given .0 .0) (c₂ .dump-byte2 .ensures) (c₁ .dump-byte3 .ensures))
+    let h = room-bool (c₂ .args .at) (ap (valueOf (c₂ .args .text .now)) (c₁ .k .given .1)) (c₂ .pre) in rw (c₁ .k .given .1) (bool-puts (c₁ .k .given .0 .0) (put-stored (omega arith) refl) (put-stored (omega arith) refl))
 
 same-length-3 : tie.Need-same-length-3
-same-length-3 c = search needs
+same-length-3 c = c .before .before .store-int2 .kept .0 ∙ c .before .before .before .before .before .before .store-int .kept .0 ∙ simp length-set
 
 returns-3 : tie.Need-returns-3
 returns-3 c =
     let c₁ = c .before .before in
     let c₂ = c₁ .before .before .before .before in
-    let c₃ = c₂ .before .before .before .before in
-    let c₄ = c₃ .before .before .before in
-    rw (c₄ .k2 .given .1) (num-puts _ _ (c₃ .dump-byte4 .ensures) (c₂ .dump-int .ensures) (c₁ .dump-int2 .ensures))
+    let c₃ = c₂ .before .before .before in
+    let c₄ = c₃ .before .before .before .before in
+    let h = room-num (c₄ .args .at) (ap (valueOf (c₄ .args .text .now)) (c₃ .k2 .given .1)) (c₄ .pre) in rw (c₃ .k2 .given .1) (num-puts _ _ (put-stored (omega arith) refl) (int-fits _ (omega arith) (omega arith) (c₂ .store-int .ensures)) (int-fits _ (omega arith) (omega arith) (c₁ .store-int2 .ensures)))
 
 same-length-4 : tie.Need-same-length-4
-same-length-4 c = search needs
+same-length-4 c = c .before .before .store-string .kept .0 ∙ simp length-set
 
 returns-4 : tie.Need-returns-4
 returns-4 c =
     let c₁ = c .before .before in
-    let c₂ = c₁ .before in
-    let c₃ = c₂ .before .before .before .before in
-    let c₄ = c₃ .before .before .before in
-    rw (c₄ .k3 .given .1) (str-puts (c₂ .part .ensures) (c₃ .dump-byte5 .ensures) (c₁ .dump-string .ensures))
+    let c₂ = c₁ .before .before in
+    let c₃ = c₂ .before .before in
+    let c₄ = c₃ .before .before .before .before in
+    let h = room-str (c₄ .args .at) (ap (valueOf (c₄ .args .text .now)) (c₃ .k3 .given .1)) (c₄ .pre) in rw (c₃ .k3 .given .1) (str-puts (c₂ .part .ensures) (put-stored (omega arith) refl) (string-fits (c₂ .part .result .now) (omega (arith, room-str (c₄ .args .at) (ap (valueOf (c₄ .args .text .now)) (c₃ .k3 .given .1)) (c₄ .pre), ap length (c₂ .part .ensures))) (omega arith) (c₁ .store-string .ensures)))
 
 pub put-constant-spec : {M : Type 1} → statement M
 put-constant-spec =
     tie.close
     (tie.spec
     enum-told
-    dump-byte-requires
+    slice-write-out
+    add-result
     enum-known-k
-    dump-byte-requires-2
-    cast-dump-byte
-    dump-byte-requires-3
+    slice-write-out-2
+    cast-out
+    add-out
+    slice-write-out-3
+    add-result-2
     enum-known-k-2
-    dump-byte-requires-4
-    dump-int-requires
-    dump-int-requires-2
+    slice-write-out-4
+    add-store-int
+    store-int-requires
+    add-store-int-2
+    store-int-requires-2
+    add-result-3
     enum-known-k-3
-    dump-byte-requires-5
     part-requires
-    dump-string-requires
+    slice-write-out-5
+    add-store-string
+    store-string-requires
+    add-result-4
+    add-result-5
     same-length
     returns
     same-length-2

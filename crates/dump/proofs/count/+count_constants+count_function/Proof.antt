@@ -1,0 +1,197 @@
+-- The parts of a function one behind the other, counted. The loop's invariant: whatever counts the other functions from here counts all of them.
+-- The measure is twice the allowance, and one more for count_constants, which calls count_function at the same allowance.
+use Prim.Native.Nat.{ℕ, suc, _+_, _-_, _<_}
+use borrow.Author.Needs.{needs}
+use native.Mathlib.Omega.{arith}
+use mathlib.Core.Path.{_≡_, refl, _∙_}
+use mathlib.Core.List.{[]}
+use lib.ListN.{length}
+use Rattle.format.specs.Store.{functionPiece}
+use Rattle.format.specs.Valid.{Valid}
+use Rattle.format.specs.Write.{dumpFunction}
+use Rattle.proto.proofs.Loops.{Loop, loop-start, loop-turn, loop-end}
+use Rattle.proto.proofs.Walks.{none-deep}
+use Rattle.dump.specs.Step.{reached}
+use Rattle.dump.proofs.Steps.{DumpsAll, all-none, all-more}
+use Rattle.dump.proofs.Counts.{word-counted, packed-counted}
+use Rattle.dump.proofs.Functions.{constants-dumped, function-dumped}
+use borrow.Fn.Kinds.{In}
+use borrow.Fn.PlainCycle.{Measures, is, falls, and}
+use Rattle.dump.proofs.count.count_constants.Reads as count-constants
+use Rattle.dump.proofs.count.count_constants.Kinds as count-constants-kinds
+use Rattle.dump.proofs.count.+count_constants+count_function.Lts-count_constants as count-constants-lts
+use Rattle.dump.proofs.count.count_function.Reads as count-function
+use Rattle.dump.proofs.count.count_function.Kinds as count-function-kinds
+use Rattle.dump.proofs.count.+count_constants+count_function.Lts-count_function as count-function-lts
+use Rattle.dump.proofs.count.ahead.Reads as ahead-reads
+use Rattle.dump.proofs.count.count_code.Reads as count-code-reads
+use Rattle.dump.proofs.count.count_debug.Reads as count-debug-reads
+use Rattle.dump.proofs.count.count_source.Reads as count-source-reads
+use Rattle.dump.proofs.count.count_values.Reads as count-values-reads
+use Rattle.proto.proofs.walk.own_source.Reads as own-source-reads
+use Rattle.proto.proofs.walk.word_at.Reads as word-at-reads
+use Rattle.dump.proofs.count.+count_constants+count_function.{statement}
+use Rattle.dump.proofs.count.+count_constants+count_function.Tie.{close}
+
+abbrev μ-count-constants : Measures 2 count-constants-kinds.ps ℕ
+μ-count-constants κs a = a .1 .1 .1 .1 .1 .0 + a .1 .1 .1 .1 .1 .0 + 1
+
+abbrev μ-count-function : Measures 2 count-function-kinds.ps ℕ
+μ-count-function κs a = a .1 .1 .1 .1 .1 .1 .0 + a .1 .1 .1 .1 .1 .1 .0
+
+abbrev count-constants-at : ℕ → In 2 count-constants-kinds.ps
+count-constants-at t =
+    and
+    2
+    count-constants-kinds.ps
+    (is 2 count-constants-kinds.ps μ-count-constants t)
+    count-constants.Pre
+
+abbrev count-constants-below : ℕ → In 2 count-constants-kinds.ps
+count-constants-below t =
+    and
+    2
+    count-constants-kinds.ps
+    (falls 2 count-constants-kinds.ps _<_ μ-count-constants t)
+    count-constants.Pre
+
+abbrev count-function-at : ℕ → In 2 count-function-kinds.ps
+count-function-at t =
+    and
+    2
+    count-function-kinds.ps
+    (is 2 count-function-kinds.ps μ-count-function t)
+    count-function.Pre
+
+abbrev count-function-below : ℕ → In 2 count-function-kinds.ps
+count-function-below t =
+    and
+    2
+    count-function-kinds.ps
+    (falls 2 count-function-kinds.ps _<_ μ-count-function t)
+    count-function.Pre
+
+abbrev count-constants-calls : ℕ → count-constants-lts.Claims
+count-constants-calls t = (count-values-reads.Asked, count-values-reads.Learnt, word-at-reads.Asked, word-at-reads.Learnt, ahead-reads.Asked, ahead-reads.Learnt, count-function-below t, count-function.Post)
+
+abbrev count-function-calls : ℕ → count-function-lts.Claims
+count-function-calls t = (own-source-reads.Asked, own-source-reads.Learnt, count-source-reads.Asked, count-source-reads.Learnt, ahead-reads.Asked, ahead-reads.Learnt, count-code-reads.Asked, count-code-reads.Learnt, count-constants-below t, count-constants.Post, count-debug-reads.Asked, count-debug-reads.Learnt)
+
+abbrev count-constants-Inv-loop : count-constants-lts.InvT-loop
+count-constants-Inv-loop words text strip source allowance n p₀ i₀ p i = Loop (DumpsAll words text (λ f. Valid f allowance) functionPiece (λ f. dumpFunction f strip source source)) n (reached p₀ []) i (reached p [])
+
+abbrev count-constants-μ-loop : count-constants-lts.MeasureT-loop
+count-constants-μ-loop words text strip source allowance n p₀ i₀ p i = n - i
+
+count-constants-count-values-requires : (t : ℕ) → count-constants-lts.Need-count-values-requires (count-constants-calls t) (count-constants-at t) count-constants.Post count-constants-Inv-loop count-constants-μ-loop
+count-constants-count-values-requires t c κs = search needs
+
+count-constants-word-at-requires : (t : ℕ) → count-constants-lts.Need-word-at-requires (count-constants-calls t) (count-constants-at t) count-constants.Post count-constants-Inv-loop count-constants-μ-loop
+count-constants-word-at-requires t c κs = search needs
+
+count-constants-ahead-requires : (t : ℕ) → count-constants-lts.Need-ahead-requires (count-constants-calls t) (count-constants-at t) count-constants.Post count-constants-Inv-loop count-constants-μ-loop
+count-constants-ahead-requires t c κs = search needs
+
+count-constants-loop-holds : (t : ℕ) → count-constants-lts.Need-loop-holds (count-constants-calls t) (count-constants-at t) count-constants.Post count-constants-Inv-loop count-constants-μ-loop
+count-constants-loop-holds t c = loop-start
+
+count-constants-count-function-requires :
+    (t : ℕ) → count-constants-lts.Need-count-function-requires (count-constants-calls t) (count-constants-at t) count-constants.Post count-constants-Inv-loop count-constants-μ-loop
+count-constants-count-function-requires t c κs = (omega (arith, c .before .before .before .before .before .before .before .before .pre .0), tt)
+
+count-constants-add-i : (t : ℕ) → count-constants-lts.Need-add-i (count-constants-calls t) (count-constants-at t) count-constants.Post count-constants-Inv-loop count-constants-μ-loop
+count-constants-add-i t c = omega arith
+
+count-constants-loop-less : (t : ℕ) → count-constants-lts.Need-loop-less (count-constants-calls t) (count-constants-at t) count-constants.Post count-constants-Inv-loop count-constants-μ-loop
+count-constants-loop-less t c = omega arith
+
+count-constants-loop-again : (t : ℕ) → count-constants-lts.Need-loop-again (count-constants-calls t) (count-constants-at t) count-constants.Post count-constants-Inv-loop count-constants-μ-loop
+count-constants-loop-again t c = loop-turn (omega arith) (c .before .before .loop .inv) (all-more (c .count-function .ensures))
+
+count-constants-returns : (t : ℕ) → count-constants-lts.Need-returns (count-constants-calls t) (count-constants-at t) count-constants.Post count-constants-Inv-loop count-constants-μ-loop
+count-constants-returns t c =
+    let c₁ = c .before in
+    let c₂ = c₁ .before in
+    let c₃ = c₂ .before in
+    let c₄ = c₃ .before in
+    let c₅ = c₄ .before .before .before .before in
+    let a = c₅ .args in constants-dumped (a .allowance) (a .strip) (a .source .now) (λ ks. c₄ .count-values .ensures ks _) (c₃ .word-at .ensures) (word-counted (c₂ .ahead .ensures)) (loop-end (omega arith) (c₁ .loop .inv) all-none)
+
+count-function-returns : (t : ℕ) → count-function-lts.Need-returns (count-function-calls t) (count-function-at t) count-function.Post
+count-function-returns t c = λ f v. absurd (none-deep (c .if1 .taken) f v)
+
+count-function-own-source-requires : (t : ℕ) → count-function-lts.Need-own-source-requires (count-function-calls t) (count-function-at t) count-function.Post
+count-function-own-source-requires t c κs = search needs
+
+count-function-count-source-requires : (t : ℕ) → count-function-lts.Need-count-source-requires (count-function-calls t) (count-function-at t) count-function.Post
+count-function-count-source-requires t c κs = search needs
+
+count-function-ahead-requires : (t : ℕ) → count-function-lts.Need-ahead-requires (count-function-calls t) (count-function-at t) count-function.Post
+count-function-ahead-requires t c κs = search needs
+
+count-function-ahead-requires-2 : (t : ℕ) → count-function-lts.Need-ahead-requires-2 (count-function-calls t) (count-function-at t) count-function.Post
+count-function-ahead-requires-2 t c κs = search needs
+
+count-function-ahead-requires-3 : (t : ℕ) → count-function-lts.Need-ahead-requires-3 (count-function-calls t) (count-function-at t) count-function.Post
+count-function-ahead-requires-3 t c κs = search needs
+
+count-function-count-code-requires : (t : ℕ) → count-function-lts.Need-count-code-requires (count-function-calls t) (count-function-at t) count-function.Post
+count-function-count-code-requires t c κs = search needs
+
+count-function-sub-count-constants : (t : ℕ) → count-function-lts.Need-sub-count-constants (count-function-calls t) (count-function-at t) count-function.Post
+count-function-sub-count-constants t c = omega (arith, c .before .before .before .before .before .before .if1 .left)
+
+count-function-count-constants-requires :
+    (t : ℕ) → count-function-lts.Need-count-constants-requires (count-function-calls t) (count-function-at t) count-function.Post
+count-function-count-constants-requires t c κs =
+    let c₁ = c .before .before .before .before .before .before in
+    let c₂ = c₁ .before .before .before .before in
+    (omega (arith, c₂ .pre .0, c₁ .if1 .left), tt)
+
+count-function-count-debug-requires : (t : ℕ) → count-function-lts.Need-count-debug-requires (count-function-calls t) (count-function-at t) count-function.Post
+count-function-count-debug-requires t c κs = search needs
+
+count-function-returns-2 : (t : ℕ) → count-function-lts.Need-returns-2 (count-function-calls t) (count-function-at t) count-function.Post
+count-function-returns-2 t c =
+    let c₁ = c .before in
+    let c₂ = c₁ .before in
+    let c₃ = c₂ .before in
+    let c₄ = c₃ .before in
+    let c₅ = c₄ .before in
+    let c₆ = c₅ .before in
+    let c₇ = c₆ .before in
+    let c₈ = c₇ .before in
+    let c₉ = c₈ .before .before .before .before in
+    let a = c₉ .args in
+    let n = a .allowance - 1 in
+    let e : a .allowance ≡ suc n = omega (arith, c₈ .if1 .left) in
+    rw e (function-dumped n (a .strip) (a .root) (a .outer .now) (c₇ .own-source .result .now) (c₇ .own-source .ensures) (c₆ .count-source .ensures) (word-counted (c₅ .ahead .ensures)) (word-counted (c₄ .ahead2 .ensures)) (λ p t v. packed-counted (c₃ .ahead3 .ensures) p t) (c₂ .count-code .ensures) (c₁ .count-constants .ensures) (λ g. c .count-debug .ensures g _))
+
+pub +count-constants+count-function-spec : {M : Type 1} → statement M
++count-constants+count-function-spec =
+    close μ-count-constants μ-count-function (λ t. count-constants-lts.spec (count-constants-calls t) (count-constants-at t)
+    count-constants.Post
+    count-constants-Inv-loop
+    count-constants-μ-loop
+    (count-constants-count-values-requires t)
+    (count-constants-word-at-requires t)
+    (count-constants-ahead-requires t)
+    (count-constants-loop-holds t)
+    (count-constants-count-function-requires t)
+    (count-constants-add-i t)
+    (count-constants-loop-less t)
+    (count-constants-loop-again t)
+    (count-constants-returns t))
+    λ t. count-function-lts.spec (count-function-calls t) (count-function-at t)
+    count-function.Post
+    (count-function-returns t)
+    (count-function-own-source-requires t)
+    (count-function-count-source-requires t)
+    (count-function-ahead-requires t)
+    (count-function-ahead-requires-2 t)
+    (count-function-ahead-requires-3 t)
+    (count-function-count-code-requires t)
+    (count-function-sub-count-constants t)
+    (count-function-count-constants-requires t)
+    (count-function-count-debug-requires t)
+    (count-function-returns-2 t)

@@ -1,0 +1,189 @@
+// How long a chunk is: the walk of the writer with nothing written. No place goes on from past the end, and lengths stop at the farthest.
+use crate::function::is_elided;
+use crate::list::DumpState;
+use lent::further;
+use proto::walk::after_debug;
+use proto::walk::own_source;
+use proto::walk::skip;
+use proto::walk::word_at;
+ghost use Prim.Native.Nat.{ℕ};
+ghost use mathlib.Core.Path.{_≡_};
+ghost use mathlib.Core.List.{List, []};
+ghost use Rattle.format.specs.Tree.{Constant as Value};
+ghost use Rattle.format.specs.Tree.{Source, Local, Debug, Functions, Function, count, filled, kept};
+ghost use Rattle.format.specs.Store.{string, list, ints, sourcePiece, constantPiece, localPiece, debugPiece, functionPiece};
+ghost use Rattle.format.specs.Valid.{Valid, ValidAll};
+ghost use Rattle.format.specs.Write.{dumpString, dumpText, dumpList, dumpCode, dumpConstant, dumpLocal, dumpDebug, elided, dumpConstants, dumpFunction, dumpFunctions};
+ghost use Rattle.proto.specs.Walk.{Stands};
+ghost use Rattle.dump.specs.Step.{Ahead, Dumps, reached, constantsPiece, around};
+
+// So many words and bytes on.
+fn ahead(words: &[u32], s: DumpState, n: usize, bytes: usize) -> DumpState
+    ensures { λ r. ⌜ Ahead (now (words .entry)) n bytes s r ⌝ }
+{
+    DumpState {
+        at: skip(words, s.at, n),
+        len: further(s.len, bytes),
+    }
+}
+
+// The code, or the lines.
+fn count_code(words: &[u32], s: DumpState) -> DumpState
+    ensures { λ r. ⌜ ((l t : List ℕ) → Dumps (now (words .entry)) t (ints l) (dumpCode l) (reached s []) (reached r [])) ⌝ }
+{
+    let n = word_at(words, s.at) as usize;
+    ahead(words, s, 1 + n, 4 + 4 * n)
+}
+
+// A constant: its tag, then Bool's byte, Num's halves, or String.
+fn count_constant(words: &[u32], s: DumpState) -> DumpState
+    ensures { λ r. ⌜ ((k : Value) (t : List ℕ) → Dumps (now (words .entry)) t (constantPiece k) (dumpConstant k) (reached s []) (reached r [])) ⌝ }
+{
+    let kind = word_at(words, s.at);
+    match kind {
+        0 => ahead(words, s, 3, 1),
+        1 => ahead(words, s, 3, 2),
+        3 => ahead(words, s, 3, 9),
+        _ => {
+            let n = word_at(words, skip(words, s.at, 2)) as usize;
+            ahead(words, s, 3, n + 10)
+        }
+    }
+}
+
+// A name.
+fn count_name(words: &[u32], s: DumpState) -> DumpState
+    ensures { λ r. ⌜ ((n t : List ℕ) → Dumps (now (words .entry)) t (string n) (dumpText n) (reached s []) (reached r [])) ⌝ }
+{
+    let n = word_at(words, skip(words, s.at, 1)) as usize;
+    ahead(words, s, 2, n + 9)
+}
+
+// A local.
+fn count_local(words: &[u32], s: DumpState) -> DumpState
+    ensures { λ r. ⌜ ((v : Local) (t : List ℕ) → Dumps (now (words .entry)) t (localPiece v) (dumpLocal v) (reached s []) (reached r [])) ⌝ }
+{
+    let n = word_at(words, skip(words, s.at, 1)) as usize;
+    ahead(words, s, 4, n + 17)
+}
+
+// The constants.
+fn count_values(words: &[u32], s: DumpState) -> DumpState
+    ensures { λ r. ⌜ ((l : List Value) (t : List ℕ) → Dumps (now (words .entry)) t (list constantPiece l) (dumpList dumpConstant l) (reached s []) (reached r [])) ⌝ }
+{
+    let n = word_at(words, s.at);
+    let mut p = ahead(words, s, 1, 4);
+    let mut i: u32 = 0;
+    while i < n {
+        p = count_constant(words, p);
+        i += 1;
+    }
+    p
+}
+
+// The locals.
+fn count_locals(words: &[u32], s: DumpState) -> DumpState
+    ensures { λ r. ⌜ ((l : List Local) (t : List ℕ) → Dumps (now (words .entry)) t (list localPiece l) (dumpList dumpLocal l) (reached s []) (reached r [])) ⌝ }
+{
+    let n = word_at(words, s.at);
+    let mut p = ahead(words, s, 1, 4);
+    let mut i: u32 = 0;
+    while i < n {
+        p = count_local(words, p);
+        i += 1;
+    }
+    p
+}
+
+// The upvalues' names.
+fn count_names(words: &[u32], s: DumpState) -> DumpState
+    ensures { λ r. ⌜ ((l : List (List ℕ)) (t : List ℕ) → Dumps (now (words .entry)) t (list string l) (dumpList dumpText l) (reached s []) (reached r [])) ⌝ }
+{
+    let n = word_at(words, s.at);
+    let mut p = ahead(words, s, 1, 4);
+    let mut i: u32 = 0;
+    while i < n {
+        p = count_name(words, p);
+        i += 1;
+    }
+    p
+}
+
+// The lines, the locals and the upvalues' names; strip leaves three counts of 0.
+fn count_debug(words: &[u32], strip: bool, s: DumpState) -> DumpState
+    ensures { λ r. ⌜ ((d : Debug) (t : List ℕ) → Dumps (now (words .entry)) t (debugPiece d) (dumpDebug (kept strip d)) (reached s []) (reached r [])) ⌝ }
+{
+    if strip {
+        return DumpState {
+            at: after_debug(words, s.at),
+            len: further(s.len, 12),
+        };
+    }
+    let lines = count_code(words, s);
+    let locals = count_locals(words, lines);
+    count_names(words, locals)
+}
+
+// The source of a function: none where it is the one around it.
+fn count_source(words: &[u32], outer: &[u8], source: &[u8], root: bool, s: DumpState) -> DumpState
+    ensures { λ r. ⌜ ((v : Source) (t : List ℕ) → ((to : ℕ) → Stands (now (words .entry)) t (s .at) to (sourcePiece v) → now (source .entry) ≡ filled (now (outer .entry)) v) → Dumps (now (words .entry)) t (sourcePiece v) (dumpString (elided (around root (now (outer .entry))) (now (source .entry)))) (reached s []) (reached r [])) ⌝ }
+{
+    let at = skip(words, s.at, 3);
+    if is_elided(words, s.at, outer, source, root) {
+        return DumpState {
+            at,
+            len: further(s.len, 8),
+        };
+    }
+    DumpState {
+        at,
+        len: further(further(s.len, source.len()), 9),
+    }
+}
+
+// A function; an inherited source stands for outer.
+pub fn count_function<'a>(
+    words: &[u32],
+    text: &'a [u8],
+    strip: bool,
+    outer: &'a [u8],
+    root: bool,
+    s: DumpState,
+    allowance: u32,
+) -> DumpState
+    ensures { λ r. ⌜ ((f : Function) → Valid f allowance → Dumps (now (words .entry)) (now (text .entry)) (functionPiece f) (dumpFunction f strip (around root (now (outer .entry))) (now (outer .entry))) (reached s []) (reached r [])) ⌝ }
+{
+    if allowance == 0 {
+        return s;
+    }
+    let source = own_source(words, text, outer, s.at);
+    let a = count_source(words, outer, source, root, s);
+    let b = ahead(words, a, 1, 4);
+    let c = ahead(words, b, 1, 4);
+    let d = ahead(words, c, 1, 4);
+    let e = count_code(words, d);
+    let f = count_constants(words, text, strip, source, e, allowance - 1);
+    count_debug(words, strip, f)
+}
+
+// The constants of a function whose source this is, and the functions in it.
+pub fn count_constants<'a>(
+    words: &[u32],
+    text: &'a [u8],
+    strip: bool,
+    source: &'a [u8],
+    s: DumpState,
+    allowance: u32,
+) -> DumpState
+    ensures { λ r. ⌜ ((ks : List Value) (fs : Functions) → ValidAll fs allowance → Dumps (now (words .entry)) (now (text .entry)) (constantsPiece ks fs) (dumpConstants ks (count fs) (dumpFunctions fs strip (now (source .entry)))) (reached s []) (reached r [])) ⌝ }
+{
+    let values = count_values(words, s);
+    let n = word_at(words, values.at);
+    let mut p = ahead(words, values, 1, 4);
+    let mut i: u32 = 0;
+    while i < n {
+        p = count_function(words, text, strip, source, false, p, allowance);
+        i += 1;
+    }
+    p
+}
