@@ -1,7 +1,8 @@
 //! bench RUNS PATH..: times this library's calls and the Rust's, in turn, over the same chunks.
 //!
 //! A path is a chunk, or a folder of chunks that are timed together. Prints the least, the middle and the greatest time of each in
-//! ns per chunk byte, and the ratio of the least times. `bench dump RUNS PATH..` runs this library's dump alone, for a profiler.
+//! ns per chunk byte, and the ratio of the least times. `bench dump RUNS PATH..` runs this library's dump alone, for a profiler, and
+//! `bench plain` and `bench full` its listing.
 //! The Rust's dump makes a vector and lets it grow, ours writes to lent memory; trees are dropped outside the time.
 
 use std::hint::black_box;
@@ -110,17 +111,22 @@ fn sorted(mut ns: Vec<f64>) -> [f64; 3] {
 
 fn main() {
     let mut args: Vec<String> = std::env::args().skip(1).collect();
-    let alone = args.first().is_some_and(|a| a == "dump");
-    if alone {
+    let alone = args.first().filter(|a| ["dump", "plain", "full"].contains(&a.as_str())).cloned();
+    if alone.is_some() {
         args.remove(0);
     }
-    let runs: usize = args.first().and_then(|n| n.parse().ok()).expect("bench [dump] RUNS PATH..");
+    let runs: usize = args.first().and_then(|n| n.parse().ok()).expect("bench [dump | plain | full] RUNS PATH..");
     for path in &args[1..] {
         let chunks = chunks(path);
         let bytes = chunks.iter().map(|c| c.bytes.len()).sum();
         let mut b = Bench { chunks, bytes, runs };
-        if alone {
-            (0..runs).for_each(|_| _ = b.time(|c| c.dump(false, false)));
+        if let Some(call) = &alone {
+            (0..runs).for_each(|_| {
+                _ = b.time(|c| match call.as_str() {
+                    "dump" => c.dump(false, false),
+                    call => c.list(call == "full"),
+                })
+            });
             continue;
         }
         let functions: usize = b.chunks.iter().map(|c| count(&c.tree)).sum();

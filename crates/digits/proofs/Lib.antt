@@ -1,3 +1,4 @@
 pub mod Cases
 pub mod Numbers
+pub mod Rooms
 pub mod Strings

@@ -1,15 +1,16 @@
 -- Laws of digits: how many there are, and storing them from the last to the first.
 use Prim.Native.Nat.{ℕ, zero, suc, _+_, _-_, _/_, _%_, _^_, _≤_, _<_}
 use mathlib.Core.Path.{_≡_, refl, ap, _∙_}
-use mathlib.Core.Bool.{cond}
-use mathlib.Core.List.{List, [], _∷_}
+use mathlib.Core.Bool.{Bool, true, false, cond}
+use mathlib.Core.List.{List, [], _∷_, _++_}
 use native.Mathlib.Omega.{arith}
+use native.Mathlib.Decide.{decLe}
 use lib.ListN.{length, set, length-append}
 use lib.Seq.{sets, set-comm}
 use lib.Dec.{ltb}
 use borrow.Author.Tests.{lt-ltb, le-ltb}
 use Rattle.lent.proofs.Writes.{sets-append}
-use Rattle.digits.specs.Digits.{digit, digits, places, placesWithin}
+use Rattle.digits.specs.Digits.{digit, digits, places, placesWithin, decimal}
 
 -- ---- how many digits a number has
 
@@ -28,6 +29,46 @@ places-one n h = rw (lt-ltb n 10 h)
 pub places-more : (n : ℕ) → 10 ≤ n → n < 2 ^ 64 → places n ≡ suc (places (n / 10))
 unfolding placesWithin
 places-more n h k = rw (le-ltb n 10 h) (ap suc (within-any 19 20 (n / 10) (omega arith) (omega arith)))
+
+-- a number below 10 ^ (k + 1) has at most k + 1 digits
+pub places-most : (f k n : ℕ) → n < 10 ^ suc k → placesWithin f n ≤ suc k
+unfolding placesWithin
+places-most zero k n h = omega arith
+places-most (suc f) zero n h = rw (lt-ltb n 10 (omega arith)) (omega arith)
+places-most (suc f) (suc k) n h = by (ltb n 10) (places-most f k (n / 10) (omega arith)) where
+  by : {m : ℕ} (b : Bool) → m ≤ suc k → cond b 1 (suc m) ≤ suc (suc k)
+  by true g = omega arith
+  by false g = omega arith
+
+-- below 10000, by three tests
+pub places-few : (n : ℕ) → n < 10000 → places n ≡ 1 + cond (ltb n 10) 0 1 + cond (ltb n 100) 0 1 + cond (ltb n 1000) 0 1
+places-few n h = elim (decLe 10 n) [
+  | no k ↦ let g : n < 10 = omega arith in places-one n g ∙ rw (lt-ltb n 10 g, lt-ltb n 100 (omega arith), lt-ltb n 1000 (omega arith))
+  | yes k ↦ elim (decLe 100 n) [
+    | no m ↦ places-more n k (omega arith) ∙ rw (le-ltb n 10 k, lt-ltb n 100 (omega arith), lt-ltb n 1000 (omega arith), places-one (n / 10) (omega arith))
+    | yes m ↦ elim (decLe 1000 n) [
+      | no l ↦ places-more n k (omega arith) ∙ ap suc (places-more (n / 10) (omega arith) (omega arith)) ∙ rw (le-ltb n 10 k, le-ltb n 100 m, lt-ltb n 1000 (omega arith), places-one (n / 10 / 10) (omega arith))
+      | yes l ↦
+          places-more n k (omega arith)
+          ∙ ap suc (places-more (n / 10) (omega arith) (omega arith))
+          ∙ ap (λ p. suc (suc p)) (places-more (n / 10 / 10) (omega arith) (omega arith))
+          ∙ rw (le-ltb n 10 k, le-ltb n 100 m, le-ltb n 1000 l, places-one (n / 10 / 10 / 10) (omega arith))
+    ]
+  ]
+]
+
+-- ---- a number is the one in front of its last digit, and that
+
+pub digit-ten : (d : ℕ) → d < 10 → digit d ≡ 48 + d
+digit-ten d h = rw (lt-ltb d 10 h)
+
+pub decimal-one : (n : ℕ) → n < 10 → decimal n ≡ digit (n % 10) ∷ []
+unfolding digits
+decimal-one n h = rw (places-one n h)
+
+pub decimal-more : (n : ℕ) → 10 ≤ n → n < 2 ^ 64 → decimal n ≡ decimal (n / 10) ++ (digit (n % 10) ∷ [])
+unfolding digits
+decimal-more n h k = rw (places-more n h k)
 
 -- ---- storing digits
 

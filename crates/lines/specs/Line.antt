@@ -22,12 +22,9 @@ formatLine (some l) = ascii "[" ++ decimal l ++ ascii "]"
 
 -- ==== the line
 
--- index, line, opcode padded to 9, operands, comment
+-- what stands in front of the comment: index, line, opcode padded to 9, operands
+abbrev pub formatStart : Option ℕ → ℕ → ℕ → ℕ → List ℕ
+formatStart line op pc i = index (pc + 1) ++ formatLine line ++ ascii "\t" ++ padded (opName op) ++ ascii "\t" ++ formatOperands op i
+
 unfoldable pub formatInstruction : Parts → Functions → ℕ → ℕ → ℕ → List ℕ
-formatInstruction p fs number pc i =
-    index (pc + 1)
-    ++ formatLine (item (p .debug .lines) pc) ++ ascii "\t"
-    ++ padded (opName (opcode i)) ++ ascii "\t"
-    ++ formatOperands (opcode i) i
-    ++ formatComment (opcode i) p fs number pc i
-    ++ ascii "\n"
+formatInstruction p fs number pc i = formatStart (item (p .debug .lines) pc) (opcode i) pc i ++ formatComment (opcode i) p fs number pc i ++ ascii "\n"

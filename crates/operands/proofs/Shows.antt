@@ -112,6 +112,6 @@ raw-other text (String a b) h p = absurd (⊎-elim (λ e. omega arith) (λ m. �
 
 -- ---- operands by the attributes of an opcode
 
-pub by-modes : {at at′ : ℕ} {out out′ : List ℕ} (op i : ℕ) (m : OpModes) → m ≡ opModes op → Puts (operandsOf (m .mode) m op i) at out at′ out′ → Puts (formatOperands op i) at out at′ out′
+pub by-modes : (op i : ℕ) (m : OpModes) → m ≡ opModes op → formatOperands op i ≡ operandsOf (m .mode) m op i
 unfolding formatOperands
-by-modes op i m e p = rw e at p
+by-modes op i m e = rw e

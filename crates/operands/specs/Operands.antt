@@ -80,11 +80,23 @@ formatBx m bx = cond (isK m) (negative (1 + bx)) (decimal bx)
 abbrev pub formatSBx : ℕ → List ℕ
 formatSBx i = difference (GETARG-Bx i) MAXARG-sBx
 
+-- A, B and C
+abbrev pub operandsABC : OpArgMask → OpArgMask → ℕ → List ℕ
+operandsABC b c i = decimal (GETARG-A i) ++ formatArg b (GETARG-B i) ++ formatArg c (GETARG-C i)
+
+-- A and Bx
+abbrev pub operandsABx : OpArgMask → ℕ → List ℕ
+operandsABx b i = decimal (GETARG-A i) ++ ascii " " ++ formatBx b (GETARG-Bx i)
+
+-- A, but for JMP, and sBx
+abbrev pub operandsAsBx : ℕ → ℕ → List ℕ
+operandsAsBx op i = cond (eqb op OP-JMP) (formatSBx i) (decimal (GETARG-A i) ++ ascii " " ++ formatSBx i)
+
 -- the operands by the instruction format
 abbrev pub operandsOf : OpMode → OpModes → ℕ → ℕ → List ℕ
-operandsOf IABC m op i = decimal (GETARG-A i) ++ formatArg (m .«b_mode») (GETARG-B i) ++ formatArg (m .«c_mode») (GETARG-C i)
-operandsOf IABx m op i = decimal (GETARG-A i) ++ ascii " " ++ formatBx (m .«b_mode») (GETARG-Bx i)
-operandsOf IAsBx m op i = cond (eqb op OP-JMP) (formatSBx i) (decimal (GETARG-A i) ++ ascii " " ++ formatSBx i)
+operandsOf IABC m op i = operandsABC (m .«b_mode») (m .«c_mode») i
+operandsOf IABx m op i = operandsABx (m .«b_mode») i
+operandsOf IAsBx m op i = operandsAsBx op i
 
 unfoldable pub formatOperands : ℕ → ℕ → List ℕ
 formatOperands op i = operandsOf (opModes op .mode) (opModes op) op i

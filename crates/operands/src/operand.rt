@@ -1,21 +1,23 @@
 // The operands of an instruction.
 use digits::put_decimal;
 use digits::put_negative;
+use digits::store_byte;
+use digits::store_decimal;
+use digits::store_negative;
+use digits::width;
 use instructions::Instruction;
 use instructions::OpArgMask;
 use instructions::OpMode;
 use instructions::index_k;
 use instructions::is_k;
-use lent::put_byte;
 ghost use Rattle.lent.specs.Memory.{Puts};
 ghost use mathlib.Core.Path.{_≡_};
-ghost use mathlib.Core.Bool.{cond};
-ghost use mathlib.Core.List.{_++_};
-ghost use lib.Dec.{eqb};
-ghost use Rattle.digits.specs.Digits.{decimal};
-ghost use Rattle.instructions.specs.Fields.{GETARG-A, GETARG-B, GETARG-C, GETARG-Bx};
-ghost use Rattle.instructions.specs.OpCodes.{ascii, OP-JMP};
-ghost use Rattle.operands.specs.Operands.{isN, isK, difference, formatRK, formatArg, formatBx, formatSBx, formatOperands};
+ghost use Prim.Native.Nat.{_+_, _≤_};
+ghost use lib.ListN.{length};
+ghost use Rattle.digits.specs.Room.{Fits, Width};
+ghost use Rattle.instructions.specs.Fields.{GETARG-Bx};
+ghost use Rattle.operands.specs.Operands.{isN, isK, difference, formatRK, formatArg, formatBx};
+ghost use Rattle.operands.specs.Operands.{operandsABC, operandsABx, operandsAsBx, formatOperands};
 
 // sBx is Bx less this.
 pub const MAXARG_SBX: u64 = 131071;
@@ -30,14 +32,46 @@ pub fn put_difference(a: u64, b: u64, out: &mut [u8], at: usize) -> usize
     put_decimal(out, at, a - b)
 }
 
+// a - b, which fits.
+fn store_difference(a: u32, b: u32, out: &mut [u8], at: usize) -> usize
+    requires { ⌜ at + 11 ≤ length (now out) ⌝ }
+    ensures { λ r. ⌜ Fits (difference a b) 11 at (now (out .entry)) r (now (out .exit)) ⌝ }
+{
+    if a < b {
+        return store_negative(out, at, b - a);
+    }
+    store_decimal(out, at, a - b)
+}
+
+// The bytes of a - b.
+fn difference_width(a: u32, b: u32) -> usize
+    ensures { λ r. ⌜ Width (difference a b) 11 r ⌝ }
+{
+    if a < b {
+        return 1 + width(b - a);
+    }
+    width(a - b)
+}
+
 // A register or a number; a constant is -1 - its index.
-fn format_rk(x: u32, out: &mut [u8], at: usize) -> usize
-    ensures { λ r. ⌜ Puts (formatRK x) at (now (out .entry)) r (now (out .exit)) ⌝ }
+fn store_rk(x: u32, out: &mut [u8], at: usize) -> usize
+    requires { ⌜ at + 11 ≤ length (now out) ⌝ }
+    ensures { λ r. ⌜ Fits (formatRK x) 11 at (now (out .entry)) r (now (out .exit)) ⌝ }
 {
     if is_k(x) {
-        return put_negative(out, at, 1 + index_k(x) as u64);
+        return store_negative(out, at, 1 + index_k(x));
     }
-    put_decimal(out, at, x as u64)
+    store_decimal(out, at, x)
+}
+
+// Its bytes.
+fn rk_width(x: u32) -> usize
+    ensures { λ r. ⌜ Width (formatRK x) 11 r ⌝ }
+{
+    if is_k(x) {
+        return 1 + width(1 + index_k(x));
+    }
+    width(x)
 }
 
 // Whether an operand is not used.
@@ -65,74 +99,137 @@ fn is_constant(mode: OpArgMask) -> bool
 }
 
 // B or C of iABC, nothing where the opcode has none.
-fn format_arg(mode: OpArgMask, x: u32, out: &mut [u8], at: usize) -> usize
-    ensures { λ r. ⌜ Puts (formatArg mode x) at (now (out .entry)) r (now (out .exit)) ⌝ }
+fn store_arg(mode: OpArgMask, x: u32, out: &mut [u8], at: usize) -> usize
+    requires { ⌜ at + 12 ≤ length (now out) ⌝ }
+    ensures { λ r. ⌜ Fits (formatArg mode x) 12 at (now (out .entry)) r (now (out .exit)) ⌝ }
 {
     if is_n(mode) {
         return at;
     }
-    let a = put_byte(out, at, b' ');
-    format_rk(x, out, a)
+    let a = store_byte(out, at, b' ');
+    store_rk(x, out, a)
+}
+
+// Its bytes.
+fn arg_width(mode: OpArgMask, x: u32) -> usize
+    ensures { λ r. ⌜ Width (formatArg mode x) 12 r ⌝ }
+{
+    if is_n(mode) {
+        return 0;
+    }
+    1 + rk_width(x)
 }
 
 // Bx, a constant's index as -1 - index.
-fn format_bx(mode: OpArgMask, bx: u32, out: &mut [u8], at: usize) -> usize
-    ensures { λ r. ⌜ Puts (formatBx mode bx) at (now (out .entry)) r (now (out .exit)) ⌝ }
+fn store_bx(mode: OpArgMask, i: u32, out: &mut [u8], at: usize) -> usize
+    requires { ⌜ at + 11 ≤ length (now out) ⌝ }
+    ensures { λ r. ⌜ Fits (formatBx mode (GETARG-Bx i)) 11 at (now (out .entry)) r (now (out .exit)) ⌝ }
 {
+    let bx = Instruction(i).bx();
     if is_constant(mode) {
-        return put_negative(out, at, 1 + bx as u64);
+        return store_negative(out, at, 1 + bx);
     }
-    put_decimal(out, at, bx as u64)
+    store_decimal(out, at, bx)
 }
 
-// sBx of an instruction.
-fn format_sbx(i: u32, out: &mut [u8], at: usize) -> usize
-    ensures { λ r. ⌜ Puts (formatSBx i) at (now (out .entry)) r (now (out .exit)) ⌝ }
+// Its bytes.
+fn bx_width(mode: OpArgMask, i: u32) -> usize
+    ensures { λ r. ⌜ Width (formatBx mode (GETARG-Bx i)) 11 r ⌝ }
 {
-    put_difference(Instruction(i).bx() as u64, MAXARG_SBX, out, at)
+    let bx = Instruction(i).bx();
+    if is_constant(mode) {
+        return 1 + width(1 + bx);
+    }
+    width(bx)
 }
 
 // A, B and C.
-fn operands_abc(i: u32, b_mode: OpArgMask, c_mode: OpArgMask, out: &mut [u8], at: usize) -> usize
-    ensures { λ r. ⌜ Puts (decimal (GETARG-A i) ++ formatArg «b_mode» (GETARG-B i) ++ formatArg «c_mode» (GETARG-C i)) at (now (out .entry)) r (now (out .exit)) ⌝ }
+fn store_abc(i: u32, b_mode: OpArgMask, c_mode: OpArgMask, out: &mut [u8], at: usize) -> usize
+    requires { ⌜ at + 34 ≤ length (now out) ⌝ }
+    ensures { λ r. ⌜ Fits (operandsABC «b_mode» «c_mode» i) 34 at (now (out .entry)) r (now (out .exit)) ⌝ }
 {
-    let a = put_decimal(out, at, Instruction(i).a() as u64);
-    let b = format_arg(b_mode, Instruction(i).b(), out, a);
-    format_arg(c_mode, Instruction(i).c(), out, b)
+    let a = store_decimal(out, at, Instruction(i).a());
+    let b = store_arg(b_mode, Instruction(i).b(), out, a);
+    store_arg(c_mode, Instruction(i).c(), out, b)
+}
+
+// Their bytes.
+fn abc_width(i: u32, b_mode: OpArgMask, c_mode: OpArgMask) -> usize
+    ensures { λ r. ⌜ Width (operandsABC «b_mode» «c_mode» i) 34 r ⌝ }
+{
+    width(Instruction(i).a())
+        + arg_width(b_mode, Instruction(i).b())
+        + arg_width(c_mode, Instruction(i).c())
 }
 
 // A and Bx.
-fn operands_abx(i: u32, b_mode: OpArgMask, out: &mut [u8], at: usize) -> usize
-    ensures { λ r. ⌜ Puts (decimal (GETARG-A i) ++ ascii " " ++ formatBx «b_mode» (GETARG-Bx i)) at (now (out .entry)) r (now (out .exit)) ⌝ }
+fn store_abx(i: u32, b_mode: OpArgMask, out: &mut [u8], at: usize) -> usize
+    requires { ⌜ at + 22 ≤ length (now out) ⌝ }
+    ensures { λ r. ⌜ Fits (operandsABx «b_mode» i) 22 at (now (out .entry)) r (now (out .exit)) ⌝ }
 {
-    let a = put_decimal(out, at, Instruction(i).a() as u64);
-    let b = put_byte(out, a, b' ');
-    format_bx(b_mode, Instruction(i).bx(), out, b)
+    let a = store_decimal(out, at, Instruction(i).a());
+    let b = store_byte(out, a, b' ');
+    store_bx(b_mode, i, out, b)
+}
+
+// Their bytes.
+fn abx_width(i: u32, b_mode: OpArgMask) -> usize
+    ensures { λ r. ⌜ Width (operandsABx «b_mode» i) 22 r ⌝ }
+{
+    width(Instruction(i).a()) + 1 + bx_width(b_mode, i)
 }
 
 // A, but for JMP, and sBx.
-fn operands_asbx(op: u8, i: u32, out: &mut [u8], at: usize) -> usize
-    ensures { λ r. ⌜ Puts (cond (eqb op OP-JMP) (formatSBx i) (decimal (GETARG-A i) ++ ascii " " ++ formatSBx i)) at (now (out .entry)) r (now (out .exit)) ⌝ }
+fn store_asbx(op: u8, i: u32, out: &mut [u8], at: usize) -> usize
+    requires { ⌜ at + 22 ≤ length (now out) ⌝ }
+    ensures { λ r. ⌜ Fits (operandsAsBx op i) 22 at (now (out .entry)) r (now (out .exit)) ⌝ }
 {
     if op == instructions::OP_JMP {
-        return format_sbx(i, out, at);
+        return store_difference(Instruction(i).bx(), MAXARG_SBX as u32, out, at);
     }
-    let a = put_decimal(out, at, Instruction(i).a() as u64);
-    let b = put_byte(out, a, b' ');
-    format_sbx(i, out, b)
+    let a = store_decimal(out, at, Instruction(i).a());
+    let b = store_byte(out, a, b' ');
+    store_difference(Instruction(i).bx(), MAXARG_SBX as u32, out, b)
 }
 
-// The operands of an instruction.
-pub fn format_operands(op: u8, i: u32, out: &mut [u8], at: usize) -> usize
-    ensures { λ r. ⌜ Puts (formatOperands op i) at (now (out .entry)) r (now (out .exit)) ⌝ }
+// Their bytes.
+fn asbx_width(op: u8, i: u32) -> usize
+    ensures { λ r. ⌜ Width (operandsAsBx op i) 22 r ⌝ }
+{
+    let sbx = difference_width(Instruction(i).bx(), MAXARG_SBX as u32);
+    if op == instructions::OP_JMP {
+        return sbx;
+    }
+    width(Instruction(i).a()) + 1 + sbx
+}
+
+// The operands of an instruction, which fit.
+pub fn store_operands(op: u8, i: u32, out: &mut [u8], at: usize) -> usize
+    requires { ⌜ at + 34 ≤ length (now out) ⌝ }
+    ensures { λ r. ⌜ Fits (formatOperands op i) 34 at (now (out .entry)) r (now (out .exit)) ⌝ }
 {
     let m = instructions::op_modes(op);
     let mode = m.mode;
     let b_mode = m.b_mode;
     let c_mode = m.c_mode;
     match mode {
-        OpMode::IABC => operands_abc(i, b_mode, c_mode, out, at),
-        OpMode::IABx => operands_abx(i, b_mode, out, at),
-        OpMode::IAsBx => operands_asbx(op, i, out, at),
+        OpMode::IABC => store_abc(i, b_mode, c_mode, out, at),
+        OpMode::IABx => store_abx(i, b_mode, out, at),
+        OpMode::IAsBx => store_asbx(op, i, out, at),
+    }
+}
+
+// Their bytes.
+pub fn operands_width(op: u8, i: u32) -> usize
+    ensures { λ r. ⌜ Width (formatOperands op i) 34 r ⌝ }
+{
+    let m = instructions::op_modes(op);
+    let mode = m.mode;
+    let b_mode = m.b_mode;
+    let c_mode = m.c_mode;
+    match mode {
+        OpMode::IABC => abc_width(i, b_mode, c_mode),
+        OpMode::IABx => abx_width(i, b_mode),
+        OpMode::IAsBx => asbx_width(op, i),
     }
 }

@@ -1,32 +1,49 @@
--- The digits counted and those of what is left are those of n; each turn counts one and leaves the others.
-use Prim.Native.Nat.{_+_, _≤_}
-use mathlib.Core.Path.{_≡_, refl}
+use borrow.Author.Needs.{needs}
 use native.Mathlib.Omega.{arith}
-use Rattle.digits.specs.Digits.{places}
-use Rattle.digits.proofs.Numbers.{places-one, places-more}
+use mathlib.Core.Path.{_∙_, sym}
+use Rattle.digits.proofs.Numbers.{places-few}
 use Rattle.digits.proofs.places.Statement.{statement}
 use Rattle.digits.proofs.places.Tie as tie
 
-abbrev Inv-loop : tie.InvT-loop
-Inv-loop n left₀ k₀ left k = (1 ≤ k) × (k + left ≤ 1 + n) × (k + places left ≡ 1 + places n)
+-- Short numbers by three tests, the others by division.
 
-abbrev μ-loop : tie.MeasureT-loop
-μ-loop n left₀ k₀ left k = left
+places-long-requires : tie.Need-places-long-requires
+places-long-requires c κs = search needs
 
-loop-holds : tie.Need-loop-holds Inv-loop μ-loop
-loop-holds c = (omega arith, omega arith, refl)
+returns : tie.Need-returns
+returns c = search needs
 
-add-k : tie.Need-add-k Inv-loop μ-loop
-add-k c = omega arith
+reaches-requires : tie.Need-reaches-requires
+reaches-requires c κs = search needs
 
-loop-less : tie.Need-loop-less Inv-loop μ-loop
-loop-less c = omega arith
+add-result : tie.Need-add-result
+add-result c = omega arith
 
-loop-again : tie.Need-loop-again Inv-loop μ-loop
-loop-again c = (omega arith, omega arith, omega (arith, places-more (c .before .loop .left) (omega arith) (omega arith)))
+reaches-requires-2 : tie.Need-reaches-requires-2
+reaches-requires-2 c κs = search needs
 
-returns : tie.Need-returns Inv-loop μ-loop
-returns c = omega (arith, places-one (c .before .loop .left) (omega arith))
+add-result-2 : tie.Need-add-result-2
+add-result-2 c = omega arith
+
+reaches-requires-3 : tie.Need-reaches-requires-3
+reaches-requires-3 c κs = search needs
+
+add-result-3 : tie.Need-add-result-3
+add-result-3 c = omega arith
+
+returns-2 : tie.Need-returns-2
+returns-2 c = rw (c .before .before .reaches .ensures .0, c .before .reaches2 .ensures .0, c .reaches3 .ensures .0) (sym (places-few (c .before .before .before .before .args .n) (omega arith)))
 
 pub places-spec : {M : Type 1} → statement M
-places-spec = tie.close (tie.spec Inv-loop μ-loop loop-holds add-k loop-less loop-again returns)
+places-spec =
+    tie.close
+    (tie.spec
+    places-long-requires
+    returns
+    reaches-requires
+    add-result
+    reaches-requires-2
+    add-result-2
+    reaches-requires-3
+    add-result-3
+    returns-2)

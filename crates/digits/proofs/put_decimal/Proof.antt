@@ -1,13 +1,20 @@
--- As many digits as `places` counted.
 use borrow.Author.Needs.{needs}
+use native.Mathlib.Omega.{arith}
+use Prim.Native.Nat.{_≤_}
+use Rattle.digits.specs.Digits.{places}
+use Rattle.digits.proofs.Numbers.{places-most}
 use Rattle.digits.proofs.put_decimal.Statement.{statement}
 use Rattle.digits.proofs.put_decimal.Tie as tie
+
+-- As many digits as places counted.
 
 places-requires : tie.Need-places-requires
 places-requires c κs = search needs
 
 put-digits-requires : tie.Need-put-digits-requires
-put-digits-requires c κs = search needs
+put-digits-requires c κs =
+    let m : places (c .before .before .before .args .n) ≤ 20 = places-most 20 19 (c .before .before .before .args .n) (omega arith) in
+    search needs
 
 same-length : tie.Need-same-length
 same-length c = search needs

@@ -1,27 +1,25 @@
--- What is left to store gives what all gives. Each turn stores the last digit of what is left, or loses it past the end.
-use Prim.Native.Nat.{_<_}
-use mathlib.Core.Logic.{⊎-elim}
-use mathlib.Core.Path.{_≡_, refl, sym, ap, _∙_}
+use borrow.Author.Needs.{needs}
 use native.Mathlib.Omega.{arith}
+use Prim.Native.Nat.{_+_, _≤_, _<_}
+use mathlib.Core.Path.{_≡_, refl, ap, _∙_}
 use native.Mathlib.Nat.{mod-lt}
 use lib.ListN.{length, length-set}
-use lib.Seq.{sets, set-out}
+use lib.Seq.{sets}
 use Rattle.digits.specs.Digits.{digits}
 use Rattle.digits.proofs.Numbers.{store-last}
 use Rattle.digits.proofs.store_digits.Statement.{statement}
 use Rattle.digits.proofs.store_digits.Tie as tie
 
+-- What is left to store gives what all gives. Each turn stores the last digit of what is left.
+
 abbrev Inv-loop : tie.InvT-loop
-Inv-loop out₀ at n k base room left₀ i₀ out left i = (length out ≡ length out₀) × (sets out at (digits base i left) ≡ sets out₀ at (digits base k n))
+Inv-loop out₀ at n k base left₀ i₀ out left i = (i ≤ k) × (length out ≡ length out₀) × (sets out at (digits base i left) ≡ sets out₀ at (digits base k n))
 
 abbrev μ-loop : tie.MeasureT-loop
-μ-loop out₀ at n k base room left₀ i₀ out left i = i
-
-sub-room : tie.Need-sub-room Inv-loop μ-loop
-sub-room c = omega arith
+μ-loop out₀ at n k base left₀ i₀ out left i = i
 
 loop-holds : tie.Need-loop-holds Inv-loop μ-loop
-loop-holds c = (refl, refl)
+loop-holds c = (omega arith, refl, refl)
 
 sub-i : tie.Need-sub-i Inv-loop μ-loop
 sub-i c = omega arith
@@ -31,13 +29,13 @@ rem-digit c = omega arith
 
 cast-digit : tie.Need-cast-digit Inv-loop μ-loop
 cast-digit c =
-    let h : 0 < c .before .before .before .before .args .base = omega arith in
-    omega (arith, mod-lt (c .before .before .loop .left) h)
+    let h : 0 < c .before .before .before .args .base = omega arith in
+    omega (arith, mod-lt (c .before .loop .left) h)
 
 digit-requires : tie.Need-digit-requires Inv-loop μ-loop
 digit-requires c κs =
-    let h : 0 < c .before .before .before .before .args .base = omega arith in
-    omega (arith, mod-lt (c .before .before .loop .left) h)
+    let h : 0 < c .before .before .before .args .base = omega arith in
+    omega (arith, mod-lt (c .before .loop .left) h)
 
 add-out : tie.Need-add-out Inv-loop μ-loop
 add-out c = omega arith
@@ -55,20 +53,16 @@ loop-again : tie.Need-loop-again Inv-loop μ-loop
 loop-again c =
     let l = c .before .before .loop in
     let a = c .before .before .before .before .args in
-    let turn = store-last (a .base) (l .left) (a .at) (l .i) (l .out) (omega arith) in
-    ⊎-elim
-    (λ w. (ap length (w .2) ∙ simp length-set (l .inv .0), turn (w .2 ∙ rw (w .1 .ensures)) (l .inv .1)))
-    (λ w. (ap length (w .1) ∙ l .inv .0, turn (w .1 ∙ sym (set-out _ _ _ (omega arith))) (l .inv .1)))
-    (c .if1 .came)
+    (omega arith, simp length-set (l .inv .1), store-last (a .base) (l .left) (a .at) (l .i) (l .out) (omega arith) (rw (c .digit .ensures)) (l .inv .2))
 
 same-length : tie.Need-same-length Inv-loop μ-loop
-same-length c = c .before .loop .inv .0
+same-length c = c .before .loop .inv .1
 
 returns : tie.Need-returns Inv-loop μ-loop
 unfolding digits
 returns c =
     let e : c .before .loop .i ≡ 0 = omega arith in
-    rw e at (c .before .loop .inv .1)
+    rw e at (c .before .loop .inv .2)
 
 pub store-digits-spec : {M : Type 1} → statement M
 store-digits-spec =
@@ -76,7 +70,6 @@ store-digits-spec =
     (tie.spec
     Inv-loop
     μ-loop
-    sub-room
     loop-holds
     sub-i
     rem-digit

@@ -1,0 +1,67 @@
+-- Laws of writing where there is room, and of how much is needed.
+use Prim.Native.Nat.{ℕ, _+_, _/_, _%_, _^_, _≤_, _<_}
+use mathlib.Core.Path.{_≡_, refl, _∙_}
+use mathlib.Core.List.{List, [], _∷_, _++_}
+use native.Mathlib.Omega.{arith}
+use lib.ListN.{length, take, drop, set, length-append}
+use lib.Seq.{sets, sets-eq, take-at}
+use Rattle.lent.specs.Memory.{Puts, far}
+use Rattle.lent.proofs.Writes.{put-stored, put-none, put-then, put-fits}
+use Rattle.digits.specs.Digits.{digit, decimal}
+use Rattle.digits.specs.Room.{Fits, Width}
+use Rattle.digits.proofs.Numbers.{decimal-more}
+
+pub fit-none : {at : ℕ} {out : List ℕ} → Fits [] 0 at out at out
+fit-none = record { puts = put-none; upto = omega arith }
+
+pub fit-byte : {at b : ℕ} {out out′ : List ℕ} → at < length out → length out ≤ far → out′ ≡ set out at b → Fits (b ∷ []) 1 at out (at + 1) out′
+fit-byte h k e = record { puts = put-stored (omega arith) e; upto = omega arith }
+
+pub fit-then : {a b : List ℕ} {m n at mid end : ℕ} {out out′ out″ : List ℕ} → Fits a m at out mid out′ → Fits b n mid out′ end out″ → Fits (a ++ b) (m + n) at out end out″
+fit-then p q = let x = p .upto in let y = q .upto in record { puts = put-then (p .puts) (q .puts); upto = omega arith }
+
+-- with more room than is needed
+pub fit-within : {items : List ℕ} {m at at′ : ℕ} (n : ℕ) {out out′ : List ℕ} → m ≤ n → Fits items m at out at′ out′ → Fits items n at out at′ out′
+fit-within n h p = let x = p .upto in record { puts = p .puts; upto = omega arith }
+
+-- a number but for its last digit, and that
+pub fit-last : (n : ℕ) {m at mid end : ℕ} {out out′ out″ : List ℕ} → 10 ≤ n → n < 2 ^ 64 → Fits (decimal (n / 10)) m at out mid out′ → Fits (digit (n % 10) ∷ []) 1 mid out′ end out″ → Fits (decimal n) (m + 1) at out end out″
+fit-last n h k p q = rw (decimal-more n h k) (fit-then p q)
+
+-- what was written at the start of a buffer
+pub written : {items out out′ : List ℕ} {r : ℕ} → Puts items 0 out r out′ → length items ≤ length out → length out ≤ far → (r ≡ length items) × (take r out′ ≡ items)
+written {items} {out} {out′} {r} p h k =
+    let g : 0 + length items ≤ length out = omega arith in
+    let f = put-fits p g k in
+    let e : length items ≡ r = omega arith in
+    (omega arith, rw (f .1) (take-at items (drop (0 + length items) out) r e))
+
+-- the same of what fits
+pub fit-written : {items out out′ : List ℕ} {m r : ℕ} → Fits items m 0 out r out′ → m ≤ length out → length out < far → take r out′ ≡ items
+fit-written p h k =
+    let u = p .upto in
+    let q = p .puts .puts (omega arith) (omega arith) in
+    written (p .puts) (omega arith) (omega arith) .1
+
+-- what was stored at the start of a buffer
+pub stored : (items out : List ℕ) (n : ℕ) → length items ≡ n → n ≤ length out → take n (sets out 0 items) ≡ items
+stored items out n e h = rw (sets-eq items out 0 (omega arith)) (take-at items (drop (0 + length items) out) n e)
+
+-- ---- how much is needed
+
+pub width-none : Width [] 0 0
+width-none = record { is = refl; upto = omega arith }
+
+pub width-byte : {b : ℕ} → Width (b ∷ []) 1 1
+width-byte = record { is = refl; upto = omega arith }
+
+pub width-then : {a b : List ℕ} {l m x y : ℕ} → Width a l x → Width b m y → Width (a ++ b) (l + m) (x + y)
+width-then {a} {b} p q =
+    let e = p .is in
+    let f = q .is in
+    let g = p .upto in
+    let h = q .upto in
+    record { is = omega (arith, length-append a b); upto = omega arith }
+
+pub width-within : {items : List ℕ} {m r : ℕ} (n : ℕ) → m ≤ n → Width items m r → Width items n r
+width-within n h p = let g = p .upto in record { is = p .is; upto = omega arith }

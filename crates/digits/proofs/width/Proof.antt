@@ -1,0 +1,21 @@
+use borrow.Author.Needs.{needs}
+use native.Mathlib.Omega.{arith}
+use mathlib.Core.Path.{sym, _∙_}
+use Rattle.digits.specs.Digits.{places}
+use Rattle.digits.proofs.Numbers.{places-most, length-digits}
+use Rattle.digits.proofs.width.Statement.{statement}
+use Rattle.digits.proofs.width.Tie as tie
+
+-- As many as places counts, which are at most 10.
+
+places-requires : tie.Need-places-requires
+places-requires c κs = search needs
+
+returns : tie.Need-returns
+returns c =
+    let n = c .before .args .n in
+    let e = c .places .ensures in
+    record { is = e ∙ sym (length-digits 10 (places n) n); upto = omega (arith, places-most 20 9 n (omega arith)) }
+
+pub width-spec : {M : Type 1} → statement M
+width-spec = tie.close (tie.spec places-requires returns)
