@@ -24,10 +24,6 @@ use Rattle.proto.proofs.Pieces.{Same, same-sym, same-assoc, stands-same, stands
 use Rattle.dump.specs.Step.{Reached, Dumps, Any}
 use Rattle.dump.proofs.Blocks.{int-bytes, string-length}
 
--- the place n words on
-pub skips-on : {words : List ℕ} {n at : ℕ} → Skips words n at (at + n)
-skips-on = record { skips = λ l e h. refl }
-
 module _ {words text : List ℕ} where
   -- the same piece and the same bytes by other names
   pub dumps-same : {p q : Piece} {b c : List ℕ} {s r : Reached} → Same q p → b ≡ c → Dumps words text p b s r → Dumps words text q c s r

@@ -6,9 +6,10 @@ use native.Mathlib.Omega.{arith}
 use native.Mathlib.Decide.{decLe}
 use native.Mathlib.Nat.{add-zero}
 use native.Mathlib.Numerals.{add-one}
-use lib.ListN.{length, take, drop, getD, set, length-append, take-append-drop}
-use lib.Seq.{sets, length-sets, set-out, sets-eq, take-suc, take-all, length-take-le}
+use lib.ListN.{length, take, drop, getD, set, length-append, length-take, length-drop, take-append-drop}
+use lib.Seq.{sets, length-sets, set-out, set-set, set-comm, take-add, sets-eq, take-suc, take-all, length-take-le}
 use Rattle.lent.specs.Memory.{far, Puts}
+use Rattle.lent.proofs.Lists.{drop-more}
 
 -- ---- items stored one after the other
 
@@ -36,6 +37,45 @@ pub sets-three : (l : List ℕ) (i a b c : ℕ) → set (set (set l i a) (i + 1)
 sets-three l i a b c =
     let e : i + 2 ≡ suc (suc i) = omega arith in
     ap (λ (m : List ℕ). set m (i + 2) c) (sets-two l i a b) ∙ ap (λ (j : ℕ). set (set (set l i a) (suc i) b) j c) e
+
+-- what is stored over no more items takes their place
+sets-over : (p q l : List ℕ) (i : ℕ) → length p ≤ length q → sets (sets l i p) i q ≡ sets l i q
+sets-over [] q l i h = refl
+sets-over (v ∷ p) [] l i h = absurd (omega arith)
+sets-over (v ∷ p) (u ∷ q) l i h =
+    let e : set (sets (set l i v) (suc i) p) i u ≡ sets (set l i u) (suc i) p = set-behind p (set l i v) i (suc i) u (omega arith) ∙ rw set-set in
+    rw e (sets-over p q (set l i u) (suc i) (omega arith))
+  where
+    -- an item is stored before others
+    set-behind : (p l : List ℕ) (i j u : ℕ) → i < j → set (sets l j p) i u ≡ sets (set l i u) j p
+    set-behind [] l i j u h = refl
+    set-behind (v ∷ p) l i j u h = set-behind p (set l j v) i (suc j) u (omega arith) ∙ rw (set-comm l j i v u (λ e. omega arith))
+
+-- four items more, over those from i on
+pub sets-four : {out out₁ : List ℕ} (l s : List ℕ) (at i j : ℕ) → i ≤ j → j ≤ i + 4 → i + 4 ≤ length s → out ≡ sets l at (take j s) → out₁ ≡ sets out (at + i) (take 4 (drop i s)) → out₁ ≡ sets l at (take (i + 4) s)
+sets-four l s at i j h k n e f =
+    let m : i + (j - i) ≡ j = omega arith in
+    let t : length (take i s) ≡ i = length-take-le i s (omega arith) in
+    let c : take j s ≡ take i s ++ take (j - i) (drop i s) = rw m at (take-add i (j - i) s) in
+    let a : sets l at (take j s) ≡ sets (sets l at (take i s)) (at + i) (take (j - i) (drop i s)) = rw c (sym (rw t at (sets-append (take i s) l (take (j - i) (drop i s)) at))) in
+    let p : length (take (j - i) (drop i s)) ≤ length (take 4 (drop i s)) = rw (length-take (j - i) (drop i s), length-take 4 (drop i s), length-drop i s) (omega arith) in
+    f
+    ∙ rw (e, a) (sets-over (take (j - i) (drop i s)) (take 4 (drop i s)) (sets l at (take i s)) (at + i) p)
+    ∙ rw t at (sets-append (take i s) l (take 4 (drop i s)) at)
+    ∙ rw (take-add i 4 s)
+
+-- four items, each at its place
+pub four-stored : (out s : List ℕ) (to i : ℕ) → i + 4 ≤ length s
+    → set (set (set (set out to (getD s i 0)) (to + 1) (getD s (i + 1) 0)) (to + 2) (getD s (i + 2) 0)) (to + 3) (getD s (i + 3) 0) ≡ sets out to (take 4 (drop i s))
+four-stored out s to i h =
+    let a : to + 1 ≡ suc to = omega arith in
+    let b : to + 2 ≡ suc (suc to) = omega arith in
+    let c : to + 3 ≡ suc (suc (suc to)) = omega arith in
+    let x : i + 1 + 1 ≡ i + 2 = omega arith in
+    let y : i + 2 + 1 ≡ i + 3 = omega arith in
+    let d : drop i s ≡ getD s i 0 ∷ getD s (i + 1) 0 ∷ getD s (i + 2) 0 ∷ getD s (i + 3) 0 ∷ drop (i + 3 + 1) s =
+    drop-more s i (omega arith) ∙ rw (drop-more s (i + 1) (omega arith), x, drop-more s (i + 2) (omega arith), y, drop-more s (i + 3) (omega arith)) in
+    rw (a, b, c, d)
 
 -- n items reach the end
 sets-take : (l s : List ℕ) (i n : ℕ) → n ≤ length s → length l ≤ i + n → sets l i (take n s) ≡ sets l i s

@@ -2,7 +2,7 @@
 ghost use Prim.Native.Nat.{_+_, _≤_, min};
 ghost use mathlib.Core.Path.{_≡_};
 ghost use mathlib.Core.List.{[], _∷_};
-ghost use lib.ListN.{length, take};
+ghost use lib.ListN.{length, take, drop};
 ghost use lib.Seq.{sets};
 ghost use Rattle.lent.specs.Memory.{far, Puts};
 
@@ -33,8 +33,8 @@ pub fn put_byte(out: &mut [u8], at: usize, b: u8) -> usize
     further(at, 1)
 }
 
-// The first n bytes of s, which fit.
-pub fn copy(out: &mut [u8], at: usize, s: &[u8], n: usize)
+// The first n bytes of s, which fit, one by one.
+fn copy_each(out: &mut [u8], at: usize, s: &[u8], n: usize)
     requires { ⌜ (n ≤ length (now s)) × (at + n ≤ length (now out)) ⌝ }
     ensures { λ r. ⌜ now (out .exit) ≡ sets (now (out .entry)) at (take n (now (s .entry))) ⌝ }
 {
@@ -43,6 +43,49 @@ pub fn copy(out: &mut [u8], at: usize, s: &[u8], n: usize)
         out[at + i] = s[i];
         i += 1;
     }
+}
+
+// Four bytes of s from i on, to as far behind a place; they are read before one is written, so that they become one word.
+fn copy_four(out: &mut [u8], at: usize, s: &[u8], i: usize)
+    requires { ⌜ (i + 4 ≤ length (now s)) × (at + i + 4 ≤ length (now out)) ⌝ }
+    ensures { λ r. ⌜ now (out .exit) ≡ sets (now (out .entry)) (at + i) (take 4 (drop i (now (s .entry)))) ⌝ }
+{
+    let a = s[i];
+    let b = s[i + 1];
+    let c = s[i + 2];
+    let d = s[i + 3];
+    let to = at + i;
+    out[to] = a;
+    out[to + 1] = b;
+    out[to + 2] = c;
+    out[to + 3] = d;
+}
+
+// The first n bytes of s, which fit. Few bytes are copied in fours, the last four of which may lie over those before them.
+pub fn copy(out: &mut [u8], at: usize, s: &[u8], n: usize)
+    requires { ⌜ (n ≤ length (now s)) × (at + n ≤ length (now out)) ⌝ }
+    ensures { λ r. ⌜ now (out .exit) ≡ sets (now (out .entry)) at (take n (now (s .entry))) ⌝ }
+{
+    if n < 4 {
+        copy_each(out, at, s, n);
+        return;
+    }
+    if 16 < n {
+        copy_each(out, at, s, n);
+        return;
+    }
+    copy_four(out, at, s, 0);
+    if n <= 8 {
+        copy_four(out, at, s, n - 4);
+        return;
+    }
+    copy_four(out, at, s, 4);
+    if n <= 12 {
+        copy_four(out, at, s, n - 4);
+        return;
+    }
+    copy_four(out, at, s, 8);
+    copy_four(out, at, s, n - 4);
 }
 
 // Bytes. Answers the next place.

@@ -18,8 +18,8 @@ use Rattle.format.proofs.Stored.{here-left, here-right, here-part}
 use Rattle.proto.specs.declared.walk.Next.{Next}
 use Rattle.proto.specs.Walk.{Stands, item, Skips, Past, totalAll, totalBefore, Passes, children, childrenPiece, toCode, toConstants, toFunctions, toChild, toLines, toLocals, toUpvalues}
 use Rattle.proto.specs.Head.{headOf}
-use Rattle.proto.proofs.Heres.{here-get, here-item, here-front, part-clamped}
-use Rattle.proto.proofs.Pieces.{Same, same-sym, same-trans, same-behind, same-assoc, function-debug, stands-same, stands-left, stands-right, source-words, pieces-words}
+use Rattle.proto.proofs.Heres.{here-length, here-get, here-item, here-front, part-clamped}
+use Rattle.proto.proofs.Pieces.{Same, same-sym, same-trans, same-behind, same-assoc, function-debug, stands-same, stands-left, stands-right, source-words, constant-words, pieces-words}
 use Rattle.proto.proofs.Walks.{past-stands, passes-past}
 
 -- ---- the lists of a function
@@ -133,6 +133,14 @@ module _ {words text : List ℕ} where
       q s (to + 0) (rw k (stands-right (word 1) (string s) h))
 
 -- ---- constants
+
+-- where there is no room for three words, none stands there
+pub constant-none : {words text : List ℕ} {at to : ℕ} (k : Value) → (3 ≤ length words - at → ⊥) → Stands words text at to (constantPiece k) → ⊥
+constant-none {to = to} k n h = n (omega (arith, here-length (constantPiece k .words to) (h .in-words), constant-words k to))
+
+-- the place n words on
+pub skips-on : {words : List ℕ} {n at : ℕ} → Skips words n at (at + n)
+skips-on = record { skips = λ l e h. refl }
 
 module _ {words : List ℕ} {at x a y b z : ℕ} (e : x ≡ getD words at 0) (f : Skips words 1 at a) (g : y ≡ getD words a 0) (f′ : Skips words 2 at b) (g′ : z ≡ getD words b 0) where
   three-words : {u v w : ℕ} → Here words at (u ∷ v ∷ w ∷ []) → (x ≡ u) × (y ≡ v) × (z ≡ w)

@@ -1,6 +1,5 @@
 // The constants of a store.
-use crate::walk::skip;
-use crate::walk::word_at;
+use crate::formed::is_within;
 ghost use mathlib.Core.List.{List};
 ghost use mathlib.Core.Path.{_≡_};
 ghost use Prim.Native.Nat.{ℕ};
@@ -21,9 +20,12 @@ pub enum Constant {
 pub fn constant_at(words: &[u32], at: usize) -> Constant
     ensures { λ r. ⌜ ((k : Value) (t : List ℕ) (to : ℕ) → Stands (now (words .entry)) t at to (constantPiece k) → valueOf t r ≡ k) ⌝ }
 {
-    let kind = word_at(words, at);
-    let a = word_at(words, skip(words, at, 1));
-    let b = word_at(words, skip(words, at, 2));
+    if !is_within(words.len(), at, 3) {
+        return Constant::Nil;
+    }
+    let kind = words[at];
+    let a = words[at + 1];
+    let b = words[at + 2];
     match kind {
         0 => Constant::Nil,
         1 => Constant::Bool(a != 0),

@@ -66,7 +66,7 @@ fn check_word(words: &[u32], s: Checked, low: u32, high: u32) -> Checked
 }
 
 // Whether n items from a place on are within so many.
-fn is_within(len: usize, at: usize, n: usize) -> bool
+pub fn is_within(len: usize, at: usize, n: usize) -> bool
     ensures { λ r. ⌜ Room r len at n ⌝ }
 {
     if n == 0 {

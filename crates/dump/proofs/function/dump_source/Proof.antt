@@ -1,7 +1,7 @@
 -- What is elided is what the definition elides.
 use borrow.Author.Needs.{needs}
 use native.Mathlib.Omega.{arith}
-use Rattle.dump.proofs.Steps.{skips-on}
+use Rattle.proto.proofs.Items.{skips-on}
 use Rattle.dump.proofs.Readies.{source-within}
 use Rattle.dump.proofs.Functions.{source-dumped}
 use Rattle.dump.proofs.function.dump_source.Statement.{statement}

@@ -1,7 +1,8 @@
 -- The constant that stands there is the one written.
 use borrow.Author.Needs.{needs}
 use native.Mathlib.Omega.{arith}
-use Rattle.dump.proofs.Steps.{skips-on, constant-dumped}
+use Rattle.proto.proofs.Items.{skips-on}
+use Rattle.dump.proofs.Steps.{constant-dumped}
 use Rattle.dump.proofs.Readies.{constant-within}
 use Rattle.dump.proofs.list.dump_constant.Statement.{statement}
 use Rattle.dump.proofs.list.dump_constant.Tie as tie

@@ -4,9 +4,9 @@ use native.Mathlib.Omega.{arith}
 use Prim.Native.Nat.{_+_}
 use mathlib.Core.Path.{refl}
 use lib.ListN.{getD}
-use Rattle.proto.proofs.Items.{string-here}
+use Rattle.proto.proofs.Items.{string-here, skips-on}
 use Rattle.dump.proofs.Blocks.{string-fits}
-use Rattle.dump.proofs.Steps.{skips-on, name-dumped}
+use Rattle.dump.proofs.Steps.{name-dumped}
 use Rattle.dump.proofs.Readies.{part-short}
 use Rattle.dump.proofs.list.dump_name.Statement.{statement}
 use Rattle.dump.proofs.list.dump_name.Tie as tie

@@ -1,78 +1,84 @@
--- The first word tells which constant stands there, and the other two are its parts.
+-- The first word tells which constant stands there, and the other two are its parts; none stands where there are not three.
 use borrow.Author.Needs.{needs}
-use Rattle.proto.proofs.Items.{constant-nil, constant-bool, constant-num, constant-str}
+use native.Mathlib.Omega.{arith}
+use Prim.Native.Nat.{_+_}
+use mathlib.Core.Path.{refl}
+use borrow.Author.Tests.{not-true, not-false}
+use Rattle.proto.proofs.Items.{skips-on, constant-none, constant-nil, constant-bool, constant-num, constant-str}
 use Rattle.proto.proofs.constant.constant_at.Statement.{statement}
 use Rattle.proto.proofs.constant.constant_at.Tie as tie
 
-word-at-requires : tie.Need-word-at-requires
-word-at-requires c κs = search needs
-
-skip-requires : tie.Need-skip-requires
-skip-requires c κs = search needs
-
-word-at-requires-2 : tie.Need-word-at-requires-2
-word-at-requires-2 c κs = search needs
-
-skip-requires-2 : tie.Need-skip-requires-2
-skip-requires-2 c κs = search needs
-
-word-at-requires-3 : tie.Need-word-at-requires-3
-word-at-requires-3 c κs = search needs
-
-cast-t9 : tie.Need-cast-t9
-cast-t9 c = search needs
-
-cast-t10 : tie.Need-cast-t10
-cast-t10 c = search needs
+is-within-requires : tie.Need-is-within-requires
+is-within-requires c κs = search needs
 
 returns : tie.Need-returns
-returns c =
-    let c₁ = c .before in
+returns c = λ k t to h. absurd (constant-none k (c .before .is-within .ensures .not (not-true _ (c .if1 .taken))) h)
+
+mul-kind : tie.Need-mul-kind
+mul-kind c = omega (arith, c .before .is-within .ensures .is (not-false _ (c .if1 .left)))
+
+shared-slice-read-kind : tie.Need-shared-slice-read-kind
+shared-slice-read-kind c = omega (arith, c .before .before .is-within .ensures .is (not-false _ (c .before .if1 .left)))
+
+add-a : tie.Need-add-a
+add-a c = omega (arith, c .before .before .is-within .ensures .is (not-false _ (c .before .if1 .left)))
+
+mul-a : tie.Need-mul-a
+mul-a c = omega (arith, c .before .before .is-within .ensures .is (not-false _ (c .before .if1 .left)))
+
+shared-slice-read-a : tie.Need-shared-slice-read-a
+shared-slice-read-a c = omega (arith, c .before .before .before .is-within .ensures .is (not-false _ (c .before .before .if1 .left)))
+
+add-b : tie.Need-add-b
+add-b c = omega (arith, c .before .before .before .is-within .ensures .is (not-false _ (c .before .before .if1 .left)))
+
+mul-b : tie.Need-mul-b
+mul-b c = omega (arith, c .before .before .before .is-within .ensures .is (not-false _ (c .before .before .if1 .left)))
+
+shared-slice-read-b : tie.Need-shared-slice-read-b
+shared-slice-read-b c = omega (arith, c .before .before .before .before .is-within .ensures .is (not-false _ (c .before .before .before .if1 .left)))
+
+cast-t16 : tie.Need-cast-t16
+cast-t16 c =
+    let c₁ = c .before .before .before .before .before .before in
     let c₂ = c₁ .before in
-    let c₃ = c₂ .before in
-    let c₄ = c₃ .before in
-    let c₅ = c₄ .before in
-    λ k t to h. constant-nil (c₅ .word-at .ensures) (c₄ .skip .ensures) (c₃ .word-at2 .ensures) (c₂ .skip2 .ensures) (c₁ .word-at3 .ensures) (c .match .keys1) k t to h
+    omega (arith, c₁ .shared-slice-known .given (c₂ .args .at + 1))
+
+cast-t17 : tie.Need-cast-t17
+cast-t17 c =
+    let c₁ = c .before .before .before .before .before .before in
+    let c₂ = c₁ .before in
+    omega (arith, c₁ .shared-slice-known .given (c₂ .args .at + 2))
 
 returns-2 : tie.Need-returns-2
-returns-2 c =
-    let c₁ = c .before in
-    let c₂ = c₁ .before in
-    let c₃ = c₂ .before in
-    let c₄ = c₃ .before in
-    let c₅ = c₄ .before in
-    λ k t to h. constant-bool (c₅ .word-at .ensures) (c₄ .skip .ensures) (c₃ .word-at2 .ensures) (c₂ .skip2 .ensures) (c₁ .word-at3 .ensures) (c .match .keys2) k t to h
+returns-2 c = λ k t to h. constant-nil refl skips-on refl skips-on refl (c .match .keys1) k t to h
 
 returns-3 : tie.Need-returns-3
-returns-3 c =
-    let c₁ = c .before in
-    let c₂ = c₁ .before in
-    let c₃ = c₂ .before in
-    let c₄ = c₃ .before in
-    let c₅ = c₄ .before in
-    λ k t to h. constant-num (c₅ .word-at .ensures) (c₄ .skip .ensures) (c₃ .word-at2 .ensures) (c₂ .skip2 .ensures) (c₁ .word-at3 .ensures) (c .match .keys3) k t to h
+returns-3 c = λ k t to h. constant-bool refl skips-on refl skips-on refl (c .match .keys2) k t to h
 
 returns-4 : tie.Need-returns-4
-returns-4 c =
-    let c₁ = c .before in
-    let c₂ = c₁ .before in
-    let c₃ = c₂ .before in
-    let c₄ = c₃ .before in
-    let c₅ = c₄ .before in
-    λ k t to h. constant-str (c₅ .word-at .ensures) (c₄ .skip .ensures) (c₃ .word-at2 .ensures) (c₂ .skip2 .ensures) (c₁ .word-at3 .ensures) (c .match .rest .0 .0 .1) (c .match .rest .0 .1) (c .match .rest .1) k t to h
+returns-4 c = λ k t to h. constant-num refl skips-on refl skips-on refl (c .match .keys3) k t to h
+
+returns-5 : tie.Need-returns-5
+returns-5 c = λ k t to h. constant-str refl skips-on refl skips-on refl (c .match .rest .0 .0 .1) (c .match .rest .0 .1) (c .match .rest .1) k t to h
 
 pub constant-at-spec : {M : Type 1} → statement M
 constant-at-spec =
     tie.close
     (tie.spec
-    word-at-requires
-    skip-requires
-    word-at-requires-2
-    skip-requires-2
-    word-at-requires-3
-    cast-t9
-    cast-t10
+    is-within-requires
     returns
+    mul-kind
+    shared-slice-read-kind
+    add-a
+    mul-a
+    shared-slice-read-a
+    add-b
+    mul-b
+    shared-slice-read-b
+    cast-t16
+    cast-t17
     returns-2
     returns-3
-    returns-4)
+    returns-4
+    returns-5)
