@@ -1,6 +1,6 @@
 -- Counting: steps of the writer with no space.
-use Prim.Native.Nat.{ℕ, suc, zero-le, _+_, _*_, min}
-use mathlib.Core.Path.{_≡_, refl, ap, _∙_}
+use Prim.Native.Nat.{ℕ, suc, zero-le, _+_, _-_, _*_, _≤_, min}
+use mathlib.Core.Path.{_≡_, refl, sym, ap, _∙_}
 use mathlib.Core.List.{List, [], _∷_, _++_}
 use native.Mathlib.Omega.{arith}
 use native.Mathlib.Nat.{add-zero}
@@ -9,17 +9,33 @@ use Rattle.lent.specs.Memory.{far, Puts}
 use Rattle.lent.proofs.Writes.{put-lost}
 use Rattle.format.specs.Tree.{Constant as Value}
 use Rattle.format.specs.Tree.{Local, Parts, noDebug}
-use Rattle.format.specs.Store.{Piece, word, string, ints, constantPiece, localPiece, packed}
-use Rattle.format.specs.Write.{dumpNumber, dumpInt, dumpSize, dumpText, dumpCode, dumpConstant, dumpLocal, dumpDebug, each}
+use Rattle.format.specs.Store.{Piece, word, string, pieces, list, ints, constantPiece, localPiece, packed}
+use Rattle.format.specs.Write.{dumpNumber, dumpInt, dumpSize, dumpText, dumpCode, dumpList, dumpConstant, dumpLocal, dumpDebug, each}
 use Rattle.format.proofs.Stored.{here-left, here-right}
 use Rattle.proto.specs.Walk.{Stands, Skips, Past}
-use Rattle.proto.proofs.Heres.{here-get, here-item}
-use Rattle.proto.proofs.Pieces.{constant-words}
+use Rattle.proto.proofs.Heres.{here-length, here-get, here-item}
+use Rattle.proto.proofs.Items.{skips-on}
+use Rattle.proto.proofs.Pieces.{constant-words, pieces-words}
 use Rattle.proto.proofs.Walks.{past-word, past-words}
 use Rattle.dump.specs.declared.list.DumpState.{DumpState}
 use Rattle.dump.specs.Step.{Ahead, Dumps, reached}
 use Rattle.dump.proofs.Blocks.{int-length, size-length, string-length, ints-length}
 use Rattle.dump.proofs.Steps.{dumps-past}
+
+-- where a count stands and there is no room for as many items of k words, no list stands
+pub list-none : {A : Type 0} {words : List ℕ} {s p : DumpState} {n : ℕ} (piece : A → Piece) (bytes : A → List ℕ) (k : ℕ) → ((a : A) (to : ℕ) → length (piece a .words to) ≡ k) → n ≡ getD words (s .at) 0
+    → Ahead words 1 4 s p → (k * n ≤ length words - p .at → ⊥) → (l : List A) (t : List ℕ) → Dumps words t (list piece l) (dumpList bytes l) (reached s []) (reached p [])
+list-none {words = words} {s = s} {p = p} {n = n} piece bytes k e g a f l t =
+    record {
+      dumps = λ to h.
+          let w = h .in-words in
+          let m = pieces piece l .words (to + 0) in
+          let x : n ≡ length l = g ∙ here-get (length l) m w in
+          let y : p .at ≡ s .at + 1 = a .at .skips (length l ∷ []) refl (here-left (length l ∷ []) m w) in
+          let z : length m ≡ k * length l = pieces-words piece k e l (to + 0) in
+          let i : k * n ≡ length m = ap (λ j. k * j) x ∙ sym z in
+          absurd (f (omega (arith, here-length (length l ∷ m) w, i, y)));
+    }
 
 -- nothing is written where there is no space
 pub puts-counted : {b : List ℕ} {at r : ℕ} → r ≡ min (at + length b) far → Puts b at [] r []
@@ -39,6 +55,9 @@ module _ {words : List ℕ} {s r : DumpState} where
   module _ {text : List ℕ} where
     pub dumps-counted : {p : Piece} {b : List ℕ} → Past words p (s .at) (r .at) → ((to : ℕ) → Stands words text (s .at) to p → r .len ≡ min (s .len + length b) far) → Dumps words text p b (reached s []) (reached r [])
     dumps-counted d e = dumps-past d (λ to h. puts-counted (e to h))
+
+  pub ahead-on : {n bytes : ℕ} → (r .at ≡ s .at + n) × (r .len ≡ min (s .len + bytes) far) → Ahead words n bytes s r
+  ahead-on e = record { at = rw (e .0) skips-on; len = e .1 }
 
   pub word-counted : Ahead words 1 4 s r → (v : ℕ) (t : List ℕ) → Dumps words t (word v) (dumpInt v) (reached s []) (reached r [])
   word-counted a v t = dumps-counted (past-word v (a .at)) (λ to h. rw (int-length v) (a .len))

@@ -2,13 +2,16 @@
 use crate::function::is_elided;
 use crate::list::DumpState;
 use lent::further;
+use proto::formed::is_within;
 use proto::walk::after_debug;
 use proto::walk::own_source;
 use proto::walk::skip;
 use proto::walk::word_at;
-ghost use Prim.Native.Nat.{ℕ};
+ghost use Prim.Native.Nat.{ℕ, _+_, _≤_, min};
 ghost use mathlib.Core.Path.{_≡_};
 ghost use mathlib.Core.List.{List, []};
+ghost use lib.ListN.{length};
+ghost use Rattle.lent.specs.Memory.{far};
 ghost use Rattle.format.specs.Tree.{Constant as Value};
 ghost use Rattle.format.specs.Tree.{Source, Local, Debug, Functions, Function, count, filled, kept};
 ghost use Rattle.format.specs.Store.{string, list, ints, sourcePiece, constantPiece, localPiece, debugPiece, functionPiece};
@@ -35,36 +38,48 @@ fn count_code(words: &[u32], s: DumpState) -> DumpState
     ahead(words, s, 1 + n, 4 + 4 * n)
 }
 
+// So many words and bytes on, where the words are there.
+fn on(s: DumpState, n: usize, bytes: usize) -> DumpState
+    requires { ⌜ s .at + n ≤ far ⌝ }
+    ensures { λ r. ⌜ (r .at ≡ s .at + n) × (r .len ≡ min (s .len + bytes) far) ⌝ }
+{
+    DumpState {
+        at: s.at + n,
+        len: further(s.len, bytes),
+    }
+}
+
 // A constant: its tag, then Bool's byte, Num's halves, or String.
 fn count_constant(words: &[u32], s: DumpState) -> DumpState
-    ensures { λ r. ⌜ ((k : Value) (t : List ℕ) → Dumps (now (words .entry)) t (constantPiece k) (dumpConstant k) (reached s []) (reached r [])) ⌝ }
+    requires { ⌜ s .at + 3 ≤ length (now words) ⌝ }
+    ensures { λ r. ⌜ (r .at ≡ s .at + 3) × ((k : Value) (t : List ℕ) → Dumps (now (words .entry)) t (constantPiece k) (dumpConstant k) (reached s []) (reached r [])) ⌝ }
 {
-    let kind = word_at(words, s.at);
+    let at = s.at;
+    let kind = words[at];
     match kind {
-        0 => ahead(words, s, 3, 1),
-        1 => ahead(words, s, 3, 2),
-        3 => ahead(words, s, 3, 9),
-        _ => {
-            let n = word_at(words, skip(words, s.at, 2)) as usize;
-            ahead(words, s, 3, n + 10)
-        }
+        0 => on(s, 3, 1),
+        1 => on(s, 3, 2),
+        3 => on(s, 3, 9),
+        _ => on(s, 3, words[at + 2] as usize + 10),
     }
 }
 
 // A name.
 fn count_name(words: &[u32], s: DumpState) -> DumpState
-    ensures { λ r. ⌜ ((n t : List ℕ) → Dumps (now (words .entry)) t (string n) (dumpText n) (reached s []) (reached r [])) ⌝ }
+    requires { ⌜ s .at + 2 ≤ length (now words) ⌝ }
+    ensures { λ r. ⌜ (r .at ≡ s .at + 2) × ((n t : List ℕ) → Dumps (now (words .entry)) t (string n) (dumpText n) (reached s []) (reached r [])) ⌝ }
 {
-    let n = word_at(words, skip(words, s.at, 1)) as usize;
-    ahead(words, s, 2, n + 9)
+    let at = s.at;
+    on(s, 2, words[at + 1] as usize + 9)
 }
 
 // A local.
 fn count_local(words: &[u32], s: DumpState) -> DumpState
-    ensures { λ r. ⌜ ((v : Local) (t : List ℕ) → Dumps (now (words .entry)) t (localPiece v) (dumpLocal v) (reached s []) (reached r [])) ⌝ }
+    requires { ⌜ s .at + 4 ≤ length (now words) ⌝ }
+    ensures { λ r. ⌜ (r .at ≡ s .at + 4) × ((v : Local) (t : List ℕ) → Dumps (now (words .entry)) t (localPiece v) (dumpLocal v) (reached s []) (reached r [])) ⌝ }
 {
-    let n = word_at(words, skip(words, s.at, 1)) as usize;
-    ahead(words, s, 4, n + 17)
+    let at = s.at;
+    on(s, 4, words[at + 1] as usize + 17)
 }
 
 // The constants.
@@ -73,6 +88,9 @@ fn count_values(words: &[u32], s: DumpState) -> DumpState
 {
     let n = word_at(words, s.at);
     let mut p = ahead(words, s, 1, 4);
+    if !is_within(words.len(), p.at, 3 * n as usize) {
+        return p;
+    }
     let mut i: u32 = 0;
     while i < n {
         p = count_constant(words, p);
@@ -87,6 +105,9 @@ fn count_locals(words: &[u32], s: DumpState) -> DumpState
 {
     let n = word_at(words, s.at);
     let mut p = ahead(words, s, 1, 4);
+    if !is_within(words.len(), p.at, 4 * n as usize) {
+        return p;
+    }
     let mut i: u32 = 0;
     while i < n {
         p = count_local(words, p);
@@ -101,6 +122,9 @@ fn count_names(words: &[u32], s: DumpState) -> DumpState
 {
     let n = word_at(words, s.at);
     let mut p = ahead(words, s, 1, 4);
+    if !is_within(words.len(), p.at, 2 * n as usize) {
+        return p;
+    }
     let mut i: u32 = 0;
     while i < n {
         p = count_name(words, p);

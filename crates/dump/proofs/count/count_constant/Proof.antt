@@ -1,67 +1,73 @@
 -- The first word tells the kind, and the third the length of a string.
 use borrow.Author.Needs.{needs}
 use native.Mathlib.Omega.{arith}
-use Rattle.dump.proofs.Counts.{constant-counted, size-nil, size-bool, size-num, size-str}
+use Prim.Native.Nat.{_+_}
+use mathlib.Core.Path.{refl}
+use Rattle.proto.proofs.Items.{skips-on}
+use Rattle.dump.proofs.Counts.{ahead-on, constant-counted, size-nil, size-bool, size-num, size-str}
 use Rattle.dump.proofs.count.count_constant.Statement.{statement}
 use Rattle.dump.proofs.count.count_constant.Tie as tie
 
-word-at-requires : tie.Need-word-at-requires
-word-at-requires c κs = search needs
+mul-kind : tie.Need-mul-kind
+mul-kind c = search needs
 
-ahead-requires : tie.Need-ahead-requires
-ahead-requires c κs = search needs
+shared-slice-read-kind : tie.Need-shared-slice-read-kind
+shared-slice-read-kind c = search needs
 
-ahead-requires-2 : tie.Need-ahead-requires-2
-ahead-requires-2 c κs = search needs
+on-requires : tie.Need-on-requires
+on-requires c κs = search needs
 
-ahead-requires-3 : tie.Need-ahead-requires-3
-ahead-requires-3 c κs = search needs
+on-requires-2 : tie.Need-on-requires-2
+on-requires-2 c κs = search needs
 
-skip-requires : tie.Need-skip-requires
-skip-requires c κs = search needs
+on-requires-3 : tie.Need-on-requires-3
+on-requires-3 c κs = search needs
 
-word-at-requires-2 : tie.Need-word-at-requires-2
-word-at-requires-2 c κs = search needs
+add-on : tie.Need-add-on
+add-on c = search needs
 
-cast-n : tie.Need-cast-n
-cast-n c = search needs
+mul-on : tie.Need-mul-on
+mul-on c = search needs
 
-add-ahead : tie.Need-add-ahead
-add-ahead c = search needs
+shared-slice-read-on : tie.Need-shared-slice-read-on
+shared-slice-read-on c = search needs
 
-ahead-requires-4 : tie.Need-ahead-requires-4
-ahead-requires-4 c κs = search needs
+cast-on : tie.Need-cast-on
+cast-on c = omega (arith, c .before .before .before .shared-slice-known .given (c .before .before .before .before .args .s .at + 2))
+
+add-on-2 : tie.Need-add-on-2
+add-on-2 c = omega (arith, c .before .before .before .shared-slice-known .given (c .before .before .before .before .args .s .at + 2))
+
+on-requires-4 : tie.Need-on-requires-4
+on-requires-4 c κs = search needs
 
 returns : tie.Need-returns
-returns c = constant-counted (c .ahead .ensures) (size-nil (c .before .before .word-at .ensures) (c .before .match .keys1))
+returns c = (c .on .ensures .0, constant-counted (ahead-on (c .on .ensures)) (size-nil refl (c .before .match .keys1)))
 
 returns-2 : tie.Need-returns-2
-returns-2 c = constant-counted (c .ahead2 .ensures) (size-bool (c .before .before .word-at .ensures) (c .before .match .keys2))
+returns-2 c = (c .on2 .ensures .0, constant-counted (ahead-on (c .on2 .ensures)) (size-bool refl (c .before .match .keys2)))
 
 returns-3 : tie.Need-returns-3
-returns-3 c = constant-counted (c .ahead3 .ensures) (size-num (c .before .before .word-at .ensures) (c .before .match .keys3))
+returns-3 c = (c .on3 .ensures .0, constant-counted (ahead-on (c .on3 .ensures)) (size-num refl (c .before .match .keys3)))
 
 returns-4 : tie.Need-returns-4
-returns-4 c =
-    let c₁ = c .before in
-    let c₂ = c₁ .before in
-    let c₃ = c₂ .before in
-    let c₄ = c₃ .before in
-    constant-counted (c .ahead4 .ensures) (size-str (c₄ .word-at .ensures) (c₃ .match .rest .0 .0 .1) (c₃ .match .rest .0 .1) (c₃ .match .rest .1) (c₂ .skip .ensures) (c₁ .word-at2 .ensures))
+returns-4 c = (c .on4 .ensures .0, constant-counted (ahead-on (c .on4 .ensures)) (size-str refl (c .before .before .match .rest .0 .0 .1) (c .before .before .match .rest .0 .1) (c .before .before .match .rest .1) skips-on refl))
 
 pub count-constant-spec : {M : Type 1} → statement M
 count-constant-spec =
     tie.close
     (tie.spec
-    word-at-requires
-    ahead-requires
-    ahead-requires-2
-    ahead-requires-3
-    skip-requires
-    word-at-requires-2
-    cast-n
-    add-ahead
-    ahead-requires-4
+    mul-kind
+    shared-slice-read-kind
+    on-requires
+    on-requires-2
+    on-requires-3
+    add-on
+    mul-on
+    shared-slice-read-on
+    cast-on
+    add-on-2
+    on-requires-4
     returns
     returns-2
     returns-3

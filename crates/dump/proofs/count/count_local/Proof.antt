@@ -1,28 +1,34 @@
 -- The second word is the length of the name.
 use borrow.Author.Needs.{needs}
 use native.Mathlib.Omega.{arith}
-use Rattle.dump.proofs.Counts.{local-counted}
+use Prim.Native.Nat.{_+_}
+use mathlib.Core.Path.{refl}
+use Rattle.proto.proofs.Items.{skips-on}
+use Rattle.dump.proofs.Counts.{ahead-on, local-counted}
 use Rattle.dump.proofs.count.count_local.Statement.{statement}
 use Rattle.dump.proofs.count.count_local.Tie as tie
 
-skip-requires : tie.Need-skip-requires
-skip-requires c κs = search needs
+add-on : tie.Need-add-on
+add-on c = search needs
 
-word-at-requires : tie.Need-word-at-requires
-word-at-requires c κs = search needs
+mul-on : tie.Need-mul-on
+mul-on c = search needs
 
-cast-n : tie.Need-cast-n
-cast-n c = search needs
+shared-slice-read-on : tie.Need-shared-slice-read-on
+shared-slice-read-on c = search needs
 
-add-ahead : tie.Need-add-ahead
-add-ahead c = search needs
+cast-on : tie.Need-cast-on
+cast-on c = omega (arith, c .before .shared-slice-known .given (c .before .before .args .s .at + 1))
 
-ahead-requires : tie.Need-ahead-requires
-ahead-requires c κs = search needs
+add-on-2 : tie.Need-add-on-2
+add-on-2 c = omega (arith, c .before .shared-slice-known .given (c .before .before .args .s .at + 1))
+
+on-requires : tie.Need-on-requires
+on-requires c κs = search needs
 
 returns : tie.Need-returns
-returns c = local-counted (c .before .before .skip .ensures) (c .before .word-at .ensures) (c .ahead .ensures)
+returns c = (c .on .ensures .0, local-counted skips-on refl (ahead-on (c .on .ensures)))
 
 pub count-local-spec : {M : Type 1} → statement M
 count-local-spec =
-    tie.close (tie.spec skip-requires word-at-requires cast-n add-ahead ahead-requires returns)
+    tie.close (tie.spec add-on mul-on shared-slice-read-on cast-on add-on-2 on-requires returns)
