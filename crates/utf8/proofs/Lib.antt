@@ -1,3 +1,4 @@
 mod Leads
 mod Ranges
 mod Texts
+mod Ascii

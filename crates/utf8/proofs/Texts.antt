@@ -1,12 +1,12 @@
 -- Text within bytes: how it goes on, and what it says of the whole.
 use Prim.Native.Nat.{ℕ, suc, _+_, _-_, _≤_, _<_}
 use mathlib.Core.Path.{_≡_, refl, sym, ap, _∙_}
-use mathlib.Core.List.{List, [], _∷_, _++_, append-nil}
+use mathlib.Core.List.{List, [], _∷_, _++_}
 use mathlib.Core.Bool.{Bool, true, false, not}
 use native.Mathlib.Omega.{arith}
 use native.Mathlib.Decide.{ℕ-discrete}
 use lib.ListN.{length, take, drop, getD, take-append-drop, length-drop, drop-of-length-le}
-use lib.Seq.{take-add, drop-drop, take-length}
+use lib.Seq.{take-add, drop-drop}
 use lib.Dec.{eqb}
 use borrow.Author.Tests.{eq-eqb, ne-eqb, not-true, not-false}
 use Rattle.lent.proofs.Lists.{drop-more}
@@ -100,12 +100,6 @@ module _ {s : List ℕ} {at to : ℕ} (h : Text s at to) where
 
   pub utf8-text : isUtf8 (drop at s) ≡ isUtf8 (drop to s)
   utf8-text = ap isUtf8 split ∙ utf8-append (take (to - at) (drop at s)) (drop to s) (h .text)
-
--- text is its own repair
-pub repair-whole : {s : List ℕ} {to : ℕ} → Text s 0 to → to ≡ length s → repair s ≡ s
-repair-whole {s} {to} h e =
-    let k : to - 0 ≡ length s = omega arith in
-    repair-text h ∙ rw (repair-none s to (omega (arith, e)), k, take-length s) (append-nil s)
 
 pub text-whole : {s : List ℕ} {to : ℕ} → TextEnd s 0 to → eqb to (length s) ≡ isUtf8 s
 text-whole {s} {to} h = elim (ℕ-discrete to (length s)) [

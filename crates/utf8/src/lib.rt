@@ -6,7 +6,7 @@ ghost use lib.ListN.{length, drop, getD};
 ghost use Rattle.lent.specs.Memory.{Puts};
 ghost use Rattle.utf8.specs.Utf8.{_‥_, table3-7, firstStep, isUtf8, replacement, repair as repaired};
 ghost use Rattle.utf8.specs.Rows.{rowOf, secondLow, secondHigh, secondRange, begunAt, begins};
-ghost use Rattle.utf8.specs.Text.{Text, TextEnd};
+ghost use Rattle.utf8.specs.Text.{Text, TextEnd, AsciiIn};
 
 // What stands first in some bytes: how many they are, and whether they are a well-formed sequence or a maximal subpart of an ill-formed one.
 pub struct Step {
@@ -217,8 +217,8 @@ pub fn is_utf8(bytes: &[u8]) -> bool
     text_end(bytes, 0) == bytes.len()
 }
 
-// Whether bytes are ASCII. The loop has one way out, so that it becomes vector instructions.
-pub fn is_ascii(bytes: &[u8]) -> bool
+// Whether bytes are ASCII, one by one. The loop has one way out, so that it becomes vector instructions.
+fn is_ascii_each(bytes: &[u8]) -> bool
     ensures { λ r. ⌜ (r ≡ true → (k : ℕ) → getD (now (bytes .entry)) k 0 < 0x80) ⌝ }
 {
     let mut top: u8 = 0;
@@ -231,6 +231,56 @@ pub fn is_ascii(bytes: &[u8]) -> bool
         i += 1;
     }
     top < 0x80
+}
+
+// Whether the four bytes from a place on are ASCII; all are read before one is tested, so that they are tested at once.
+fn is_ascii_four(bytes: &[u8], at: usize) -> bool
+    requires { ⌜ at + 4 ≤ length (now bytes) ⌝ }
+    ensures { λ r. ⌜ (r ≡ true → AsciiIn (now (bytes .entry)) at (at + 4)) ⌝ }
+{
+    let a = bytes[at];
+    let b = bytes[at + 1];
+    let c = bytes[at + 2];
+    let d = bytes[at + 3];
+    if 0x80 <= a {
+        return false;
+    }
+    if 0x80 <= b {
+        return false;
+    }
+    if 0x80 <= c {
+        return false;
+    }
+    d < 0x80
+}
+
+// Whether bytes are ASCII. Few bytes are tested in fours, the last four of which may lie over those before them.
+pub fn is_ascii(bytes: &[u8]) -> bool
+    ensures { λ r. ⌜ (r ≡ true → (k : ℕ) → getD (now (bytes .entry)) k 0 < 0x80) ⌝ }
+{
+    let n = bytes.len();
+    if n < 4 {
+        return is_ascii_each(bytes);
+    }
+    if 16 < n {
+        return is_ascii_each(bytes);
+    }
+    if !is_ascii_four(bytes, 0) {
+        return false;
+    }
+    if n <= 8 {
+        return is_ascii_four(bytes, n - 4);
+    }
+    if !is_ascii_four(bytes, 4) {
+        return false;
+    }
+    if n <= 12 {
+        return is_ascii_four(bytes, n - 4);
+    }
+    if !is_ascii_four(bytes, 8) {
+        return false;
+    }
+    is_ascii_four(bytes, n - 4)
 }
 
 // Writes U+FFFD at a place. Answers the next place.
@@ -261,7 +311,7 @@ fn repair_steps(bytes: &[u8], out: &mut [u8], at: usize) -> usize
 pub fn repair(bytes: &[u8], out: &mut [u8], at: usize) -> usize
     ensures { λ r. ⌜ Puts (repaired (now (bytes .entry))) at (now (out .entry)) r (now (out .exit)) ⌝ }
 {
-    if ascii_end(bytes, 0) == bytes.len() {
+    if is_ascii(bytes) {
         return lent::put_bytes(out, at, bytes);
     }
     repair_steps(bytes, out, at)

@@ -7,8 +7,8 @@ use native.Mathlib.Decide.{decLt}
 use lib.ListN.{length, getD, List·getD-eq-default}
 use borrow.Author.Count.{below-more}
 use borrow.Author.Tests.{ltb-true}
-use Rattle.utf8.proofs.is_ascii.Statement.{statement}
-use Rattle.utf8.proofs.is_ascii.Tie as tie
+use Rattle.utf8.proofs.is_ascii_each.Statement.{statement}
+use Rattle.utf8.proofs.is_ascii_each.Tie as tie
 
 abbrev Inv-loop : tie.InvT-loop
 Inv-loop bytes top₀ i₀ top i = (i ≤ length bytes) × (top < 0x80 → (k : ℕ) → k < i → getD bytes k 0 < 0x80)
@@ -47,8 +47,8 @@ returns c h k =
       | no n ↦ let e : length s ≤ k = omega arith in rw (List·getD-eq-default s 0 e) (omega arith)
     ]
 
-pub is-ascii-spec : {M : Type 1} → statement M
-is-ascii-spec =
+pub is-ascii-each-spec : {M : Type 1} → statement M
+is-ascii-each-spec =
     tie.close
     (tie.spec
     Inv-loop

@@ -1,11 +1,13 @@
--- ASCII is its own repair; else step by step.
 use borrow.Author.Needs.{needs}
-use Rattle.utf8.proofs.Texts.{repair-whole}
+use native.Mathlib.Omega.{arith}
+use Rattle.utf8.proofs.Ascii.{repair-ascii}
 use Rattle.utf8.proofs.repair.Statement.{statement}
 use Rattle.utf8.proofs.repair.Tie as tie
 
-ascii-end-requires : tie.Need-ascii-end-requires
-ascii-end-requires c κs = search needs
+-- ASCII is its own repair; else step by step.
+
+is-ascii-requires : tie.Need-is-ascii-requires
+is-ascii-requires c κs = search needs
 
 put-bytes-requires : tie.Need-put-bytes-requires
 put-bytes-requires c κs = search needs
@@ -14,7 +16,12 @@ same-length : tie.Need-same-length
 same-length c = search needs
 
 returns : tie.Need-returns
-returns c = rw (repair-whole (c .before .before .before .before .before .ascii-end .ensures) (c .before .before .before .before .if1 .taken)) (c .before .before .put-bytes .ensures)
+returns c =
+    let c₁ = c .before .before in
+    let c₂ = c₁ .before .before in
+    let c₃ = c₂ .before in
+    let c₄ = c₃ .before .before .before in
+    rw (repair-ascii (c₄ .args .bytes .now) (c₃ .is-ascii .ensures (c₂ .if1 .taken))) (c₁ .put-bytes .ensures)
 
 repair-steps-requires : tie.Need-repair-steps-requires
 repair-steps-requires c κs = search needs
@@ -29,7 +36,7 @@ pub repair-spec : {M : Type 1} → statement M
 repair-spec =
     tie.close
     (tie.spec
-    ascii-end-requires
+    is-ascii-requires
     put-bytes-requires
     same-length
     returns
