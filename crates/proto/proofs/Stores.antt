@@ -1,5 +1,5 @@
 -- What the check of each part of a function finds, and of a whole store: it holds where, and only where, the store holds a tree.
-use Prim.Native.Nat.{ℕ, zero, suc, zero-le, _+_, _*_, _-_, _/_, _%_, _≤_}
+use Prim.Native.Nat.{ℕ, zero, suc, zero-le, _+_, _*_, _-_, _/_, _%_, _≤_, _<_}
 use mathlib.Core.Path.{_≡_, refl, ap, _∙_}
 use mathlib.Core.List.{List, [], _∷_}
 use mathlib.Core.Bool.{Bool, true, false, cond}
@@ -67,7 +67,7 @@ module _ {words text : List ℕ} where
   kind-here (Constant.str s) h = here-get 4 _ (h .in-words)
 
   module _ {x : ℕ} {s r : Checked} (e : x ≡ getD words (s .at) 0) where
-    pub constant-nil : x ≡ 0 → Check words text (Three 0 0 0) three s r → Check words text ValidConstant constantPiece s r
+    constant-nil : x ≡ 0 → Check words text (Three 0 0 0) three s r → Check words text ValidConstant constantPiece s r
     constant-nil z c = check-as to from c
       where
         to : (w : Words) → Three 0 0 0 w → As ValidConstant constantPiece (three w)
@@ -82,7 +82,7 @@ module _ {words text : List ℕ} where
         from (Constant.num high low) k h = absurd (omega (arith, kind-here (Constant.num high low) h))
         from (Constant.str l) k h = absurd (omega (arith, kind-here (Constant.str l) h))
 
-    pub constant-bool : x ≡ 1 → Check words text (Three 1 1 0) three s r → Check words text ValidConstant constantPiece s r
+    constant-bool : x ≡ 1 → Check words text (Three 1 1 0) three s r → Check words text ValidConstant constantPiece s r
     constant-bool z c = check-as to from c
       where
         to : (w : Words) → Three 1 1 0 w → As ValidConstant constantPiece (three w)
@@ -100,6 +100,15 @@ module _ {words text : List ℕ} where
         from (Constant.num high low) k h = absurd (omega (arith, kind-here (Constant.num high low) h))
         from (Constant.str l) k h = absurd (omega (arith, kind-here (Constant.str l) h))
 
+    -- nil and false take no second word but 0, and true takes 1
+    pub constant-plain : x ≤ 1 → Check words text (Three x x 0) three s r → Check words text ValidConstant constantPiece s r
+    constant-plain h c = by x refl h c
+      where
+        by : (k : ℕ) → x ≡ k → k ≤ 1 → Check words text (Three k k 0) three s r → Check words text ValidConstant constantPiece s r
+        by zero z h c = constant-nil z c
+        by (suc zero) z h c = constant-bool z c
+        by (suc (suc k)) z h c = absurd (omega arith)
+
     pub constant-num : x ≡ 3 → Check words text (Three 3 4294967295 4294967295) three s r → Check words text ValidConstant constantPiece s r
     constant-num z c =
         check-as (λ w k. record { value = Constant.num (w .second) (w .third); valid = (omega (arith, k .second), omega (arith, k .third)); same = rw (k .is) same-refl }) from c
@@ -112,14 +121,14 @@ module _ {words text : List ℕ} where
         from (Constant.str l) k h = absurd (omega (arith, kind-here (Constant.str l) h))
 
   -- none of the kinds above
-  pub constant-str : {x : ℕ} {s a r : Checked} → x ≡ getD words (s .at) 0 → (x ≡ 0 → ⊥) → (x ≡ 1 → ⊥) → (x ≡ 3 → ⊥) → Check words text (Within 4 4) word s a → Check words text Bytes string a r
+  pub constant-str : {x : ℕ} {s a r : Checked} → x ≡ getD words (s .at) 0 → 1 < x → (x ≡ 3 → ⊥) → Check words text (Within 4 4) word s a → Check words text Bytes string a r
       → Check words text ValidConstant constantPiece s r
-  constant-str {s = s} e n₀ n₁ n₃ c d =
+  constant-str {s = s} e h n₃ c d =
       check-as (λ v k. let g : v .0 ≡ 4 = omega (arith, k .0 .above, k .0 .below) in record { value = Constant.str (v .1); valid = k .1; same = rw g same-refl }) from (check-then c d)
     where
       from : (v : Constant) → ValidConstant v → Stands words text (s .at) (s .to) (constantPiece v) → As {A = ℕ × List ℕ} (λ v. Within 4 4 (v .0) × Bytes (v .1)) (λ v. word (v .0) ⊕ string (v .1)) (constantPiece v)
-      from Constant.nil k h = absurd (n₀ (e ∙ kind-here Constant.nil h))
-      from (Constant.bool b) k h = absurd (n₁ (e ∙ kind-here (Constant.bool b) h))
+      from Constant.nil k t = absurd (omega (arith, kind-here Constant.nil t))
+      from (Constant.bool b) k t = absurd (omega (arith, kind-here (Constant.bool b) t))
       from (Constant.num high low) k h = absurd (n₃ (e ∙ kind-here (Constant.num high low) h))
       from (Constant.str l) k h = record { value = (4, l); valid = (record { above = omega arith; below = omega arith }, k); same = same-refl }
 

@@ -170,20 +170,19 @@ fn check_source(words: &[u32], text: &[u8], ascii: bool, s: Checked) -> Checked
     check_name(words, text, ascii, own)
 }
 
-// A constant: Nil, Bool, Num or String.
+// A constant: Nil or Bool, whose second word is no more than the first, Num or String.
 fn check_constant(words: &[u32], text: &[u8], s: Checked) -> Checked
     ensures { λ r. ⌜ Check (now (words .entry)) (now (text .entry)) ValidConstant constantPiece s r ⌝ }
 {
     let kind = word_at(words, s.at);
-    match kind {
-        0 => check_three(words, s, 0, 0, 0),
-        1 => check_three(words, s, 1, 1, 0),
-        3 => check_three(words, s, 3, ANY, ANY),
-        _ => {
-            let a = check_word(words, s, 4, 4);
-            check_string(words, text, a)
-        }
+    if kind <= 1 {
+        return check_three(words, s, kind, kind, 0);
     }
+    if kind == 3 {
+        return check_three(words, s, 3, ANY, ANY);
+    }
+    let a = check_word(words, s, 4, 4);
+    check_string(words, text, a)
 }
 
 // A local: its name, start and end.
