@@ -230,7 +230,7 @@ fn is_ascii_each(bytes: &[u8]) -> bool
         }
         i += 1;
     }
-    top < 0x80
+    top <= 0x7f
 }
 
 // Whether the four bytes from a place on are ASCII; all are read before one is tested, so that they are tested at once.

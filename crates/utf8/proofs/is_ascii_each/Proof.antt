@@ -6,7 +6,7 @@ use native.Mathlib.Omega.{arith}
 use native.Mathlib.Decide.{decLt}
 use lib.ListN.{length, getD, List·getD-eq-default}
 use borrow.Author.Count.{below-more}
-use borrow.Author.Tests.{ltb-true}
+use borrow.Author.Tests.{leb-true}
 use Rattle.utf8.proofs.is_ascii_each.Statement.{statement}
 use Rattle.utf8.proofs.is_ascii_each.Tie as tie
 
@@ -43,7 +43,7 @@ returns c h k =
     let l = c .before .loop in
     let s = c .before .before .args .bytes .now in
     elim (decLt k (l .i)) [
-      | yes y ↦ l .inv .1 (ltb-true _ _ h) k y
+      | yes y ↦ l .inv .1 (omega (arith, leb-true (l .top) 0x7f h)) k y
       | no n ↦ let e : length s ≤ k = omega arith in rw (List·getD-eq-default s 0 e) (omega arith)
     ]
 
