@@ -32,10 +32,6 @@ int-stored out at n =
     let c : at + 3 ≡ suc (suc (suc at)) = omega arith in
     rw (a, b, c, int-bytes n)
 
--- four bytes that are all of a list
-pub int-array : {bytes : List ℕ} (n : ℕ) → bytes ≡ sets (0 ∷ 0 ∷ 0 ∷ 0 ∷ []) 0 (dumpInt n) → bytes ≡ dumpInt n
-int-array n e = e ∙ rw (int-bytes n)
-
 -- a number whose upper part is a multiple of 256
 next-byte : (n a b : ℕ) → n ≡ a + 256 * b → (n % 256 ≡ a % 256) × (n / 256 ≡ a / 256 + b)
 next-byte n a b e = omega arith

@@ -117,7 +117,7 @@ dump-constants-loop-again t c =
     let c₁ = c .before .before in
     let c₂ = c₁ .before .before .before in
     let a = c₂ .before .before .before .before .before .before .before .before .before .before .before .before .before .before .args in
-    (c₁ .dump-function .kept .1 .1 .1 .1 .1 .0 ∙ c₂ .loop .inv .0, loop-turn (omega arith) (c₂ .loop .inv .1) (all-more (c₁ .dump-function .ensures)), left-more (λ f. Valid f (a .allowance)) functionPiece (λ f. dumpFunction f (a .strip) (a .source .now) (a .source .now)) (omega arith) (c₂ .loop .inv .2) (c₁ .dump-function .ensures))
+    (c₁ .dump-function .kept .1 .1 .1 .1 .1 .0 ∙ c₂ .loop .inv .0, loop-turn (omega arith) (c₂ .loop .inv .1) (all-more {bytes = λ f. dumpFunction f (a .strip) (a .source .now) (a .source .now)} (c₁ .dump-function .ensures)), left-more (λ f. Valid f (a .allowance)) functionPiece (λ f. dumpFunction f (a .strip) (a .source .now) (a .source .now)) (omega arith) (c₂ .loop .inv .2) (c₁ .dump-function .ensures))
 
 dump-constants-same-length : (t : ℕ) → dump-constants-lts.Need-same-length (dump-constants-calls t) (dump-constants-at t) dump-constants.Post dump-constants-Inv-loop dump-constants-μ-loop
 dump-constants-same-length t c =
