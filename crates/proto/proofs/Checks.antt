@@ -115,6 +115,20 @@ module _ {words text : List ℕ} where
   any-word c =
       check-as (λ v k. record { value = v; valid = omega (arith, k .below); same = same-refl }) (λ v k t. record { value = v; valid = record { above = zero-le; below = omega arith }; same = same-refl }) c
 
+  -- ---- two words, whatever they are
+
+  module _ {s : Checked} where
+    pub pair-good : ((i : ℕ) → getD words i 0 < 2 ^ 32) → s .ok ≡ true → s .at + 2 ≤ length words
+        → Check {A = ℕ × ℕ} words text (λ v. Word (v .0) × Word (v .1)) (λ v. word (v .0) ⊕ word (v .1)) s (record { ok = true; at = s .at + 2; to = s .to })
+    pair-good w e h =
+        record {
+          sound = λ z. (e, record { value = (getD words (s .at) 0, getD words (s .at + 1) 0); valid = (w (s .at), w (s .at + 1)); stands = record { in-words = here-two h; in-text = here-none } });
+          complete = λ z v k t. record { ok = refl; at = refl; to = sym (add-zero _) };
+        }
+
+    pub pair-bad : {r : Checked} → r .ok ≡ false → (2 ≤ length words - s .at → ⊥) → Check {A = ℕ × ℕ} words text (λ v. Word (v .0) × Word (v .1)) (λ v. word (v .0) ⊕ word (v .1)) s r
+    pair-bad e f = check-wrong e (λ o v k t. f (omega (arith, here-length (v .0 ∷ v .1 ∷ []) (t .in-words))))
+
   -- ---- three words
 
   module _ {s : Checked} {kind x y : ℕ} where

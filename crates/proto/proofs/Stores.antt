@@ -134,12 +134,13 @@ module _ {words text : List ℕ} where
 
   -- ---- locals
 
-  pub local-checked : {s a b r : Checked} → Check words text (λ n. Name n) string s a → Check words text (Within 0 4294967295) word a b → Check words text (Within 0 4294967295) word b r → Check words text ValidLocal localPiece s r
-  local-checked c d f =
+  pub local-checked : {s a r : Checked} → Check words text (λ n. Name n) string s a → Check {A = ℕ × ℕ} words text (λ v. Word (v .0) × Word (v .1)) (λ v. word (v .0) ⊕ word (v .1)) a r
+      → Check words text ValidLocal localPiece s r
+  local-checked c d =
       check-as
       (λ v k. record { value = record { name = v .0; start = v .1 .0; end = v .1 .1 }; valid = record { name = k .0; start = k .1 .0; end = k .1 .1 }; same = same-refl })
       (λ v k h. record { value = (v .name, (v .start, v .end)); valid = (k .name, (k .start, k .end)); same = same-refl })
-      (check-then c (check-then (any-word d) (any-word f)))
+      (check-then c d)
 
 -- ---- the functions in a function
 

@@ -8,7 +8,7 @@ ghost use mathlib.Core.Bool.{false, true};
 ghost use mathlib.Core.List.{List};
 ghost use Prim.Native.Nat.{ℕ};
 ghost use Rattle.lent.specs.Memory.{Word, Bytes};
-ghost use Rattle.format.specs.Store.{string, list, ints, sourcePiece, constantPiece, localPiece, functionPiece};
+ghost use Rattle.format.specs.Store.{_⊕_, string, list, ints, sourcePiece, constantPiece, localPiece, functionPiece};
 ghost use Rattle.format.specs.Store.{word as wordPiece};
 ghost use Rattle.format.specs.Stored.{treeOf};
 ghost use Rattle.format.specs.Valid.{Name, Valid, ValidSource, ValidConstant, ValidLocal, ValidList};
@@ -79,6 +79,24 @@ pub fn is_within(len: usize, at: usize, n: usize) -> bool
         return false;
     }
     true
+}
+
+// Two words, whatever they are.
+fn check_pair(words: &[u32], s: Checked) -> Checked
+    ensures { λ r. ⌜ ((t : List ℕ) → Check {A = ℕ × ℕ} (now (words .entry)) t (λ v. Word (v .0) × Word (v .1)) (λ v. wordPiece (v .0) ⊕ wordPiece (v .1)) s r) ⌝ }
+{
+    let at = s.at;
+    if !s.ok {
+        return s;
+    }
+    if !is_within(words.len(), at, 2) {
+        return wrong();
+    }
+    Checked {
+        ok: true,
+        at: at + 2,
+        to: s.to,
+    }
 }
 
 // Three words: a kind, and two with their greatest values.
@@ -191,8 +209,7 @@ fn check_local(words: &[u32], text: &[u8], ascii: bool, s: Checked) -> Checked
     ensures { λ r. ⌜ Check (now (words .entry)) (now (text .entry)) ValidLocal localPiece s r ⌝ }
 {
     let name = check_name(words, text, ascii, s);
-    let start = check_word(words, name, 0, ANY);
-    check_word(words, start, 0, ANY)
+    check_pair(words, name)
 }
 
 // A list of words.
