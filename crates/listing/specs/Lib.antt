@@ -1,3 +1,4 @@
 pub mod Listing
 pub mod Kept
+pub mod Known
 pub mod Lister

@@ -1,4 +1,5 @@
 // The code of a function (listing.rs: format_code), and where its lists and the functions in it stand.
+use crate::known::find_lines;
 use comments::Lists;
 use instructions::Instruction;
 use instructions::OP_CLOSURE;
@@ -9,7 +10,6 @@ use proto::walk::code_at;
 use proto::walk::constants_at;
 use proto::walk::functions_at;
 use proto::walk::item_at;
-use proto::walk::lines_at;
 use proto::walk::pass;
 use proto::walk::skip;
 use proto::walk::word_at;
@@ -25,6 +25,7 @@ ghost use Rattle.proto.specs.Walk.{totalAll, childrenPiece};
 ghost use Rattle.proto.proofs.Items.{StandsAt};
 ghost use Rattle.comments.specs.Shown.{ListsAt};
 ghost use Rattle.listing.specs.Listing.{formatCode};
+ghost use Rattle.listing.specs.Known.{Known};
 ghost use Rattle.listing.specs.Kept.{KeptAt, Reaches, Closes};
 
 // A child of a function: its index, the place where it begins, and its number in preorder.
@@ -34,11 +35,19 @@ pub struct Kept {
     pub number: usize,
 }
 
-// The places of the lists of the function at a place. The functions in it are walked through once.
-pub fn lists_at(words: &[u32], at: usize, allowance: u32) -> Lists
-    ensures { λ r. ⌜ ((p : Parts) (fs : Functions) (t : List ℕ) → ValidAll fs allowance → StandsAt (now (words .entry)) t at (functionPiece (Function.function p fs)) → ListsAt (now (words .entry)) t r p fs) ⌝ }
+// The places of the lists of the function at a place, with what is known of the lines of functions.
+pub fn lists_at(
+    words: &[u32],
+    at: usize,
+    allowance: u32,
+    begins: &mut [usize],
+    known: &mut [usize],
+) -> Lists
+    requires { ⌜ Known (now words) (now begins) (now known) ⌝ }
+    ensures known { λ r. ⌜ Known (now (words .entry)) (now (begins .exit)) (now (known .exit)) ⌝ }
+    ensures lists { λ r. ⌜ ((p : Parts) (fs : Functions) (t : List ℕ) → ValidAll fs allowance → StandsAt (now (words .entry)) t at (functionPiece (Function.function p fs)) → ListsAt (now (words .entry)) t r p fs) ⌝ }
 {
-    let lines = lines_at(words, at, allowance);
+    let lines = find_lines(words, at, allowance, begins, known);
     let locals = item_at(words, lines, 1, word_at(words, lines));
     let upvalues = item_at(words, locals, 4, word_at(words, locals));
     Lists {

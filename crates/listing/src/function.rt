@@ -22,6 +22,7 @@ ghost use Rattle.format.specs.Valid.{Valid, ValidParts, ValidAll};
 ghost use Rattle.proto.specs.Walk.{totalAll};
 ghost use Rattle.proto.proofs.Items.{StandsAt};
 ghost use Rattle.comments.specs.Shown.{ListsAt};
+ghost use Rattle.listing.specs.Known.{Known};
 ghost use Rattle.listing.specs.Listing.{formatLists, formatFunction};
 ghost use Rattle.listing.specs.Lister.{ListsFunction, reached};
 
@@ -59,35 +60,54 @@ fn format_function(
     source: &[u8],
     full: bool,
     out: &mut [u8],
+    begins: &mut [usize],
+    known: &mut [usize],
     s: ListState,
     allowance: u32,
 ) -> usize
-    ensures { λ r. ⌜ ((p : Parts) (fs : Functions) → ValidParts p → ValidAll fs allowance → StandsAt (now (words .entry)) (now (text .entry)) (s .at) (functionPiece (Function.function p fs)) → s .number + 1 + totalAll fs ≤ far → Puts (formatFunction p fs full (now (source .entry)) (s .number)) (s .out) (now (out .entry)) r (now (out .exit))) ⌝ }
+    requires { ⌜ Known (now words) (now begins) (now known) ⌝ }
+    ensures known { λ r. ⌜ Known (now (words .entry)) (now (begins .exit)) (now (known .exit)) ⌝ }
+    ensures lists { λ r. ⌜ ((p : Parts) (fs : Functions) → ValidParts p → ValidAll fs allowance → StandsAt (now (words .entry)) (now (text .entry)) (s .at) (functionPiece (Function.function p fs)) → s .number + 1 + totalAll fs ≤ far → Puts (formatFunction p fs full (now (source .entry)) (s .number)) (s .out) (now (out .entry)) r (now (out .exit))) ⌝ }
 {
-    let lists = lists_at(words, s.at, allowance);
+    let lists = lists_at(words, s.at, allowance, begins, known);
     let head = head_at(words, s.at);
     let a = format_header(words, head, lists, source, s.number, out, s.out);
     let b = format_code(words, text, lists, s.number, allowance, out, a);
     format_lists(words, text, lists, full, s.number, out, b)
 }
 
-// The function at s, and those in it, with so many nested at most. outer is the source that an inherited one stands for.
+// The function at s, and those in it, with so many nested at most. outer is the source that an inherited one stands for; begins and known
+// keep what is known of the lines of functions.
 pub fn list_function_recursive<'a>(
     words: &[u32],
     text: &'a [u8],
     outer: &'a [u8],
     full: bool,
     out: &mut [u8],
+    begins: &mut [usize],
+    known: &mut [usize],
     s: ListState,
     allowance: u32,
 ) -> ListState
-    ensures { λ r. ⌜ ((f : Function) → Valid f allowance → ListsFunction (now (words .entry)) (now (text .entry)) full (now (outer .entry)) f (reached s (now (out .entry))) (reached r (now (out .exit)))) ⌝ }
+    requires { ⌜ Known (now words) (now begins) (now known) ⌝ }
+    ensures known { λ r. ⌜ Known (now (words .entry)) (now (begins .exit)) (now (known .exit)) ⌝ }
+    ensures lists { λ r. ⌜ ((f : Function) → Valid f allowance → ListsFunction (now (words .entry)) (now (text .entry)) full (now (outer .entry)) f (reached s (now (out .entry))) (reached r (now (out .exit)))) ⌝ }
 {
     if allowance == 0 {
         return s;
     }
     let source = own_source(words, text, outer, s.at);
-    let own = format_function(words, text, source, full, out, s, allowance - 1);
+    let own = format_function(
+        words,
+        text,
+        source,
+        full,
+        out,
+        begins,
+        known,
+        s,
+        allowance - 1,
+    );
     let list = functions_at(words, s.at);
     let n = word_at(words, list);
     let mut r = ListState {
@@ -103,7 +123,17 @@ pub fn list_function_recursive<'a>(
             number: r.number,
             out: line,
         };
-        r = list_function_recursive(words, text, source, full, out, next, allowance - 1);
+        r = list_function_recursive(
+            words,
+            text,
+            source,
+            full,
+            out,
+            begins,
+            known,
+            next,
+            allowance - 1,
+        );
         i += 1;
     }
     ListState {

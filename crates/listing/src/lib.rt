@@ -1,6 +1,7 @@
 // The listing of a store (listing.rs).
 pub mod code;
 pub mod function;
+pub mod known;
 
 use format::Written;
 use format::name_ok;
@@ -31,7 +32,19 @@ fn list_root<'a>(words: &[u32], text: &'a [u8], name: &'a [u8], full: bool, out:
         number: 1,
         out: 0,
     };
-    let end = list_function_recursive(words, text, name, full, out, start, DEPTH);
+    let mut begins = [0usize; 200];
+    let mut known = [0usize; 200];
+    let end = list_function_recursive(
+        words,
+        text,
+        name,
+        full,
+        out,
+        &mut begins,
+        &mut known,
+        start,
+        DEPTH,
+    );
     end.out
 }
 

@@ -1,17 +1,32 @@
--- The root stands at place 0, and a tree has no more functions than words, so that no number stops at the farthest.
+-- The root stands at place 0, and a tree has no more functions than words, so that no number stops at the farthest. Nothing is known of lines yet.
 use borrow.Author.Needs.{needs}
+use native.Mathlib.Omega.{arith}
 use Rattle.listing.proofs.Calls.{root-puts}
+use Rattle.listing.proofs.Knowns.{known-none}
 use Rattle.listing.proofs.list_root.Statement.{statement}
 use Rattle.listing.proofs.list_root.Tie as tie
 
+slice-aggregate-list-function-recursive : tie.Need-slice-aggregate-list-function-recursive
+slice-aggregate-list-function-recursive c = search needs
+
+slice-aggregate-list-function-recursive-2 : tie.Need-slice-aggregate-list-function-recursive-2
+slice-aggregate-list-function-recursive-2 c = search needs
+
 list-function-recursive-requires : tie.Need-list-function-recursive-requires
-list-function-recursive-requires c κs = search needs
+list-function-recursive-requires c κs = known-none 200 200
 
 same-length : tie.Need-same-length
 same-length c = search needs
 
 returns : tie.Need-returns
-returns c = root-puts (c .before .before .list-function-recursive .ensures)
+returns c = root-puts (c .before .before .before .before .list-function-recursive .ensures .1)
 
 pub list-root-spec : {M : Type 1} → statement M
-list-root-spec = tie.close (tie.spec list-function-recursive-requires same-length returns)
+list-root-spec =
+    tie.close
+    (tie.spec
+    slice-aggregate-list-function-recursive
+    slice-aggregate-list-function-recursive-2
+    list-function-recursive-requires
+    same-length
+    returns)

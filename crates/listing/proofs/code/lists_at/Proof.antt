@@ -1,11 +1,12 @@
--- Each list stands behind the one before it, and the lines behind the functions.
+-- Each list stands behind the one before it, and the lines where find_lines says.
 use borrow.Author.Needs.{needs}
+use native.Mathlib.Omega.{arith}
 use Rattle.listing.proofs.Kepts.{lists-found}
 use Rattle.listing.proofs.code.lists_at.Statement.{statement}
 use Rattle.listing.proofs.code.lists_at.Tie as tie
 
-lines-at-requires : tie.Need-lines-at-requires
-lines-at-requires c κs = search needs
+find-lines-requires : tie.Need-find-lines-requires
+find-lines-requires c κs = search needs
 
 word-at-requires : tie.Need-word-at-requires
 word-at-requires c κs = search needs
@@ -28,6 +29,12 @@ constants-at-requires c κs = search needs
 functions-at-requires : tie.Need-functions-at-requires
 functions-at-requires c κs = search needs
 
+same-length : tie.Need-same-length
+same-length c = search needs
+
+same-length-2 : tie.Need-same-length-2
+same-length-2 c = search needs
+
 returns : tie.Need-returns
 returns c =
     let c₁ = c .before in
@@ -36,15 +43,15 @@ returns c =
     let c₄ = c₃ .before in
     let c₅ = c₄ .before in
     let c₆ = c₅ .before in
-    let c₇ = c₆ .before in
-    let c₈ = c₇ .before .before in
-    lists-found (c₈ .args .allowance) (c₇ .lines-at .ensures) (c₆ .word-at .ensures) (c₅ .item-at .ensures) (c₄ .word-at2 .ensures) (c₃ .item-at2 .ensures) (c₂ .code-at .ensures) (c₁ .constants-at .ensures) (c .functions-at .ensures)
+    let c₇ = c₆ .before .before .before .before .before in
+    let c₈ = c₇ .before .before .before .before .before .before in
+    (c₇ .find-lines .ensures .1, lists-found (c₈ .args .allowance) (c₇ .find-lines .ensures .0 .past) (c₆ .word-at .ensures) (c₅ .item-at .ensures) (c₄ .word-at2 .ensures) (c₃ .item-at2 .ensures) (c₂ .code-at .ensures) (c₁ .constants-at .ensures) (c .functions-at .ensures))
 
 pub lists-at-spec : {M : Type 1} → statement M
 lists-at-spec =
     tie.close
     (tie.spec
-    lines-at-requires
+    find-lines-requires
     word-at-requires
     item-at-requires
     word-at-requires-2
@@ -52,4 +59,6 @@ lists-at-spec =
     code-at-requires
     constants-at-requires
     functions-at-requires
+    same-length
+    same-length-2
     returns)

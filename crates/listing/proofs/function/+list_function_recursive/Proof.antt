@@ -6,10 +6,11 @@ use mathlib.Core.Path.{_≡_, refl, _∙_}
 use lib.ListN.{length}
 use Rattle.proto.proofs.Loops.{Loop, loop-start, loop-turn, loop-end}
 use Rattle.proto.proofs.Walks.{none-deep}
+use Rattle.listing.specs.Known.{Known}
 use Rattle.listing.specs.Lister.{reached}
 use Rattle.listing.proofs.Listers.{ListsAll, lists-none, lists-more, lists-function}
-use borrow.Fn.Kinds.{In}
 use borrow.Fn.PlainCycle.{Measures, is, falls, and}
+use borrow.Fn.Kinds.{In}
 use Rattle.listing.proofs.function.list_function_recursive.Reads as list-function-recursive
 use Rattle.listing.proofs.function.list_function_recursive.Kinds as list-function-recursive-kinds
 use Rattle.listing.proofs.function.+list_function_recursive.Lts-list_function_recursive as list-function-recursive-lts
@@ -24,74 +25,298 @@ use Rattle.proto.proofs.walk.word_at.Reads as word-at-reads
 use Rattle.listing.proofs.function.+list_function_recursive.{statement}
 use Rattle.listing.proofs.function.+list_function_recursive.Tie.{close}
 
-abbrev μ-list-function-recursive : Measures 3 list-function-recursive-kinds.ps ℕ
-μ-list-function-recursive κs a = a .1 .1 .1 .1 .1 .1 .0
+abbrev μ-list-function-recursive : Measures 5 list-function-recursive-kinds.ps ℕ
+μ-list-function-recursive κs a = a .1 .1 .1 .1 .1 .1 .1 .1 .0
 
-abbrev list-function-recursive-at : ℕ → In 3 list-function-recursive-kinds.ps
+abbrev list-function-recursive-at : ℕ → In 5 list-function-recursive-kinds.ps
 list-function-recursive-at t =
     and
-    3
+    5
     list-function-recursive-kinds.ps
-    (is 3 list-function-recursive-kinds.ps μ-list-function-recursive t)
+    (is 5 list-function-recursive-kinds.ps μ-list-function-recursive t)
     list-function-recursive.Pre
 
-abbrev list-function-recursive-below : ℕ → In 3 list-function-recursive-kinds.ps
+abbrev list-function-recursive-below : ℕ → In 5 list-function-recursive-kinds.ps
 list-function-recursive-below t =
     and
-    3
+    5
     list-function-recursive-kinds.ps
-    (falls 3 list-function-recursive-kinds.ps _<_ μ-list-function-recursive t)
+    (falls 5 list-function-recursive-kinds.ps _<_ μ-list-function-recursive t)
     list-function-recursive.Pre
 
 abbrev list-function-recursive-calls : ℕ → list-function-recursive-lts.Claims
 list-function-recursive-calls t = (own-source-reads.Asked, own-source-reads.Learnt, format-function-reads.Asked, format-function-reads.Learnt, functions-at-reads.Asked, functions-at-reads.Learnt, word-at-reads.Asked, word-at-reads.Learnt, skip-reads.Asked, skip-reads.Learnt, further-reads.Asked, further-reads.Learnt, put-byte-reads.Asked, put-byte-reads.Learnt, list-function-recursive-below t, list-function-recursive.Post, after-debug-reads.Asked, after-debug-reads.Learnt)
 
 abbrev list-function-recursive-Inv-loop : list-function-recursive-lts.InvT-loop
-list-function-recursive-Inv-loop words text outer full out₀ allowance source own list n r₀ i₀ out r i = (length out ≡ length out₀) × Loop (ListsAll words text full source (allowance - 1)) n (reached r₀ out₀) i (reached r out)
+list-function-recursive-Inv-loop words text outer full out₀ begins₀ known₀ allowance source own list n r₀ i₀ out begins known r i =
+    (length out ≡ length out₀)
+    × (length begins ≡ length begins₀)
+    × (length known ≡ length known₀)
+    × Known words begins known
+    × Loop (ListsAll words text full source (allowance - 1)) n (reached r₀ out₀) i (reached r out)
 
 abbrev list-function-recursive-μ-loop : list-function-recursive-lts.MeasureT-loop
-list-function-recursive-μ-loop words text outer full out₀ allowance source own list n r₀ i₀ out r i = n - i
+list-function-recursive-μ-loop words text outer full out₀ begins₀ known₀ allowance source own list n r₀ i₀ out begins known r i = n - i
 
 list-function-recursive-returns : (t : ℕ) → list-function-recursive-lts.Need-returns (list-function-recursive-calls t) (list-function-recursive-at t) list-function-recursive.Post list-function-recursive-Inv-loop list-function-recursive-μ-loop
-list-function-recursive-returns t c = λ f v. absurd (none-deep (c .if1 .taken) f v)
+list-function-recursive-returns t c = (c .before .before .before .before .before .before .before .pre .1, λ f v. absurd (none-deep (c .if1 .taken) f v))
 
-list-function-recursive-own-source-requires : (t : ℕ) → list-function-recursive-lts.Need-own-source-requires (list-function-recursive-calls t) (list-function-recursive-at t) list-function-recursive.Post list-function-recursive-Inv-loop list-function-recursive-μ-loop
+list-function-recursive-own-source-requires :
+    (t : ℕ) → list-function-recursive-lts.Need-own-source-requires (
+      own-source-reads.Asked,
+      own-source-reads.Learnt,
+      format-function-reads.Asked,
+      format-function-reads.Learnt,
+      functions-at-reads.Asked,
+      functions-at-reads.Learnt,
+      word-at-reads.Asked,
+      word-at-reads.Learnt,
+      skip-reads.Asked,
+      skip-reads.Learnt,
+      further-reads.Asked,
+      further-reads.Learnt,
+      put-byte-reads.Asked,
+      put-byte-reads.Learnt,
+      list-function-recursive-below t,
+      list-function-recursive.Post,
+      after-debug-reads.Asked,
+      after-debug-reads.Learnt,
+    )
+    (list-function-recursive-at t)
+    list-function-recursive.Post
+    list-function-recursive-Inv-loop
+    list-function-recursive-μ-loop
 list-function-recursive-own-source-requires t c κs = search needs
 
-list-function-recursive-sub-format-function : (t : ℕ) → list-function-recursive-lts.Need-sub-format-function (list-function-recursive-calls t) (list-function-recursive-at t) list-function-recursive.Post list-function-recursive-Inv-loop list-function-recursive-μ-loop
-list-function-recursive-sub-format-function t c = omega (arith, c .before .before .if1 .left)
+list-function-recursive-sub-format-function :
+    (t : ℕ) → list-function-recursive-lts.Need-sub-format-function (
+      own-source-reads.Asked,
+      own-source-reads.Learnt,
+      format-function-reads.Asked,
+      format-function-reads.Learnt,
+      functions-at-reads.Asked,
+      functions-at-reads.Learnt,
+      word-at-reads.Asked,
+      word-at-reads.Learnt,
+      skip-reads.Asked,
+      skip-reads.Learnt,
+      further-reads.Asked,
+      further-reads.Learnt,
+      put-byte-reads.Asked,
+      put-byte-reads.Learnt,
+      list-function-recursive-below t,
+      list-function-recursive.Post,
+      after-debug-reads.Asked,
+      after-debug-reads.Learnt,
+    )
+    (list-function-recursive-at t)
+    list-function-recursive.Post
+    list-function-recursive-Inv-loop
+    list-function-recursive-μ-loop
+list-function-recursive-sub-format-function t c = omega (arith, c .before .before .before .before .if1 .left)
 
-list-function-recursive-format-function-requires : (t : ℕ) → list-function-recursive-lts.Need-format-function-requires (list-function-recursive-calls t) (list-function-recursive-at t) list-function-recursive.Post list-function-recursive-Inv-loop list-function-recursive-μ-loop
-list-function-recursive-format-function-requires t c κs = search needs
+list-function-recursive-format-function-requires :
+    (t : ℕ) → list-function-recursive-lts.Need-format-function-requires (
+      own-source-reads.Asked,
+      own-source-reads.Learnt,
+      format-function-reads.Asked,
+      format-function-reads.Learnt,
+      functions-at-reads.Asked,
+      functions-at-reads.Learnt,
+      word-at-reads.Asked,
+      word-at-reads.Learnt,
+      skip-reads.Asked,
+      skip-reads.Learnt,
+      further-reads.Asked,
+      further-reads.Learnt,
+      put-byte-reads.Asked,
+      put-byte-reads.Learnt,
+      list-function-recursive-below t,
+      list-function-recursive.Post,
+      after-debug-reads.Asked,
+      after-debug-reads.Learnt,
+    )
+    (list-function-recursive-at t)
+    list-function-recursive.Post
+    list-function-recursive-Inv-loop
+    list-function-recursive-μ-loop
+list-function-recursive-format-function-requires t c κs =
+    let c₁ = c .before .before .before .before .before .before .before .before .before .before .before in
+    c₁ .pre .1
 
-list-function-recursive-functions-at-requires : (t : ℕ) → list-function-recursive-lts.Need-functions-at-requires (list-function-recursive-calls t) (list-function-recursive-at t) list-function-recursive.Post list-function-recursive-Inv-loop list-function-recursive-μ-loop
+list-function-recursive-functions-at-requires :
+    (t : ℕ) → list-function-recursive-lts.Need-functions-at-requires (
+      own-source-reads.Asked,
+      own-source-reads.Learnt,
+      format-function-reads.Asked,
+      format-function-reads.Learnt,
+      functions-at-reads.Asked,
+      functions-at-reads.Learnt,
+      word-at-reads.Asked,
+      word-at-reads.Learnt,
+      skip-reads.Asked,
+      skip-reads.Learnt,
+      further-reads.Asked,
+      further-reads.Learnt,
+      put-byte-reads.Asked,
+      put-byte-reads.Learnt,
+      list-function-recursive-below t,
+      list-function-recursive.Post,
+      after-debug-reads.Asked,
+      after-debug-reads.Learnt,
+    )
+    (list-function-recursive-at t)
+    list-function-recursive.Post
+    list-function-recursive-Inv-loop
+    list-function-recursive-μ-loop
 list-function-recursive-functions-at-requires t c κs = search needs
 
-list-function-recursive-word-at-requires : (t : ℕ) → list-function-recursive-lts.Need-word-at-requires (list-function-recursive-calls t) (list-function-recursive-at t) list-function-recursive.Post list-function-recursive-Inv-loop list-function-recursive-μ-loop
+list-function-recursive-word-at-requires :
+    (t : ℕ) → list-function-recursive-lts.Need-word-at-requires (
+      own-source-reads.Asked,
+      own-source-reads.Learnt,
+      format-function-reads.Asked,
+      format-function-reads.Learnt,
+      functions-at-reads.Asked,
+      functions-at-reads.Learnt,
+      word-at-reads.Asked,
+      word-at-reads.Learnt,
+      skip-reads.Asked,
+      skip-reads.Learnt,
+      further-reads.Asked,
+      further-reads.Learnt,
+      put-byte-reads.Asked,
+      put-byte-reads.Learnt,
+      list-function-recursive-below t,
+      list-function-recursive.Post,
+      after-debug-reads.Asked,
+      after-debug-reads.Learnt,
+    )
+    (list-function-recursive-at t)
+    list-function-recursive.Post
+    list-function-recursive-Inv-loop
+    list-function-recursive-μ-loop
 list-function-recursive-word-at-requires t c κs = search needs
 
 list-function-recursive-skip-requires : (t : ℕ) → list-function-recursive-lts.Need-skip-requires (list-function-recursive-calls t) (list-function-recursive-at t) list-function-recursive.Post list-function-recursive-Inv-loop list-function-recursive-μ-loop
 list-function-recursive-skip-requires t c κs = search needs
 
-list-function-recursive-further-requires : (t : ℕ) → list-function-recursive-lts.Need-further-requires (list-function-recursive-calls t) (list-function-recursive-at t) list-function-recursive.Post list-function-recursive-Inv-loop list-function-recursive-μ-loop
+list-function-recursive-further-requires :
+    (t : ℕ) → list-function-recursive-lts.Need-further-requires (
+      own-source-reads.Asked,
+      own-source-reads.Learnt,
+      format-function-reads.Asked,
+      format-function-reads.Learnt,
+      functions-at-reads.Asked,
+      functions-at-reads.Learnt,
+      word-at-reads.Asked,
+      word-at-reads.Learnt,
+      skip-reads.Asked,
+      skip-reads.Learnt,
+      further-reads.Asked,
+      further-reads.Learnt,
+      put-byte-reads.Asked,
+      put-byte-reads.Learnt,
+      list-function-recursive-below t,
+      list-function-recursive.Post,
+      after-debug-reads.Asked,
+      after-debug-reads.Learnt,
+    )
+    (list-function-recursive-at t)
+    list-function-recursive.Post
+    list-function-recursive-Inv-loop
+    list-function-recursive-μ-loop
 list-function-recursive-further-requires t c κs = search needs
 
 list-function-recursive-loop-holds : (t : ℕ) → list-function-recursive-lts.Need-loop-holds (list-function-recursive-calls t) (list-function-recursive-at t) list-function-recursive.Post list-function-recursive-Inv-loop list-function-recursive-μ-loop
-list-function-recursive-loop-holds t c = (refl, loop-start)
+list-function-recursive-loop-holds t c = (refl, refl, refl, c .before .before .before .before .before .before .before .before .before .before .format-function .ensures .0, loop-start)
 
-list-function-recursive-put-byte-requires : (t : ℕ) → list-function-recursive-lts.Need-put-byte-requires (list-function-recursive-calls t) (list-function-recursive-at t) list-function-recursive.Post list-function-recursive-Inv-loop list-function-recursive-μ-loop
+list-function-recursive-put-byte-requires :
+    (t : ℕ) → list-function-recursive-lts.Need-put-byte-requires (
+      own-source-reads.Asked,
+      own-source-reads.Learnt,
+      format-function-reads.Asked,
+      format-function-reads.Learnt,
+      functions-at-reads.Asked,
+      functions-at-reads.Learnt,
+      word-at-reads.Asked,
+      word-at-reads.Learnt,
+      skip-reads.Asked,
+      skip-reads.Learnt,
+      further-reads.Asked,
+      further-reads.Learnt,
+      put-byte-reads.Asked,
+      put-byte-reads.Learnt,
+      list-function-recursive-below t,
+      list-function-recursive.Post,
+      after-debug-reads.Asked,
+      after-debug-reads.Learnt,
+    )
+    (list-function-recursive-at t)
+    list-function-recursive.Post
+    list-function-recursive-Inv-loop
+    list-function-recursive-μ-loop
 list-function-recursive-put-byte-requires t c κs = search needs
 
-list-function-recursive-sub-list-function-recursive : (t : ℕ) → list-function-recursive-lts.Need-sub-list-function-recursive (list-function-recursive-calls t) (list-function-recursive-at t) list-function-recursive.Post list-function-recursive-Inv-loop list-function-recursive-μ-loop
+list-function-recursive-sub-list-function-recursive :
+    (t : ℕ) → list-function-recursive-lts.Need-sub-list-function-recursive (
+      own-source-reads.Asked,
+      own-source-reads.Learnt,
+      format-function-reads.Asked,
+      format-function-reads.Learnt,
+      functions-at-reads.Asked,
+      functions-at-reads.Learnt,
+      word-at-reads.Asked,
+      word-at-reads.Learnt,
+      skip-reads.Asked,
+      skip-reads.Learnt,
+      further-reads.Asked,
+      further-reads.Learnt,
+      put-byte-reads.Asked,
+      put-byte-reads.Learnt,
+      list-function-recursive-below t,
+      list-function-recursive.Post,
+      after-debug-reads.Asked,
+      after-debug-reads.Learnt,
+    )
+    (list-function-recursive-at t)
+    list-function-recursive.Post
+    list-function-recursive-Inv-loop
+    list-function-recursive-μ-loop
 list-function-recursive-sub-list-function-recursive t c =
-    let c₁ = c .before .before .before .before .before .before .before .before .before .before .before .before .before .before .before .before in
+    let c₁ = c .before .before .before .before .before .before .before .before .before .before .before .before .before .before .before .before .before .before .before .before .before .before .before .before in
     omega (arith, c₁ .if1 .left)
 
-list-function-recursive-list-function-recursive-requires : (t : ℕ) → list-function-recursive-lts.Need-list-function-recursive-requires (list-function-recursive-calls t) (list-function-recursive-at t) list-function-recursive.Post list-function-recursive-Inv-loop list-function-recursive-μ-loop
+list-function-recursive-list-function-recursive-requires :
+    (t : ℕ) → list-function-recursive-lts.Need-list-function-recursive-requires (
+      own-source-reads.Asked,
+      own-source-reads.Learnt,
+      format-function-reads.Asked,
+      format-function-reads.Learnt,
+      functions-at-reads.Asked,
+      functions-at-reads.Learnt,
+      word-at-reads.Asked,
+      word-at-reads.Learnt,
+      skip-reads.Asked,
+      skip-reads.Learnt,
+      further-reads.Asked,
+      further-reads.Learnt,
+      put-byte-reads.Asked,
+      put-byte-reads.Learnt,
+      list-function-recursive-below t,
+      list-function-recursive.Post,
+      after-debug-reads.Asked,
+      after-debug-reads.Learnt,
+    )
+    (list-function-recursive-at t)
+    list-function-recursive.Post
+    list-function-recursive-Inv-loop
+    list-function-recursive-μ-loop
 list-function-recursive-list-function-recursive-requires t c κs =
-    let c₁ = c .before .before .before .before .before .before .before .before .before .before .before .before .before .before .before .before in
-    let c₂ = c₁ .before .before .before .before .before in
-    (omega (arith, c₂ .pre .0, c₁ .if1 .left), tt)
+    let c₁ = c .before .before .before .before .before .before .before .before in
+    let c₂ = c₁ .before .before .before .before .before .before .before .before .before .before .before .before .before .before .before .before in
+    let c₃ = c₂ .before .before .before .before .before .before .before in
+    (omega (arith, c₃ .pre .0, c₂ .if1 .left), c₁ .loop .inv .3)
 
 list-function-recursive-add-i : (t : ℕ) → list-function-recursive-lts.Need-add-i (list-function-recursive-calls t) (list-function-recursive-at t) list-function-recursive.Post list-function-recursive-Inv-loop list-function-recursive-μ-loop
 list-function-recursive-add-i t c = omega arith
@@ -101,19 +326,63 @@ list-function-recursive-loop-less t c = omega arith
 
 list-function-recursive-loop-again : (t : ℕ) → list-function-recursive-lts.Need-loop-again (list-function-recursive-calls t) (list-function-recursive-at t) list-function-recursive.Post list-function-recursive-Inv-loop list-function-recursive-μ-loop
 list-function-recursive-loop-again t c =
-    let c₁ = c .before .before in
-    let c₂ = c₁ .before .before .before .before in
+    let c₁ = c .before .before .before .before .before .before in
+    let c₂ = c₁ .before .before .before .before .before .before in
     let c₃ = c₂ .before .before .before in
-    (c₁ .list-function-recursive .kept .1 .1 .1 .1 .0 ∙ c₂ .put-byte .kept .0 ∙ c₃ .loop .inv .0, loop-turn (omega arith) (c₃ .loop .inv .1) (lists-more (c₂ .put-byte .ensures) (c₁ .list-function-recursive .ensures)))
+    let l = c₃ .loop .inv in
+    let x = c₁ .list-function-recursive in
+    let y = c₂ .put-byte in (
+      x .kept .1 .1 .1 .1 .0 ∙ y .kept .0 ∙ l .0,
+      x .kept .1 .1 .1 .1 .1 .0 ∙ l .1,
+      x .kept .1 .1 .1 .1 .1 .1 .0 ∙ l .2,
+      x .ensures .0,
+      loop-turn (omega arith) (l .4) (lists-more (y .ensures) (x .ensures .1)),
+    )
 
-list-function-recursive-after-debug-requires : (t : ℕ) → list-function-recursive-lts.Need-after-debug-requires (list-function-recursive-calls t) (list-function-recursive-at t) list-function-recursive.Post list-function-recursive-Inv-loop list-function-recursive-μ-loop
+list-function-recursive-after-debug-requires :
+    (t : ℕ) → list-function-recursive-lts.Need-after-debug-requires (
+      own-source-reads.Asked,
+      own-source-reads.Learnt,
+      format-function-reads.Asked,
+      format-function-reads.Learnt,
+      functions-at-reads.Asked,
+      functions-at-reads.Learnt,
+      word-at-reads.Asked,
+      word-at-reads.Learnt,
+      skip-reads.Asked,
+      skip-reads.Learnt,
+      further-reads.Asked,
+      further-reads.Learnt,
+      put-byte-reads.Asked,
+      put-byte-reads.Learnt,
+      list-function-recursive-below t,
+      list-function-recursive.Post,
+      after-debug-reads.Asked,
+      after-debug-reads.Learnt,
+    )
+    (list-function-recursive-at t)
+    list-function-recursive.Post
+    list-function-recursive-Inv-loop
+    list-function-recursive-μ-loop
 list-function-recursive-after-debug-requires t c κs = search needs
 
 list-function-recursive-same-length : (t : ℕ) → list-function-recursive-lts.Need-same-length (list-function-recursive-calls t) (list-function-recursive-at t) list-function-recursive.Post list-function-recursive-Inv-loop list-function-recursive-μ-loop
 list-function-recursive-same-length t c =
     let c₁ = c .before .before in
-    let c₂ = c₁ .before .before .before .before .before .before .before in
+    let c₂ = c₁ .before .before .before .before .before .before .before .before .before .before .before in
     c₁ .loop .inv .0 ∙ c₂ .format-function .kept .1 .1 .1 .1 .0
+
+list-function-recursive-same-length-2 : (t : ℕ) → list-function-recursive-lts.Need-same-length-2 (list-function-recursive-calls t) (list-function-recursive-at t) list-function-recursive.Post list-function-recursive-Inv-loop list-function-recursive-μ-loop
+list-function-recursive-same-length-2 t c =
+    let c₁ = c .before .before in
+    let c₂ = c₁ .before .before .before .before .before .before .before .before .before .before .before in
+    c₁ .loop .inv .1 ∙ c₂ .format-function .kept .1 .1 .1 .1 .1 .0
+
+list-function-recursive-same-length-3 : (t : ℕ) → list-function-recursive-lts.Need-same-length-3 (list-function-recursive-calls t) (list-function-recursive-at t) list-function-recursive.Post list-function-recursive-Inv-loop list-function-recursive-μ-loop
+list-function-recursive-same-length-3 t c =
+    let c₁ = c .before .before in
+    let c₂ = c₁ .before .before .before .before .before .before .before .before .before .before .before in
+    c₁ .loop .inv .2 ∙ c₂ .format-function .kept .1 .1 .1 .1 .1 .1 .0
 
 list-function-recursive-returns-2 : (t : ℕ) → list-function-recursive-lts.Need-returns-2 (list-function-recursive-calls t) (list-function-recursive-at t) list-function-recursive.Post list-function-recursive-Inv-loop list-function-recursive-μ-loop
 list-function-recursive-returns-2 t c =
@@ -122,13 +391,14 @@ list-function-recursive-returns-2 t c =
     let c₃ = c₂ .before in
     let c₄ = c₃ .before in
     let c₅ = c₄ .before in
-    let c₆ = c₅ .before .before .before in
-    let c₇ = c₆ .before .before in
+    let c₆ = c₅ .before .before .before .before .before .before .before in
+    let c₇ = c₆ .before .before .before .before in
     let c₈ = c₇ .before in
-    let c₉ = c₈ .before .before .before .before .before in
-    let n = c₉ .args .allowance - 1 in
-    let e : c₉ .args .allowance ≡ suc n = omega (arith, c₈ .if1 .left) in
-    rw e (lists-function n (c₇ .own-source .ensures) (c₆ .format-function .ensures) (c₅ .functions-at .ensures) (c₄ .word-at .ensures) (c₃ .skip .ensures) (c₂ .further .ensures) (loop-end (omega arith) (c₁ .loop .inv .1) lists-none) (c .after-debug .ensures))
+    let c₉ = c₈ .before .before .before .before .before .before .before in
+    let allowance = c₉ .args .allowance in
+    let n = allowance - 1 in
+    let e : allowance ≡ suc n = omega (arith, c₈ .if1 .left) in
+    (c₁ .loop .inv .3, rw e (lists-function n (c₇ .own-source .ensures) (c₆ .format-function .ensures .1) (c₅ .functions-at .ensures) (c₄ .word-at .ensures) (c₃ .skip .ensures) (c₂ .further .ensures) (loop-end (omega arith) (c₁ .loop .inv .4) lists-none) (c .after-debug .ensures)))
 
 pub +list-function-recursive-spec : {M : Type 1} → statement M
 +list-function-recursive-spec =
@@ -150,4 +420,6 @@ pub +list-function-recursive-spec : {M : Type 1} → statement M
     (list-function-recursive-loop-again t)
     (list-function-recursive-after-debug-requires t)
     (list-function-recursive-same-length t)
+    (list-function-recursive-same-length-2 t)
+    (list-function-recursive-same-length-3 t)
     (list-function-recursive-returns-2 t)

@@ -1,6 +1,6 @@
 -- The head stands where the function begins, and its lists where lists_at says.
 use borrow.Author.Needs.{needs}
-use mathlib.Core.Path.{_∙_}
+use native.Mathlib.Omega.{arith}
 use Rattle.lent.proofs.Writes.{put-then}
 use Rattle.listing.proofs.Listers.{head-stands}
 use Rattle.listing.proofs.function.format_function.Statement.{statement}
@@ -22,11 +22,13 @@ format-lists-requires : tie.Need-format-lists-requires
 format-lists-requires c κs = search needs
 
 same-length : tie.Need-same-length
-same-length c =
-    let c₁ = c .before .before in
-    let c₂ = c₁ .before .before .before .before in
-    let c₃ = c₂ .before .before .before .before in
-    c₁ .format-lists .kept .1 .1 .1 .1 .1 .0 ∙ c₂ .format-code .kept .1 .1 .1 .1 .1 .0 ∙ c₃ .format-header .kept .1 .1 .1 .1 .1 .0
+same-length c = search needs
+
+same-length-2 : tie.Need-same-length-2
+same-length-2 c = search needs
+
+same-length-3 : tie.Need-same-length-3
+same-length-3 c = search needs
 
 returns : tie.Need-returns
 returns c =
@@ -34,11 +36,20 @@ returns c =
     let c₂ = c₁ .before .before .before .before in
     let c₃ = c₂ .before .before .before .before in
     let c₄ = c₃ .before .before in
-    let c₅ = c₄ .before in
-    let c₆ = c₅ .before .before .before .before .before in
-    λ p fs vp v s small.
-    let l = c₅ .lists-at .ensures p fs (c₆ .args .text .now) v s in
-    put-then (put-then (c₃ .format-header .ensures p fs (c₆ .args .text .now) (c₄ .head-at .ensures p (s .to) vp (head-stands p fs (s .stands) .in-words)) l) (c₂ .format-code .ensures p fs l v small)) (c₁ .format-lists .ensures p fs l)
+    let c₅ = c₄ .before .before .before .before .before in
+    let c₆ = c₅ .before .before .before .before .before .before .before .before .before in
+    let t = c₆ .args .text .now in
+    let known = c₅ .lists-at .ensures .0 in
+    let header = c₃ .format-header .ensures in
+    let head = c₄ .head-at .ensures in
+    let code = c₂ .format-code .ensures in
+    let rest = c₁ .format-lists .ensures in
+    let at = c₅ .lists-at .ensures .1 in (
+      known,
+      λ p fs vp v s small.
+          let l = at p fs t v s in
+          put-then (put-then (header p fs t (head p (s .to) vp (head-stands p fs (s .stands) .in-words)) l) (code p fs l v small)) (rest p fs l),
+    )
 
 pub format-function-spec : {M : Type 1} → statement M
 format-function-spec =
@@ -50,4 +61,6 @@ format-function-spec =
     format-code-requires
     format-lists-requires
     same-length
+    same-length-2
+    same-length-3
     returns)
