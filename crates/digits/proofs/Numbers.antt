@@ -40,19 +40,20 @@ places-most (suc f) (suc k) n h = by (ltb n 10) (places-most f k (n / 10) (omega
   by true g = omega arith
   by false g = omega arith
 
--- below 10000, by three tests
-pub places-few : (n : ℕ) → n < 10000 → places n ≡ 1 + cond (ltb n 10) 0 1 + cond (ltb n 100) 0 1 + cond (ltb n 1000) 0 1
+-- below 100000, by four tests
+pub places-few : (n : ℕ) → n < 100000 → places n ≡ 1 + cond (ltb n 10) 0 1 + cond (ltb n 100) 0 1 + cond (ltb n 1000) 0 1 + cond (ltb n 10000) 0 1
 places-few n h = elim (decLe 10 n) [
-  | no k ↦ let g : n < 10 = omega arith in places-one n g ∙ rw (lt-ltb n 10 g, lt-ltb n 100 (omega arith), lt-ltb n 1000 (omega arith))
-  | yes k ↦ elim (decLe 100 n) [
-    | no m ↦ places-more n k (omega arith) ∙ rw (le-ltb n 10 k, lt-ltb n 100 (omega arith), lt-ltb n 1000 (omega arith), places-one (n / 10) (omega arith))
-    | yes m ↦ elim (decLe 1000 n) [
-      | no l ↦ places-more n k (omega arith) ∙ ap suc (places-more (n / 10) (omega arith) (omega arith)) ∙ rw (le-ltb n 10 k, le-ltb n 100 m, lt-ltb n 1000 (omega arith), places-one (n / 10 / 10) (omega arith))
-      | yes l ↦
-          places-more n k (omega arith)
-          ∙ ap suc (places-more (n / 10) (omega arith) (omega arith))
-          ∙ ap (λ p. suc (suc p)) (places-more (n / 10 / 10) (omega arith) (omega arith))
-          ∙ rw (le-ltb n 10 k, le-ltb n 100 m, le-ltb n 1000 l, places-one (n / 10 / 10 / 10) (omega arith))
+  | no a ↦ let g : n < 10 = omega arith in places-one n g ∙ rw (lt-ltb n 10 g, lt-ltb n 100 (omega arith), lt-ltb n 1000 (omega arith), lt-ltb n 10000 (omega arith))
+  | yes a ↦ places-more n a (omega arith) ∙ elim (decLe 100 n) [
+    | no b ↦ rw (le-ltb n 10 a, lt-ltb n 100 (omega arith), lt-ltb n 1000 (omega arith), lt-ltb n 10000 (omega arith), places-one (n / 10) (omega arith))
+    | yes b ↦ ap suc (places-more (n / 10) (omega arith) (omega arith)) ∙ elim (decLe 1000 n) [
+      | no c ↦ rw (le-ltb n 10 a, le-ltb n 100 b, lt-ltb n 1000 (omega arith), lt-ltb n 10000 (omega arith), places-one (n / 10 / 10) (omega arith))
+      | yes c ↦ ap (λ p. suc (suc p)) (places-more (n / 10 / 10) (omega arith) (omega arith)) ∙ elim (decLe 10000 n) [
+        | no d ↦ rw (le-ltb n 10 a, le-ltb n 100 b, le-ltb n 1000 c, lt-ltb n 10000 (omega arith), places-one (n / 10 / 10 / 10) (omega arith))
+        | yes d ↦
+            ap (λ p. suc (suc (suc p))) (places-more (n / 10 / 10 / 10) (omega arith) (omega arith))
+            ∙ rw (le-ltb n 10 a, le-ltb n 100 b, le-ltb n 1000 c, le-ltb n 10000 d, places-one (n / 10 / 10 / 10 / 10) (omega arith))
+      ]
     ]
   ]
 ]

@@ -67,9 +67,8 @@ fn put_digits(out: &mut [u8], at: usize, n: u64, k: usize, base: u64) -> usize
     at + k
 }
 
-// How many digits n has in base 10, which is 10000 or more.
+// How many digits n has in base 10, counted by division.
 fn places_long(n: u64) -> usize
-    requires { ⌜ 10000 ≤ n ⌝ }
     ensures { λ r. ⌜ r ≡ places n ⌝ }
 {
     let mut left = n;
@@ -92,10 +91,10 @@ fn reaches(n: u64, bound: u64) -> usize
 fn places(n: u64) -> usize
     ensures { λ r. ⌜ r ≡ places n ⌝ }
 {
-    if 10000 <= n {
+    if 100000 <= n {
         return places_long(n);
     }
-    1 + reaches(n, 10) + reaches(n, 100) + reaches(n, 1000)
+    1 + reaches(n, 10) + reaches(n, 100) + reaches(n, 1000) + reaches(n, 10000)
 }
 
 // n in base 10.

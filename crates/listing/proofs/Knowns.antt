@@ -1,6 +1,6 @@
 -- Laws of what is known of lines: nothing at first, and one thing more.
 use Prim.Native.Nat.{ℕ, zero, suc, _+_, _-_, _<_, min}
-use mathlib.Core.Path.{_≡_, refl, sym, ap, _∙_}
+use mathlib.Core.Path.{_≡_, refl, sym, _∙_}
 use mathlib.Core.Bool.{Bool, true, false}
 use mathlib.Core.List.{List}
 use native.Mathlib.Omega.{arith}
@@ -9,11 +9,11 @@ use lib.Seq.{getD-set-same, getD-set-other}
 use lib.Dec.{eqb}
 use borrow.Author.Tests.{eqb-true, eqb-false}
 use Rattle.lent.specs.Memory.{far}
-use Rattle.format.specs.Tree.{Parts, Function, Functions, Debug, count}
+use Rattle.format.specs.Tree.{Parts, Functions, Debug, count}
 use Rattle.format.specs.Store.{debugPiece, functionPieces}
 use Rattle.format.specs.Valid.{ValidAll}
 use Rattle.proto.specs.declared.walk.Next.{Next}
-use Rattle.proto.specs.Walk.{Skips, Past, Passes, toFunctions, toLines, totalAll}
+use Rattle.proto.specs.Walk.{Skips, Past, Passes, toFunctions, totalAll}
 use Rattle.proto.proofs.Walks.{PassesAll, all-none, all-more, passes-child, passes-children, passes-function, passes-past, none-deep}
 use Rattle.listing.specs.Known.{LinesAt, Known, Walks}
 

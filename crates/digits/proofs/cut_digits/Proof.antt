@@ -1,3 +1,4 @@
+-- The digits stand at the start of all.
 use borrow.Author.Needs.{needs}
 use native.Mathlib.Omega.{arith}
 use mathlib.Core.Path.{sym}
@@ -8,8 +9,6 @@ use Rattle.digits.proofs.Numbers.{length-digits}
 use Rattle.digits.proofs.Rooms.{stored}
 use Rattle.digits.proofs.cut_digits.Statement.{statement}
 use Rattle.digits.proofs.cut_digits.Tie as tie
-
--- The digits stand at the start of all.
 
 -- The digits stand at the start of all.
 

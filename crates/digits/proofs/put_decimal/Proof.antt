@@ -1,3 +1,4 @@
+-- As many digits as places counted.
 use borrow.Author.Needs.{needs}
 use native.Mathlib.Omega.{arith}
 use Prim.Native.Nat.{_≤_}
@@ -5,8 +6,6 @@ use Rattle.digits.specs.Digits.{places}
 use Rattle.digits.proofs.Numbers.{places-most}
 use Rattle.digits.proofs.put_decimal.Statement.{statement}
 use Rattle.digits.proofs.put_decimal.Tie as tie
-
--- As many digits as places counted.
 
 places-requires : tie.Need-places-requires
 places-requires c κs = search needs

@@ -1,3 +1,4 @@
+-- All are past the end, some, or none.
 use borrow.Author.Needs.{needs}
 use native.Mathlib.Omega.{arith}
 use mathlib.Core.Path.{refl}
@@ -5,8 +6,6 @@ use Rattle.lent.proofs.Writes.{put-lost, put-stored}
 use Rattle.digits.proofs.Numbers.{length-digits}
 use Rattle.digits.proofs.put_digits.Statement.{statement}
 use Rattle.digits.proofs.put_digits.Tie as tie
-
--- All are past the end, some, or none.
 
 further-requires : tie.Need-further-requires
 further-requires c κs = search needs

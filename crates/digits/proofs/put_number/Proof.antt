@@ -1,10 +1,8 @@
+-- 0x, then the digits.
 use borrow.Author.Needs.{needs}
-use native.Mathlib.Omega.{arith}
 use Rattle.lent.proofs.Writes.{put-then}
 use Rattle.digits.proofs.put_number.Statement.{statement}
 use Rattle.digits.proofs.put_number.Tie as tie
-
--- 0x, then the digits.
 
 put-byte-requires : tie.Need-put-byte-requires
 put-byte-requires c κs = search needs

@@ -1,11 +1,8 @@
-use borrow.Author.Needs.{needs}
+-- By the test.
 use native.Mathlib.Omega.{arith}
-use mathlib.Core.Path.{refl}
 use borrow.Author.Tests.{lt-ltb, le-ltb}
 use Rattle.digits.proofs.reaches.Statement.{statement}
 use Rattle.digits.proofs.reaches.Tie as tie
-
--- By the test.
 
 returns : tie.Need-returns
 returns c = (rw (lt-ltb _ _ (c .if1 .taken)), omega arith)

@@ -1,11 +1,10 @@
+-- The byte is stored, and the next place is one further on.
 use borrow.Author.Needs.{needs}
 use native.Mathlib.Omega.{arith}
 use mathlib.Core.Path.{refl}
 use Rattle.digits.proofs.Rooms.{fit-byte}
 use Rattle.digits.proofs.store_byte.Statement.{statement}
 use Rattle.digits.proofs.store_byte.Tie as tie
-
--- The byte is stored, and the next place is one further on.
 
 slice-write-out : tie.Need-slice-write-out
 slice-write-out c = search needs

@@ -1,11 +1,10 @@
+-- By the number of digits.
 use borrow.Author.Needs.{needs}
 use native.Mathlib.Omega.{arith}
 use Rattle.digits.proofs.Numbers.{decimal-one}
 use Rattle.digits.proofs.Rooms.{fit-within}
 use Rattle.digits.proofs.store_decimal.Statement.{statement}
 use Rattle.digits.proofs.store_decimal.Tie as tie
-
--- By the number of digits.
 
 store-last-requires : tie.Need-store-last-requires
 store-last-requires c κs = search needs

@@ -1,7 +1,7 @@
-use borrow.Author.Needs.{needs}
+-- What is left to store gives what all gives. Each turn stores the last digit of what is left.
 use native.Mathlib.Omega.{arith}
-use Prim.Native.Nat.{_+_, _≤_, _<_}
-use mathlib.Core.Path.{_≡_, refl, ap, _∙_}
+use Prim.Native.Nat.{_≤_, _<_}
+use mathlib.Core.Path.{_≡_, refl}
 use native.Mathlib.Nat.{mod-lt}
 use lib.ListN.{length, length-set}
 use lib.Seq.{sets}
@@ -9,8 +9,6 @@ use Rattle.digits.specs.Digits.{digits}
 use Rattle.digits.proofs.Numbers.{store-last}
 use Rattle.digits.proofs.store_digits.Statement.{statement}
 use Rattle.digits.proofs.store_digits.Tie as tie
-
--- What is left to store gives what all gives. Each turn stores the last digit of what is left.
 
 abbrev Inv-loop : tie.InvT-loop
 Inv-loop out₀ at n k base left₀ i₀ out left i = (i ≤ k) × (length out ≡ length out₀) × (sets out at (digits base i left) ≡ sets out₀ at (digits base k n))

@@ -1,10 +1,9 @@
+-- The digits in front, then the last.
 use borrow.Author.Needs.{needs}
 use native.Mathlib.Omega.{arith}
 use Rattle.digits.proofs.Rooms.{fit-last}
 use Rattle.digits.proofs.store_four.Statement.{statement}
 use Rattle.digits.proofs.store_four.Tie as tie
-
--- The digits in front, then the last.
 
 store-three-requires : tie.Need-store-three-requires
 store-three-requires c κs = search needs

@@ -1,11 +1,10 @@
+-- The digit is below 10.
 use borrow.Author.Needs.{needs}
 use native.Mathlib.Omega.{arith}
 use Rattle.digits.proofs.Numbers.{digit-ten}
 use Prim.Native.Nat.{_%_}
 use Rattle.digits.proofs.store_last.Statement.{statement}
 use Rattle.digits.proofs.store_last.Tie as tie
-
--- The digit is below 10.
 
 cast-store-byte : tie.Need-cast-store-byte
 cast-store-byte c = search needs

@@ -1,3 +1,4 @@
+-- As many digits as places counted, at most 10.
 use borrow.Author.Needs.{needs}
 use native.Mathlib.Omega.{arith}
 use Prim.Native.Nat.{_≤_}
@@ -6,8 +7,6 @@ use Rattle.digits.specs.Digits.{places}
 use Rattle.digits.proofs.Numbers.{places-most, length-digits}
 use Rattle.digits.proofs.store_long.Statement.{statement}
 use Rattle.digits.proofs.store_long.Tie as tie
-
--- As many digits as places counted, at most 10.
 
 places-requires : tie.Need-places-requires
 places-requires c κs = search needs

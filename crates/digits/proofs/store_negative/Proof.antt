@@ -1,10 +1,8 @@
+-- The sign, then the number.
 use borrow.Author.Needs.{needs}
-use native.Mathlib.Omega.{arith}
 use Rattle.digits.proofs.Rooms.{fit-then}
 use Rattle.digits.proofs.store_negative.Statement.{statement}
 use Rattle.digits.proofs.store_negative.Tie as tie
-
--- The sign, then the number.
 
 store-byte-requires : tie.Need-store-byte-requires
 store-byte-requires c κs = search needs

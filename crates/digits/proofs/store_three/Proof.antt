@@ -1,10 +1,9 @@
+-- The digits in front, then the last.
 use borrow.Author.Needs.{needs}
 use native.Mathlib.Omega.{arith}
 use Rattle.digits.proofs.Rooms.{fit-last}
 use Rattle.digits.proofs.store_three.Statement.{statement}
 use Rattle.digits.proofs.store_three.Tie as tie
-
--- The digits in front, then the last.
 
 store-two-requires : tie.Need-store-two-requires
 store-two-requires c κs = search needs

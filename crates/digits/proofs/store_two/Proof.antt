@@ -1,3 +1,4 @@
+-- The first digit, then the last.
 use borrow.Author.Needs.{needs}
 use native.Mathlib.Omega.{arith}
 use Prim.Native.Nat.{_/_}
@@ -5,8 +6,6 @@ use Rattle.digits.proofs.Numbers.{decimal-one}
 use Rattle.digits.proofs.Rooms.{fit-last}
 use Rattle.digits.proofs.store_two.Statement.{statement}
 use Rattle.digits.proofs.store_two.Tie as tie
-
--- The first digit, then the last.
 
 store-last-requires : tie.Need-store-last-requires
 store-last-requires c κs = search needs

@@ -1,3 +1,4 @@
+-- As many as places counts, which are at most 10.
 use borrow.Author.Needs.{needs}
 use native.Mathlib.Omega.{arith}
 use mathlib.Core.Path.{sym, _∙_}
@@ -5,8 +6,6 @@ use Rattle.digits.specs.Digits.{places}
 use Rattle.digits.proofs.Numbers.{places-most, length-digits}
 use Rattle.digits.proofs.width.Statement.{statement}
 use Rattle.digits.proofs.width.Tie as tie
-
--- As many as places counts, which are at most 10.
 
 places-requires : tie.Need-places-requires
 places-requires c κs = search needs

@@ -1,3 +1,4 @@
+-- It stands at the start of all.
 use borrow.Author.Needs.{needs}
 use native.Mathlib.Omega.{arith}
 use mathlib.Core.Path.{sym}
@@ -5,8 +6,6 @@ use lib.Seq.{length-take-le}
 use Rattle.digits.proofs.Rooms.{fit-written}
 use Rattle.lines.proofs.cut_start.Statement.{statement}
 use Rattle.lines.proofs.cut_start.Tie as tie
-
--- It stands at the start of all.
 
 slice-aggregate-store-start : tie.Need-slice-aggregate-store-start
 slice-aggregate-store-start c = search needs

@@ -1,11 +1,9 @@
+-- The parts one after the other, the list of lines standing where lists says.
 use borrow.Author.Needs.{needs}
-use native.Mathlib.Omega.{arith}
 use Rattle.lent.proofs.Writes.{put-then}
 use Rattle.lines.specs.Line.{formatInstruction}
 use Rattle.lines.proofs.format_instruction.Statement.{statement}
 use Rattle.lines.proofs.format_instruction.Tie as tie
-
--- The parts one after the other, the list of lines standing where lists says.
 
 opcode-requires : tie.Need-opcode-requires
 opcode-requires c κs = search needs

@@ -1,11 +1,10 @@
+-- All of it is past the end, some, or none.
 use borrow.Author.Needs.{needs}
 use native.Mathlib.Omega.{arith}
 use mathlib.Core.Path.{refl}
 use Rattle.lent.proofs.Writes.{put-lost}
 use Rattle.lines.proofs.format_start.Statement.{statement}
 use Rattle.lines.proofs.format_start.Tie as tie
-
--- All of it is past the end, some, or none.
 
 start-width-requires : tie.Need-start-width-requires
 start-width-requires c κs = search needs

@@ -1,11 +1,9 @@
+-- Past the count there is no line, before it line pc stands there.
 use borrow.Author.Needs.{needs}
-use native.Mathlib.Omega.{arith}
 use mathlib.Core.Path.{sym}
 use Rattle.lines.proofs.Lines.{line-past, line-there}
 use Rattle.lines.proofs.line_at.Statement.{statement}
 use Rattle.lines.proofs.line_at.Tie as tie
-
--- Past the count there is no line, before it line pc stands there.
 
 -- Past the count there is no line, before it line pc stands there.
 

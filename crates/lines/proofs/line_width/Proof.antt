@@ -1,11 +1,10 @@
+-- The line is known, or not.
 use borrow.Author.Needs.{needs}
 use native.Mathlib.Omega.{arith}
 use mathlib.Core.Path.{refl}
 use Rattle.digits.proofs.Rooms.{width-byte, width-then}
 use Rattle.lines.proofs.line_width.Statement.{statement}
 use Rattle.lines.proofs.line_width.Tie as tie
-
--- The line is known, or not.
 
 width-requires : tie.Need-width-requires
 width-requires c κs = search needs

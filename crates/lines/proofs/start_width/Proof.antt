@@ -1,11 +1,9 @@
+-- The parts one after the other.
 use borrow.Author.Needs.{needs}
-use native.Mathlib.Omega.{arith}
 use Rattle.digits.proofs.Rooms.{width-byte, width-then}
 use Rattle.lines.proofs.Lines.{name-width}
 use Rattle.lines.proofs.start_width.Statement.{statement}
 use Rattle.lines.proofs.start_width.Tie as tie
-
--- The parts one after the other.
 
 add-width : tie.Need-add-width
 add-width c = search needs

@@ -1,10 +1,9 @@
+-- The line is known, or not.
 use borrow.Author.Needs.{needs}
 use native.Mathlib.Omega.{arith}
 use Rattle.digits.proofs.Rooms.{fit-then, fit-within}
 use Rattle.lines.proofs.store_line.Statement.{statement}
 use Rattle.lines.proofs.store_line.Tie as tie
-
--- The line is known, or not.
 
 store-byte-requires : tie.Need-store-byte-requires
 store-byte-requires c κs = search needs

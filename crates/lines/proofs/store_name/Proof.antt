@@ -1,14 +1,12 @@
+-- The name's nine bytes are the definition's.
 use borrow.Author.Needs.{needs}
 use native.Mathlib.Omega.{arith}
-use mathlib.Core.Path.{_∙_}
 use lib.Seq.{take-all}
 use Rattle.instructions.specs.OpCodes.{opName, padded}
 use Rattle.lent.proofs.Writes.{put-stored}
 use Rattle.lines.proofs.Lines.{name-width}
 use Rattle.lines.proofs.store_name.Statement.{statement}
 use Rattle.lines.proofs.store_name.Tie as tie
-
--- The name's nine bytes are the definition's.
 
 name-requires : tie.Need-name-requires
 name-requires c κs = search needs

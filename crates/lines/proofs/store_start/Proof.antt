@@ -1,10 +1,8 @@
+-- The parts one after the other.
 use borrow.Author.Needs.{needs}
-use native.Mathlib.Omega.{arith}
 use Rattle.digits.proofs.Rooms.{fit-then}
 use Rattle.lines.proofs.store_start.Statement.{statement}
 use Rattle.lines.proofs.store_start.Tie as tie
-
--- The parts one after the other.
 
 store-byte-requires : tie.Need-store-byte-requires
 store-byte-requires c κs = search needs

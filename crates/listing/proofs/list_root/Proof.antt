@@ -1,6 +1,5 @@
 -- The root stands at place 0, and a tree has no more functions than words, so that no number stops at the farthest. Nothing is known of lines yet.
 use borrow.Author.Needs.{needs}
-use native.Mathlib.Omega.{arith}
 use Rattle.listing.proofs.Calls.{root-puts}
 use Rattle.listing.proofs.Knowns.{known-none}
 use Rattle.listing.proofs.list_root.Statement.{statement}

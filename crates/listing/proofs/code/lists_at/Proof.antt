@@ -1,6 +1,5 @@
 -- Each list stands behind the one before it, and the lines where find_lines says.
 use borrow.Author.Needs.{needs}
-use native.Mathlib.Omega.{arith}
 use Rattle.listing.proofs.Kepts.{lists-found}
 use Rattle.listing.proofs.code.lists_at.Statement.{statement}
 use Rattle.listing.proofs.code.lists_at.Tie as tie

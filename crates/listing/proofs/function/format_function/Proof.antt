@@ -1,6 +1,5 @@
 -- The head stands where the function begins, and its lists where lists_at says.
 use borrow.Author.Needs.{needs}
-use native.Mathlib.Omega.{arith}
 use Rattle.lent.proofs.Writes.{put-then}
 use Rattle.listing.proofs.Listers.{head-stands}
 use Rattle.listing.proofs.function.format_function.Statement.{statement}

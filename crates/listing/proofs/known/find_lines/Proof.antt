@@ -1,6 +1,5 @@
 -- They are kept, or found by a walk.
 use borrow.Author.Needs.{needs}
-use native.Mathlib.Omega.{arith}
 use Rattle.listing.proofs.Knowns.{walked}
 use Rattle.listing.proofs.known.find_lines.Statement.{statement}
 use Rattle.listing.proofs.known.find_lines.Tie as tie

@@ -1,6 +1,5 @@
 -- What is kept there is of this function.
 use borrow.Author.Needs.{needs}
-use native.Mathlib.Omega.{arith}
 use Rattle.listing.proofs.known.kept_lines.Statement.{statement}
 use Rattle.listing.proofs.known.kept_lines.Tie as tie
 

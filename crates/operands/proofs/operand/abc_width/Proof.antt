@@ -1,10 +1,8 @@
+-- The parts one after the other.
 use borrow.Author.Needs.{needs}
-use native.Mathlib.Omega.{arith}
 use Rattle.digits.proofs.Rooms.{width-then}
 use Rattle.operands.proofs.operand.abc_width.Statement.{statement}
 use Rattle.operands.proofs.operand.abc_width.Tie as tie
-
--- The parts one after the other.
 
 a-requires : tie.Need-a-requires
 a-requires c κs = search needs

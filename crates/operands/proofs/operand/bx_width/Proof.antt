@@ -1,10 +1,9 @@
+-- Bx is a constant's index, or not.
 use borrow.Author.Needs.{needs}
 use native.Mathlib.Omega.{arith}
 use Rattle.digits.proofs.Rooms.{width-byte, width-then, width-within}
 use Rattle.operands.proofs.operand.bx_width.Statement.{statement}
 use Rattle.operands.proofs.operand.bx_width.Tie as tie
-
--- Bx is a constant's index, or not.
 
 bx-requires : tie.Need-bx-requires
 bx-requires c κs = search needs

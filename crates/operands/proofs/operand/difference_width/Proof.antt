@@ -1,11 +1,10 @@
+-- The difference is negative, or not.
 use borrow.Author.Needs.{needs}
 use native.Mathlib.Omega.{arith}
 use borrow.Author.Tests.{lt-ltb, le-ltb}
 use Rattle.digits.proofs.Rooms.{width-byte, width-then, width-within}
 use Rattle.operands.proofs.operand.difference_width.Statement.{statement}
 use Rattle.operands.proofs.operand.difference_width.Tie as tie
-
--- The difference is negative, or not.
 
 sub-width : tie.Need-sub-width
 sub-width c = search needs

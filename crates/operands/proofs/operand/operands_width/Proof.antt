@@ -1,11 +1,10 @@
+-- The mode is the one that the table gives the opcode.
 use borrow.Author.Needs.{needs}
 use native.Mathlib.Omega.{arith}
 use Rattle.digits.proofs.Rooms.{width-within}
 use Rattle.operands.proofs.Shows.{by-modes}
 use Rattle.operands.proofs.operand.operands_width.Statement.{statement}
 use Rattle.operands.proofs.operand.operands_width.Tie as tie
-
--- The mode is the one that the table gives the opcode.
 
 op-modes-requires : tie.Need-op-modes-requires
 op-modes-requires c κs = search needs

@@ -1,10 +1,9 @@
+-- The operand is a constant, or not.
 use borrow.Author.Needs.{needs}
 use native.Mathlib.Omega.{arith}
 use Rattle.digits.proofs.Rooms.{width-byte, width-then, width-within}
 use Rattle.operands.proofs.operand.rk_width.Statement.{statement}
 use Rattle.operands.proofs.operand.rk_width.Tie as tie
-
--- The operand is a constant, or not.
 
 is-k-requires : tie.Need-is-k-requires
 is-k-requires c κs = search needs

@@ -1,10 +1,9 @@
+-- Bx is a constant's index, or not.
 use borrow.Author.Needs.{needs}
 use native.Mathlib.Omega.{arith}
 use Rattle.digits.proofs.Rooms.{fit-within}
 use Rattle.operands.proofs.operand.store_bx.Statement.{statement}
 use Rattle.operands.proofs.operand.store_bx.Tie as tie
-
--- Bx is a constant's index, or not.
 
 bx-requires : tie.Need-bx-requires
 bx-requires c κs = search needs

@@ -1,11 +1,10 @@
+-- The difference is negative, or not.
 use borrow.Author.Needs.{needs}
 use native.Mathlib.Omega.{arith}
 use borrow.Author.Tests.{lt-ltb, le-ltb}
 use Rattle.digits.proofs.Rooms.{fit-within}
 use Rattle.operands.proofs.operand.store_difference.Statement.{statement}
 use Rattle.operands.proofs.operand.store_difference.Tie as tie
-
--- The difference is negative, or not.
 
 sub-store-negative : tie.Need-sub-store-negative
 sub-store-negative c = search needs

@@ -1,10 +1,9 @@
+-- The operand is a constant, or not.
 use borrow.Author.Needs.{needs}
 use native.Mathlib.Omega.{arith}
 use Rattle.digits.proofs.Rooms.{fit-within}
 use Rattle.operands.proofs.operand.store_rk.Statement.{statement}
 use Rattle.operands.proofs.operand.store_rk.Tie as tie
-
--- The operand is a constant, or not.
 
 is-k-requires : tie.Need-is-k-requires
 is-k-requires c κs = search needs
