@@ -7,7 +7,7 @@ ghost use lib.Seq.{sets};
 ghost use Rattle.format.specs.Write.{dumpInt, dumpSize, dumpText, each};
 
 // An integer: four bytes, low byte first.
-pub fn store_int(out: &mut [u8], at: usize, n: u32)
+pub fn dump_int(out: &mut [u8], at: usize, n: u32)
     requires { ⌜ at + 4 ≤ length (now out) ⌝ }
     ensures { λ r. ⌜ now (out .exit) ≡ sets (now (out .entry)) at (dumpInt n) ⌝ }
 {
@@ -18,33 +18,33 @@ pub fn store_int(out: &mut [u8], at: usize, n: u32)
 }
 
 // A size: eight bytes, low byte first.
-pub fn store_size(out: &mut [u8], at: usize, n: u64)
+pub fn dump_size(out: &mut [u8], at: usize, n: u64)
     requires { ⌜ at + 8 ≤ length (now out) ⌝ }
     ensures { λ r. ⌜ now (out .exit) ≡ sets (now (out .entry)) at (dumpSize n) ⌝ }
 {
-    store_int(out, at, (n % 4294967296) as u32);
-    store_int(out, at + 4, (n / 4294967296) as u32);
+    dump_int(out, at, (n % 4294967296) as u32);
+    dump_int(out, at + 4, (n / 4294967296) as u32);
 }
 
 // A string: its length and one, its bytes, a zero.
-pub fn store_string(out: &mut [u8], at: usize, s: &[u8])
+pub fn dump_string(out: &mut [u8], at: usize, s: &[u8])
     requires { ⌜ at + (length (now s) + 9) ≤ length (now out) ⌝ }
     ensures { λ r. ⌜ now (out .exit) ≡ sets (now (out .entry)) at (dumpText (now (s .entry))) ⌝ }
 {
     let n = s.len();
-    store_size(out, at, n as u64 + 1);
+    dump_size(out, at, n as u64 + 1);
     copy(out, at + 8, s, n);
     out[at + 8 + n] = 0;
 }
 
 // Integers, one behind the other.
-pub fn store_ints(out: &mut [u8], at: usize, l: &[u32])
+pub fn dump_ints(out: &mut [u8], at: usize, l: &[u32])
     requires { ⌜ at + 4 * length (now l) ≤ length (now out) ⌝ }
     ensures { λ r. ⌜ now (out .exit) ≡ sets (now (out .entry)) at (each dumpInt (now (l .entry))) ⌝ }
 {
     let mut i: usize = 0;
     while i < l.len() {
-        store_int(out, at + 4 * i, l[i]);
+        dump_int(out, at + 4 * i, l[i]);
         i += 1;
     }
 }

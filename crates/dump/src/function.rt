@@ -1,6 +1,6 @@
 // Functions, written to a chunk from the store, where they stand in it and the chunk has room for them.
-use crate::block::store_size;
-use crate::block::store_string;
+use crate::block::dump_size;
+use crate::block::dump_string;
 use crate::list::DumpState;
 use crate::list::dump_code;
 use crate::list::dump_debug;
@@ -43,10 +43,10 @@ fn put_source(out: &mut [u8], at: usize, source: &[u8], elide: bool) -> usize
     ensures { λ r. ⌜ Puts (dumpString (cond elide Source.inherited (Source.own (now (source .entry))))) at (now (out .entry)) r (now (out .exit)) ⌝ }
 {
     if elide {
-        store_size(out, at, 0);
+        dump_size(out, at, 0);
         return at + 8;
     }
-    store_string(out, at, source);
+    dump_string(out, at, source);
     at + source.len() + 9
 }
 

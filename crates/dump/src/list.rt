@@ -1,7 +1,7 @@
 // The fields and lists of a function, written to a chunk from the store, where they stand in it and the chunk has room for them.
-use crate::block::store_int;
-use crate::block::store_ints;
-use crate::block::store_string;
+use crate::block::dump_int;
+use crate::block::dump_ints;
+use crate::block::dump_string;
 use proto::constant::Constant;
 use proto::constant::constant_at;
 use proto::walk::after_debug;
@@ -32,7 +32,7 @@ pub fn dump_word(words: &[u32], out: &mut [u8], s: DumpState) -> DumpState
 {
     let at = s.at;
     let len = s.len;
-    store_int(out, len, words[at]);
+    dump_int(out, len, words[at]);
     DumpState {
         at: at + 1,
         len: len + 4,
@@ -48,7 +48,7 @@ pub fn dump_packed(words: &[u32], out: &mut [u8], s: DumpState) -> DumpState
     let len = s.len;
     let w = words[at];
     let turned = ((w % 256 * 256 + w / 256 % 256) * 256 + w / 65536 % 256) * 256 + w / 16777216;
-    store_int(out, len, turned);
+    dump_int(out, len, turned);
     DumpState {
         at: at + 1,
         len: len + 4,
@@ -65,8 +65,8 @@ pub fn dump_code(words: &[u32], out: &mut [u8], s: DumpState) -> DumpState
     let n = words[at] as usize;
     let start = at + 1;
     let end = start + n;
-    store_int(out, len, words[at]);
-    store_ints(out, len + 4, &words[start..end]);
+    dump_int(out, len, words[at]);
+    dump_ints(out, len + 4, &words[start..end]);
     DumpState {
         at: end,
         len: len + 4 + 4 * n,
@@ -81,7 +81,7 @@ pub fn dump_name(words: &[u32], text: &[u8], out: &mut [u8], s: DumpState) -> Du
     let at = s.at;
     let len = s.len;
     let name = part(text, words[at] as usize, words[at + 1] as usize);
-    store_string(out, len, name);
+    dump_string(out, len, name);
     DumpState {
         at: at + 2,
         len: len + name.len() + 9,
@@ -115,14 +115,14 @@ fn put_constant(text: &[u8], k: Constant, out: &mut [u8], at: usize) -> usize
         }
         Constant::Num(high, low) => {
             out[at] = 3;
-            store_int(out, at + 1, low);
-            store_int(out, at + 5, high);
+            dump_int(out, at + 1, low);
+            dump_int(out, at + 5, high);
             at + 9
         }
         Constant::String(place, n) => {
             let s = part(text, place, n);
             out[at] = 4;
-            store_string(out, at + 1, s);
+            dump_string(out, at + 1, s);
             at + s.len() + 10
         }
     }
@@ -192,9 +192,9 @@ fn put_no_debug(out: &mut [u8], at: usize) -> usize
     requires { ⌜ at + 12 ≤ length (now out) ⌝ }
     ensures { λ r. ⌜ Puts (dumpDebug noDebug) at (now (out .entry)) r (now (out .exit)) ⌝ }
 {
-    store_int(out, at, 0);
-    store_int(out, at + 4, 0);
-    store_int(out, at + 8, 0);
+    dump_int(out, at, 0);
+    dump_int(out, at + 4, 0);
+    dump_int(out, at + 8, 0);
     at + 12
 }
 

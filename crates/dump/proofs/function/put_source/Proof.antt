@@ -7,8 +7,8 @@ use Rattle.dump.proofs.Functions.{put-elided, put-own, room-elided, roo
 use Rattle.dump.proofs.function.put_source.Statement.{statement}
 use Rattle.dump.proofs.function.put_source.Tie as tie
 
-store-size-requires : tie.Need-store-size-requires
-store-size-requires c κs =
+dump-size-requires : tie.Need-dump-size-requires
+dump-size-requires c κs =
     let c₁ = c .before in
     let c₂ = c₁ .before .before .before in
     room-elided (c₂ .args .at) (c₂ .args .source .now) (c₁ .if1 .taken) (c₂ .pre)
@@ -27,10 +27,10 @@ returns c =
     let c₁ = c .before .before in
     let c₂ = c₁ .before .before in
     let c₃ = c₂ .before .before .before in
-    put-elided (c₃ .args .at) (c₃ .args .source .now) (c₂ .if1 .taken) (size-fits 0 (omega (arith, room-elided (c₃ .args .at) (c₃ .args .source .now) (c₂ .if1 .taken) (c₃ .pre))) refl (c₁ .store-size .ensures))
+    put-elided (c₃ .args .at) (c₃ .args .source .now) (c₂ .if1 .taken) (size-fits 0 (omega (arith, room-elided (c₃ .args .at) (c₃ .args .source .now) (c₂ .if1 .taken) (c₃ .pre))) refl (c₁ .dump-size .ensures))
 
-store-string-requires : tie.Need-store-string-requires
-store-string-requires c κs =
+dump-string-requires : tie.Need-dump-string-requires
+dump-string-requires c κs =
     let c₁ = c .before in
     let c₂ = c₁ .before .before .before in
     room-own (c₂ .args .at) (c₂ .args .source .now) (c₁ .if1 .left) (c₂ .pre)
@@ -55,17 +55,17 @@ returns-2 c =
     let c₁ = c .before .before in
     let c₂ = c₁ .before .before in
     let c₃ = c₂ .before .before .before in
-    put-own (c₃ .args .at) (c₃ .args .source .now) (c₂ .if1 .left) (string-fits (c₃ .args .source .now) (omega (arith, room-own (c₃ .args .at) (c₃ .args .source .now) (c₂ .if1 .left) (c₃ .pre))) refl (c₁ .store-string .ensures))
+    put-own (c₃ .args .at) (c₃ .args .source .now) (c₂ .if1 .left) (string-fits (c₃ .args .source .now) (omega (arith, room-own (c₃ .args .at) (c₃ .args .source .now) (c₂ .if1 .left) (c₃ .pre))) refl (c₁ .dump-string .ensures))
 
 pub put-source-spec : {M : Type 1} → statement M
 put-source-spec =
     tie.close
     (tie.spec
-    store-size-requires
+    dump-size-requires
     add-result
     same-length
     returns
-    store-string-requires
+    dump-string-requires
     add-result-2
     add-result-3
     same-length-2

@@ -23,32 +23,32 @@ add-start c = search needs
 add-end : tie.Need-add-end
 add-end c = search needs
 
-mul-store-int : tie.Need-mul-store-int
-mul-store-int c = search needs
+mul-dump-int : tie.Need-mul-dump-int
+mul-dump-int c = search needs
 
-shared-slice-read-store-int : tie.Need-shared-slice-read-store-int
-shared-slice-read-store-int c = search needs
+shared-slice-read-dump-int : tie.Need-shared-slice-read-dump-int
+shared-slice-read-dump-int c = search needs
 
-store-int-requires : tie.Need-store-int-requires
-store-int-requires c κs = search needs
+dump-int-requires : tie.Need-dump-int-requires
+dump-int-requires c κs = search needs
 
-add-store-ints : tie.Need-add-store-ints
-add-store-ints c = search needs
+add-dump-ints : tie.Need-add-dump-ints
+add-dump-ints c = search needs
 
-mul-store-ints : tie.Need-mul-store-ints
-mul-store-ints c = search needs
+mul-dump-ints : tie.Need-mul-dump-ints
+mul-dump-ints c = search needs
 
-sub-store-ints : tie.Need-sub-store-ints
-sub-store-ints c = search needs
+sub-dump-ints : tie.Need-sub-dump-ints
+sub-dump-ints c = search needs
 
-part-store-ints-start : tie.Need-part-store-ints-start
-part-store-ints-start c = search needs
+part-dump-ints-start : tie.Need-part-dump-ints-start
+part-dump-ints-start c = search needs
 
-part-store-ints-end : tie.Need-part-store-ints-end
-part-store-ints-end c = search needs
+part-dump-ints-end : tie.Need-part-dump-ints-end
+part-dump-ints-end c = search needs
 
-store-ints-requires : tie.Need-store-ints-requires
-store-ints-requires c κs = search needs
+dump-ints-requires : tie.Need-dump-ints-requires
+dump-ints-requires c κs = search needs
 
 add-t9 : tie.Need-add-t9
 add-t9 c = search needs
@@ -67,7 +67,7 @@ returns c =
     let c₁ = c .before .before in
     let c₂ = c₁ .before .before .before .before .before in
     let c₃ = c₂ .before .before .before .before .before .before in
-    let n = getD (c₃ .args .words .now) (c₃ .args .s .at) 0 in let i = code-items (c₃ .args .words .now) (c₃ .args .s .at) n (omega arith) in code-dumped (i .0) refl (int-fits n (omega arith) refl (c₂ .store-int .ensures)) (ints-fit _ (omega arith) (omega arith) (c₁ .store-ints .ensures))
+    let n = getD (c₃ .args .words .now) (c₃ .args .s .at) 0 in let i = code-items (c₃ .args .words .now) (c₃ .args .s .at) n (omega arith) in code-dumped (i .0) refl (int-fits n (omega arith) refl (c₂ .dump-int .ensures)) (ints-fit _ (omega arith) (omega arith) (c₁ .dump-ints .ensures))
 
 pub dump-code-spec : {M : Type 1} → statement M
 dump-code-spec =
@@ -78,15 +78,15 @@ dump-code-spec =
     cast-n
     add-start
     add-end
-    mul-store-int
-    shared-slice-read-store-int
-    store-int-requires
-    add-store-ints
-    mul-store-ints
-    sub-store-ints
-    part-store-ints-start
-    part-store-ints-end
-    store-ints-requires
+    mul-dump-int
+    shared-slice-read-dump-int
+    dump-int-requires
+    add-dump-ints
+    mul-dump-ints
+    sub-dump-ints
+    part-dump-ints-start
+    part-dump-ints-end
+    dump-ints-requires
     add-t9
     mul-t20
     add-t18

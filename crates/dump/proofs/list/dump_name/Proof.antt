@@ -35,8 +35,8 @@ cast-part-2 c = omega (arith, c .before .before .before .before .shared-slice-kn
 part-requires : tie.Need-part-requires
 part-requires c κs = search needs
 
-store-string-requires : tie.Need-store-string-requires
-store-string-requires c κs =
+dump-string-requires : tie.Need-dump-string-requires
+dump-string-requires c κs =
     let c₁ = c .before in
     let c₂ = c₁ .before .before .before .before .before .before in
     omega (arith, part-short (c₂ .args .text .now) (getD (c₂ .args .words .now) (c₂ .args .s .at) 0) (getD (c₂ .args .words .now) (c₂ .args .s .at + 1) 0) (c₁ .part .ensures), (c₂ .pre))
@@ -64,7 +64,7 @@ returns c =
     let c₁ = c .before .before in
     let c₂ = c₁ .before .before in
     let c₃ = c₂ .before .before .before .before .before .before in
-    name-dumped skips-on (λ s to h. string-here s h refl skips-on refl (c₂ .part .ensures)) (string-fits (c₂ .part .result .now) (omega (arith, part-short (c₃ .args .text .now) (getD (c₃ .args .words .now) (c₃ .args .s .at) 0) (getD (c₃ .args .words .now) (c₃ .args .s .at + 1) 0) (c₂ .part .ensures), (c₃ .pre))) refl (c₁ .store-string .ensures))
+    name-dumped skips-on (λ s to h. string-here s h refl skips-on refl (c₂ .part .ensures)) (string-fits (c₂ .part .result .now) (omega (arith, part-short (c₃ .args .text .now) (getD (c₃ .args .words .now) (c₃ .args .s .at) 0) (getD (c₃ .args .words .now) (c₃ .args .s .at + 1) 0) (c₂ .part .ensures), (c₃ .pre))) refl (c₁ .dump-string .ensures))
 
 pub dump-name-spec : {M : Type 1} → statement M
 dump-name-spec =
@@ -78,7 +78,7 @@ dump-name-spec =
     shared-slice-read-part-2
     cast-part-2
     part-requires
-    store-string-requires
+    dump-string-requires
     add-t8
     add-t16
     add-t12

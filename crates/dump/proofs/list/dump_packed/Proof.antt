@@ -32,8 +32,8 @@ mul-turned-3 c = search needs
 add-turned-3 : tie.Need-add-turned-3
 add-turned-3 c = omega (arith, c .before .before .shared-slice-known .given (c .before .before .before .args .s .at))
 
-store-int-requires : tie.Need-store-int-requires
-store-int-requires c κs = search needs
+dump-int-requires : tie.Need-dump-int-requires
+dump-int-requires c κs = search needs
 
 add-t8 : tie.Need-add-t8
 add-t8 c = search needs
@@ -45,7 +45,7 @@ same-length : tie.Need-same-length
 same-length c = search needs
 
 returns : tie.Need-returns
-returns c = packed-dumped refl skips-on (int-fits _ (omega arith) refl (c .before .before .store-int .ensures))
+returns c = packed-dumped refl skips-on (int-fits _ (omega arith) refl (c .before .before .dump-int .ensures))
 
 pub dump-packed-spec : {M : Type 1} → statement M
 dump-packed-spec =
@@ -59,7 +59,7 @@ dump-packed-spec =
     add-turned-2
     mul-turned-3
     add-turned-3
-    store-int-requires
+    dump-int-requires
     add-t8
     add-t24
     same-length

@@ -56,24 +56,24 @@ slice-write-out-4 c =
     let c₂ = c₁ .before .before .before .before in
     omega (arith, room-num (c₂ .args .at) (ap (valueOf (c₂ .args .text .now)) (c₁ .k2 .given .1)) (c₂ .pre))
 
-add-store-int : tie.Need-add-store-int
-add-store-int c = search needs
+add-dump-int : tie.Need-add-dump-int
+add-dump-int c = search needs
 
-store-int-requires : tie.Need-store-int-requires
-store-int-requires c κs =
+dump-int-requires : tie.Need-dump-int-requires
+dump-int-requires c κs =
     let c₁ = c .before .before in
     let c₂ = c₁ .before .before .before .before in
     simp length-set (omega (arith, room-num (c₂ .args .at) (ap (valueOf (c₂ .args .text .now)) (c₁ .k2 .given .1)) (c₂ .pre)))
 
-add-store-int-2 : tie.Need-add-store-int-2
-add-store-int-2 c = search needs
+add-dump-int-2 : tie.Need-add-dump-int-2
+add-dump-int-2 c = search needs
 
-store-int-requires-2 : tie.Need-store-int-requires-2
-store-int-requires-2 c κs =
+dump-int-requires-2 : tie.Need-dump-int-requires-2
+dump-int-requires-2 c κs =
     let c₁ = c .before .before .before in
     let c₂ = c₁ .before .before .before in
     let c₃ = c₂ .before .before .before .before in
-    rw (c₁ .store-int .kept .0) (simp length-set (omega (arith, room-num (c₃ .args .at) (ap (valueOf (c₃ .args .text .now)) (c₂ .k2 .given .1)) (c₃ .pre))))
+    rw (c₁ .dump-int .kept .0) (simp length-set (omega (arith, room-num (c₃ .args .at) (ap (valueOf (c₃ .args .text .now)) (c₂ .k2 .given .1)) (c₃ .pre))))
 
 add-result-3 : tie.Need-add-result-3
 add-result-3 c = search needs
@@ -90,11 +90,11 @@ slice-write-out-5 c =
     let c₂ = c₁ .before .before .before .before in
     omega (arith, room-str (c₂ .args .at) (ap (valueOf (c₂ .args .text .now)) (c₁ .k3 .given .1)) (c₂ .pre))
 
-add-store-string : tie.Need-add-store-string
-add-store-string c = search needs
+add-dump-string : tie.Need-add-dump-string
+add-dump-string c = search needs
 
-store-string-requires : tie.Need-store-string-requires
-store-string-requires c κs =
+dump-string-requires : tie.Need-dump-string-requires
+dump-string-requires c κs =
     let c₁ = c .before in
     let c₂ = c₁ .before .before in
     let c₃ = c₂ .before .before .before .before in
@@ -128,7 +128,7 @@ returns-2 c =
     let h = room-bool (c₂ .args .at) (ap (valueOf (c₂ .args .text .now)) (c₁ .k .given .1)) (c₂ .pre) in rw (c₁ .k .given .1) (bool-puts (c₁ .k .given .0 .0) (put-stored (omega arith) refl) (put-stored (omega arith) refl))
 
 same-length-3 : tie.Need-same-length-3
-same-length-3 c = c .before .before .store-int2 .kept .0 ∙ c .before .before .before .before .before .before .store-int .kept .0 ∙ simp length-set
+same-length-3 c = c .before .before .dump-int2 .kept .0 ∙ c .before .before .before .before .before .before .dump-int .kept .0 ∙ simp length-set
 
 returns-3 : tie.Need-returns-3
 returns-3 c =
@@ -136,10 +136,10 @@ returns-3 c =
     let c₂ = c₁ .before .before .before .before in
     let c₃ = c₂ .before .before .before in
     let c₄ = c₃ .before .before .before .before in
-    let h = room-num (c₄ .args .at) (ap (valueOf (c₄ .args .text .now)) (c₃ .k2 .given .1)) (c₄ .pre) in rw (c₃ .k2 .given .1) (num-puts _ _ (put-stored (omega arith) refl) (int-fits _ (omega arith) (omega arith) (c₂ .store-int .ensures)) (int-fits _ (omega arith) (omega arith) (c₁ .store-int2 .ensures)))
+    let h = room-num (c₄ .args .at) (ap (valueOf (c₄ .args .text .now)) (c₃ .k2 .given .1)) (c₄ .pre) in rw (c₃ .k2 .given .1) (num-puts _ _ (put-stored (omega arith) refl) (int-fits _ (omega arith) (omega arith) (c₂ .dump-int .ensures)) (int-fits _ (omega arith) (omega arith) (c₁ .dump-int2 .ensures)))
 
 same-length-4 : tie.Need-same-length-4
-same-length-4 c = c .before .before .store-string .kept .0 ∙ simp length-set
+same-length-4 c = c .before .before .dump-string .kept .0 ∙ simp length-set
 
 returns-4 : tie.Need-returns-4
 returns-4 c =
@@ -147,7 +147,7 @@ returns-4 c =
     let c₂ = c₁ .before .before in
     let c₃ = c₂ .before .before in
     let c₄ = c₃ .before .before .before .before in
-    let h = room-str (c₄ .args .at) (ap (valueOf (c₄ .args .text .now)) (c₃ .k3 .given .1)) (c₄ .pre) in rw (c₃ .k3 .given .1) (str-puts (c₂ .part .ensures) (put-stored (omega arith) refl) (string-fits (c₂ .part .result .now) (omega (arith, room-str (c₄ .args .at) (ap (valueOf (c₄ .args .text .now)) (c₃ .k3 .given .1)) (c₄ .pre), ap length (c₂ .part .ensures))) (omega arith) (c₁ .store-string .ensures)))
+    let h = room-str (c₄ .args .at) (ap (valueOf (c₄ .args .text .now)) (c₃ .k3 .given .1)) (c₄ .pre) in rw (c₃ .k3 .given .1) (str-puts (c₂ .part .ensures) (put-stored (omega arith) refl) (string-fits (c₂ .part .result .now) (omega (arith, room-str (c₄ .args .at) (ap (valueOf (c₄ .args .text .now)) (c₃ .k3 .given .1)) (c₄ .pre), ap length (c₂ .part .ensures))) (omega arith) (c₁ .dump-string .ensures)))
 
 pub put-constant-spec : {M : Type 1} → statement M
 put-constant-spec =
@@ -164,16 +164,16 @@ put-constant-spec =
     add-result-2
     enum-known-k-2
     slice-write-out-4
-    add-store-int
-    store-int-requires
-    add-store-int-2
-    store-int-requires-2
+    add-dump-int
+    dump-int-requires
+    add-dump-int-2
+    dump-int-requires-2
     add-result-3
     enum-known-k-3
     part-requires
     slice-write-out-5
-    add-store-string
-    store-string-requires
+    add-dump-string
+    dump-string-requires
     add-result-4
     add-result-5
     same-length

@@ -2,8 +2,8 @@ use borrow.Author.Needs.{needs}
 use native.Mathlib.Omega.{arith}
 use lib.ListN.{length-set}
 use Rattle.dump.proofs.Blocks.{int-stored}
-use Rattle.dump.proofs.block.store_int.Statement.{statement}
-use Rattle.dump.proofs.block.store_int.Tie as tie
+use Rattle.dump.proofs.block.dump_int.Statement.{statement}
+use Rattle.dump.proofs.block.dump_int.Tie as tie
 
 -- The four bytes are stored one behind the other.
 
@@ -46,8 +46,8 @@ same-length c = search needs
 returns : tie.Need-returns
 returns c = int-stored (c .args .out .now) (c .args .at) (c .args .n)
 
-pub store-int-spec : {M : Type 1} → statement M
-store-int-spec =
+pub dump-int-spec : {M : Type 1} → statement M
+dump-int-spec =
     tie.close
     (tie.spec
     cast-out

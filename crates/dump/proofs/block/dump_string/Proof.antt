@@ -4,14 +4,14 @@ use native.Mathlib.Omega.{arith}
 use mathlib.Core.Path.{_∙_}
 use lib.ListN.{length-set}
 use Rattle.dump.proofs.Blocks.{string-stored}
-use Rattle.dump.proofs.block.store_string.Statement.{statement}
-use Rattle.dump.proofs.block.store_string.Tie as tie
+use Rattle.dump.proofs.block.dump_string.Statement.{statement}
+use Rattle.dump.proofs.block.dump_string.Tie as tie
 
-add-store-size : tie.Need-add-store-size
-add-store-size c = search needs
+add-dump-size : tie.Need-add-dump-size
+add-dump-size c = search needs
 
-store-size-requires : tie.Need-store-size-requires
-store-size-requires c κs = search needs
+dump-size-requires : tie.Need-dump-size-requires
+dump-size-requires c κs = search needs
 
 add-copy : tie.Need-add-copy
 add-copy c = search needs
@@ -29,21 +29,21 @@ slice-write-out : tie.Need-slice-write-out
 slice-write-out c = search needs
 
 same-length : tie.Need-same-length
-same-length c = simp length-set (c .before .before .copy .kept .0 ∙ c .before .before .before .before .before .before .store-size .kept .0)
+same-length c = simp length-set (c .before .before .copy .kept .0 ∙ c .before .before .before .before .before .before .dump-size .kept .0)
 
 returns : tie.Need-returns
 returns c =
     let c₁ = c .before .before in
     let c₂ = c₁ .before .before .before .before in
     let c₃ = c₂ .before .before .before .before in
-    string-stored (c₃ .args .out .now) (c₃ .args .s .now) (c₃ .args .at) (c₂ .store-size .ensures) (c₁ .copy .ensures)
+    string-stored (c₃ .args .out .now) (c₃ .args .s .now) (c₃ .args .at) (c₂ .dump-size .ensures) (c₁ .copy .ensures)
 
-pub store-string-spec : {M : Type 1} → statement M
-store-string-spec =
+pub dump-string-spec : {M : Type 1} → statement M
+dump-string-spec =
     tie.close
     (tie.spec
-    add-store-size
-    store-size-requires
+    add-dump-size
+    dump-size-requires
     add-copy
     copy-requires
     add-out

@@ -6,8 +6,8 @@ use lib.ListN.{length, take}
 use lib.Seq.{sets, take-length}
 use Rattle.format.specs.Write.{dumpInt, each}
 use Rattle.dump.proofs.Blocks.{ints-start, ints-turn}
-use Rattle.dump.proofs.block.store_ints.Statement.{statement}
-use Rattle.dump.proofs.block.store_ints.Tie as tie
+use Rattle.dump.proofs.block.dump_ints.Statement.{statement}
+use Rattle.dump.proofs.block.dump_ints.Tie as tie
 
 -- i integers are stored so far; each turn stores the next.
 
@@ -20,20 +20,20 @@ abbrev μ-loop : tie.MeasureT-loop
 loop-holds : tie.Need-loop-holds Inv-loop μ-loop
 loop-holds c = (omega arith, refl, ints-start _ (c .before .before .args .l .now) _)
 
-mul-store-int : tie.Need-mul-store-int Inv-loop μ-loop
-mul-store-int c = omega arith
+mul-dump-int : tie.Need-mul-dump-int Inv-loop μ-loop
+mul-dump-int c = omega arith
 
-add-store-int : tie.Need-add-store-int Inv-loop μ-loop
-add-store-int c = omega arith
+add-dump-int : tie.Need-add-dump-int Inv-loop μ-loop
+add-dump-int c = omega arith
 
-mul-store-int-2 : tie.Need-mul-store-int-2 Inv-loop μ-loop
-mul-store-int-2 c = omega arith
+mul-dump-int-2 : tie.Need-mul-dump-int-2 Inv-loop μ-loop
+mul-dump-int-2 c = omega arith
 
-shared-slice-read-store-int : tie.Need-shared-slice-read-store-int Inv-loop μ-loop
-shared-slice-read-store-int c = omega arith
+shared-slice-read-dump-int : tie.Need-shared-slice-read-dump-int Inv-loop μ-loop
+shared-slice-read-dump-int c = omega arith
 
-store-int-requires : tie.Need-store-int-requires Inv-loop μ-loop
-store-int-requires c κs = search needs
+dump-int-requires : tie.Need-dump-int-requires Inv-loop μ-loop
+dump-int-requires c κs = search needs
 
 add-i : tie.Need-add-i Inv-loop μ-loop
 add-i c = omega arith
@@ -46,7 +46,7 @@ loop-again c =
     let c₁ = c .before .before in
     let c₂ = c₁ .before .before .before .before in
     let c₃ = c₂ .before .before .before in
-    (omega arith, c₁ .store-int .kept .0 ∙ c₂ .loop .inv .1, ints-turn (c₃ .args .out .now) (c₃ .args .l .now) (c₃ .args .at) (c₂ .loop .i) (omega arith) (c₂ .loop .inv .2) (c₁ .store-int .ensures))
+    (omega arith, c₁ .dump-int .kept .0 ∙ c₂ .loop .inv .1, ints-turn (c₃ .args .out .now) (c₃ .args .l .now) (c₃ .args .at) (c₂ .loop .i) (omega arith) (c₂ .loop .inv .2) (c₁ .dump-int .ensures))
 
 same-length : tie.Need-same-length Inv-loop μ-loop
 same-length c = c .before .loop .inv .1
@@ -54,18 +54,18 @@ same-length c = c .before .loop .inv .1
 returns : tie.Need-returns Inv-loop μ-loop
 returns c = let e : c .before .loop .i ≡ length (c .before .before .before .before .args .l .now) = omega arith in c .before .loop .inv .2 ∙ rw (e, take-length (c .before .before .before .before .args .l .now))
 
-pub store-ints-spec : {M : Type 1} → statement M
-store-ints-spec =
+pub dump-ints-spec : {M : Type 1} → statement M
+dump-ints-spec =
     tie.close
     (tie.spec
     Inv-loop
     μ-loop
     loop-holds
-    mul-store-int
-    add-store-int
-    mul-store-int-2
-    shared-slice-read-store-int
-    store-int-requires
+    mul-dump-int
+    add-dump-int
+    mul-dump-int-2
+    shared-slice-read-dump-int
+    dump-int-requires
     add-i
     loop-less
     loop-again
