@@ -52,7 +52,8 @@ fn cut_digits(out: &mut [u8], at: usize, n: u64, k: usize, base: u64) -> usize
     lent::put_bytes(out, at, &all[..k])
 }
 
-// The last k digits of n, at most 20, in a base from 2 to 16.
+// The last k digits of n, at most 20, in a base from 2 to 16. The bases in use are tried first: dividing by a number that the compiler knows is
+// much faster.
 fn put_digits(out: &mut [u8], at: usize, n: u64, k: usize, base: u64) -> usize
     requires { ⌜ (k ≤ 20) × (1 < base) × (base < 17) ⌝ }
     ensures { λ r. ⌜ Puts (digits base k n) at (now (out .entry)) r (now (out .exit)) ⌝ }
@@ -62,6 +63,14 @@ fn put_digits(out: &mut [u8], at: usize, n: u64, k: usize, base: u64) -> usize
     }
     if out.len() - at < k {
         return cut_digits(out, at, n, k, base);
+    }
+    if base == 16 {
+        store_digits(out, at, n, k, 16);
+        return at + k;
+    }
+    if base == 10 {
+        store_digits(out, at, n, k, 10);
+        return at + k;
     }
     store_digits(out, at, n, k, base);
     at + k
