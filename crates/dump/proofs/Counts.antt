@@ -1,9 +1,8 @@
 -- Counting: steps of the writer with no space.
-use Prim.Native.Nat.{ℕ, suc, zero-le, _+_, _-_, _*_, _≤_, min}
+use Prim.Native.Nat.{ℕ, zero-le, _+_, _-_, _*_, _≤_, min}
 use mathlib.Core.Path.{_≡_, refl, sym, ap, _∙_}
 use mathlib.Core.List.{List, [], _∷_, _++_}
 use native.Mathlib.Omega.{arith}
-use native.Mathlib.Nat.{add-zero}
 use lib.ListN.{length, getD, length-append}
 use Rattle.lent.specs.Memory.{far, Puts}
 use Rattle.lent.proofs.Writes.{put-lost}

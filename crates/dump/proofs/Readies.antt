@@ -1,6 +1,6 @@
 -- What a step asks for: of a piece and the one behind it, of each part of a function, and of the items of a list.
-use Prim.Native.Nat.{ℕ, suc, _+_, _-_, _*_, _≤_, _<_}
-use mathlib.Core.Path.{_≡_, refl, sym, ap, _∙_}
+use Prim.Native.Nat.{ℕ, _+_, _-_, _*_, _≤_, _<_}
+use mathlib.Core.Path.{_≡_, refl, _∙_}
 use mathlib.Core.List.{List, [], _∷_, _++_}
 use mathlib.Core.Bool.{Bool, true, false}
 use native.Mathlib.Omega.{arith}
@@ -8,7 +8,7 @@ use lib.ListN.{length, drop, getD, length-append, length-take}
 use Rattle.lent.specs.Memory.{Every, far}
 use Rattle.lent.proofs.Writes.{put-length}
 use Rattle.format.specs.Store.{Piece, word, _⊕_, string, pieces, list, ints, sourcePiece, constantPiece, localPiece, debugPiece}
-use Rattle.format.specs.Tree.{Constant, Source, Local, Debug, kept}
+use Rattle.format.specs.Tree.{Constant, Source, Local, kept}
 use Rattle.format.specs.Write.{dumpNumber, dumpInt, dumpText, dumpCode, dumpList, dumpLocal, dumpDebug, each}
 use Rattle.format.specs.Stored.{part}
 use Rattle.proto.proofs.Heres.{here-length, here-get, here-item}

@@ -1,6 +1,6 @@
 -- The lookup: where the locals stand, what their records lead to, and what the call leaves.
 use Prim.Native.Nat.{ℕ, _+_, _-_, _*_, _≤_, _<_, _%_, _^_, min}
-use mathlib.Core.Path.{_≡_, refl, sym, ap, subst, _∙_}
+use mathlib.Core.Path.{_≡_, refl, sym, ap, _∙_}
 use mathlib.Core.List.{List, [], _∷_}
 use mathlib.Core.Bool.{Bool, true, false, cond}
 use native.Mathlib.Omega.{arith}
@@ -8,17 +8,17 @@ use native.Mathlib.Decide.{ℕ-discrete}
 use lib.ListN.{length, take, drop, getD}
 use lib.Seq.{take-at}
 use lib.Dec.{eqb, leb, ltb}
-use borrow.Author.Tests.{eq-eqb, le-leb, lt-leb, leb-true, leb-false}
+use borrow.Author.Tests.{eq-eqb, le-leb, lt-leb, leb-true}
 use Rattle.lent.specs.Memory.{far, Puts}
 use Rattle.format.specs.Tree.{Local, Parts, Function, Functions}
 use Rattle.format.specs.Store.{word, _⊕_, string, pieces, list, ints, localPiece, functionPiece}
-use Rattle.format.specs.Stored.{part, Here}
+use Rattle.format.specs.Stored.{part}
 use Rattle.format.specs.Undump.{over}
 use Rattle.format.specs.Dump.{writeRefused}
-use Rattle.format.specs.Valid.{depth, Valid, ValidAll}
+use Rattle.format.specs.Valid.{Valid, ValidAll}
 use Rattle.format.proofs.Stored.{here-left, here-part}
 use Rattle.proto.specs.Walk.{Stands, Skips, Past, toLines, toLocals}
-use Rattle.proto.specs.Places.{Placed, onPlace, placeRefusal}
+use Rattle.proto.specs.Places.{placeRefusal}
 use Rattle.proto.proofs.Heres.{here-length, here-item, here-get}
 use Rattle.proto.proofs.Pieces.{same-sym, same-assoc, function-debug, stands-same, stands-left, stands-right, pieces-words}
 use Rattle.proto.proofs.Items.{StandsAt, list-count, locals-stand}
@@ -27,10 +27,9 @@ use Rattle.symbexec.specs.Lists.{nested}
 use Rattle.symbexec.proofs.Children.{somewhere}
 use Rattle.debug_info.specs.declared.answer.Named.{Named}
 use Rattle.debug_info.specs.declared.name.Known.{Known}
-use Rattle.debug_info.specs.declared.name.Name.the-variants.{Text}
 use Rattle.debug_info.specs.Names.{Object, nothing, local, activeLocal, getLocalName}
 use Rattle.debug_info.specs.Known.{nameOf, objectOf}
-use Rattle.debug_info.specs.Calls.{partsOf, NameLeft, nameLeft, nameRefused, namedBy, named, localNamed}
+use Rattle.debug_info.specs.Calls.{NameLeft, nameLeft, nameRefused, namedBy, named, localNamed}
 use Rattle.debug_info.proofs.Calls.{of-function, place-refused}
 use Rattle.local_records.specs.declared.record.LocalRecord.{LocalRecord}
 use Rattle.local_records.specs.declared.record.Seen.the-variants.{Nothing, Found, Left}

@@ -14,7 +14,7 @@ use Rattle.utf8.specs.Laws.{utf8-bytes, utf8-ascii}
 use Rattle.format.specs.Store.{Piece, word, _⊕_, string, pieces, list, ints}
 use Rattle.format.specs.Stored.{part, Here}
 use Rattle.format.specs.Valid.{Name, ValidList}
-use Rattle.format.proofs.Stored.{here-left, here-right, here-part}
+use Rattle.format.proofs.Stored.{here-left, here-part}
 use Rattle.proto.specs.declared.formed.Checked.{Checked}
 use Rattle.proto.specs.Walk.{Stands}
 use Rattle.proto.specs.Formed.{Passed, Check, Within, three, Three, Ascii}

@@ -1,12 +1,12 @@
 -- Bytes that are ASCII, and their repair.
-use Prim.Native.Nat.{ℕ, zero, suc, _+_, _≤_, _<_}
-use mathlib.Core.Path.{_≡_, _∙_}
+use Prim.Native.Nat.{ℕ, suc, _+_, _≤_, _<_}
+use mathlib.Core.Path.{_≡_}
 use mathlib.Core.List.{List, [], _∷_}
 use native.Mathlib.Omega.{arith}
 use native.Mathlib.Decide.{ℕ-discrete, decLt}
 use lib.ListN.{length, getD, List·getD-eq-default}
 use Rattle.lent.specs.Memory.{Every}
-use Rattle.utf8.specs.Utf8.{isUtf8, repair}
+use Rattle.utf8.specs.Utf8.{repair}
 use Rattle.utf8.specs.Laws.{utf8-ascii, repair-utf8}
 use Rattle.utf8.specs.Text.{AsciiIn}
 

@@ -1,6 +1,5 @@
 -- The header, and behind it the root.
 use borrow.Author.Needs.{needs}
-use native.Mathlib.Omega.{arith}
 use mathlib.Core.Path.{refl}
 use Rattle.dump.proofs.Counts.{puts-counted}
 use Rattle.dump.proofs.Calls.{chunk-puts}

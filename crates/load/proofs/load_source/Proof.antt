@@ -1,5 +1,4 @@
 use borrow.Author.Needs.{needs}
-use native.Mathlib.Omega.{arith}
 use borrow.Author.Tests.{not-true, not-false}
 use Rattle.load.proofs.Loads.{source-none, source-own}
 use Rattle.load.proofs.load_source.Statement.{statement}

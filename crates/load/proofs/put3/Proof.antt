@@ -1,5 +1,4 @@
 use borrow.Author.Needs.{needs}
-use native.Mathlib.Omega.{arith}
 use mathlib.Core.Path.{refl}
 use Rattle.load.proofs.Stores.{plain-does}
 use Rattle.load.proofs.put3.Statement.{statement}

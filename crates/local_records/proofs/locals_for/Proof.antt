@@ -1,5 +1,4 @@
 use borrow.Author.Needs.{needs}
-use native.Mathlib.Omega.{arith}
 use Rattle.local_records.proofs.Lookup.{for-refused, for-8, for-11, for-0}
 use mathlib.Core.Path.{_∙_}
 use Rattle.local_records.proofs.locals_for.Statement.{statement}

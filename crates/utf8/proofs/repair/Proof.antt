@@ -1,5 +1,4 @@
 use borrow.Author.Needs.{needs}
-use native.Mathlib.Omega.{arith}
 use Rattle.utf8.proofs.Ascii.{repair-ascii}
 use Rattle.utf8.proofs.repair.Statement.{statement}
 use Rattle.utf8.proofs.repair.Tie as tie

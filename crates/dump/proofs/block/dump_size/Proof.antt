@@ -1,6 +1,5 @@
 -- The two halves, the low one first.
 use borrow.Author.Needs.{needs}
-use native.Mathlib.Omega.{arith}
 use Rattle.dump.proofs.Blocks.{size-stored}
 use Rattle.dump.proofs.block.dump_size.Statement.{statement}
 use Rattle.dump.proofs.block.dump_size.Tie as tie

@@ -1,6 +1,5 @@
 -- The size, the bytes and the zero are stored one behind the other.
 use borrow.Author.Needs.{needs}
-use native.Mathlib.Omega.{arith}
 use mathlib.Core.Path.{_∙_}
 use lib.ListN.{length-set}
 use Rattle.dump.proofs.Blocks.{string-stored}

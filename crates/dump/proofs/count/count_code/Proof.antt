@@ -1,6 +1,5 @@
 -- The count, then four bytes for each item.
 use borrow.Author.Needs.{needs}
-use native.Mathlib.Omega.{arith}
 use Rattle.dump.proofs.Counts.{code-counted}
 use Rattle.dump.proofs.count.count_code.Statement.{statement}
 use Rattle.dump.proofs.count.count_code.Tie as tie

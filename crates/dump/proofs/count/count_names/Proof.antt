@@ -1,14 +1,13 @@
 -- The loop's invariant: whatever counts the other items from here counts the whole list from the start.
 use borrow.Author.Needs.{needs}
 use native.Mathlib.Omega.{arith}
-use Prim.Native.Nat.{ℕ, _+_, _*_, _-_, _≤_}
+use Prim.Native.Nat.{ℕ, _*_, _-_, _≤_}
 use mathlib.Core.Path.{refl}
 use mathlib.Core.List.{List, []}
 use lib.ListN.{length}
 use borrow.Author.Tests.{not-true, not-false}
 use Rattle.format.specs.Store.{string}
 use Rattle.format.specs.Write.{dumpText}
-use Rattle.proto.proofs.Pieces.{constant-words}
 use Rattle.proto.proofs.Loops.{Loop, loop-start, loop-turn, loop-end}
 use Rattle.dump.specs.Step.{reached, Any}
 use Rattle.dump.proofs.Steps.{DumpsAll, every-any, all-none, all-more, counted}

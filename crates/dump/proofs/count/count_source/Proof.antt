@@ -1,6 +1,5 @@
 -- What is elided is what the definition elides.
 use borrow.Author.Needs.{needs}
-use native.Mathlib.Omega.{arith}
 use Rattle.dump.proofs.Functions.{source-dumped, put-elided, put-own}
 use Rattle.dump.proofs.Counts.{size-counted, string-counted}
 use Rattle.dump.proofs.count.count_source.Statement.{statement}

@@ -1,6 +1,5 @@
 -- Three pieces one behind the other.
 use borrow.Author.Needs.{needs}
-use native.Mathlib.Omega.{arith}
 use Rattle.dump.proofs.Steps.{local-dumped}
 use Rattle.dump.proofs.Readies.{local-name, local-start, local-end}
 use Rattle.dump.proofs.list.dump_local.Statement.{statement}

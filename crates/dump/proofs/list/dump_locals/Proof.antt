@@ -1,5 +1,4 @@
 -- The loop's invariant: whatever writes the other items from here writes the whole list from the start, and there is room for them.
-use borrow.Author.Needs.{needs}
 use native.Mathlib.Omega.{arith}
 use Prim.Native.Nat.{_-_}
 use mathlib.Core.Path.{_≡_, refl, _∙_}

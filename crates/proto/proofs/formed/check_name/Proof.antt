@@ -1,6 +1,5 @@
 -- Where the text is ASCII, a string of it is UTF-8.
 use borrow.Author.Needs.{needs}
-use native.Mathlib.Omega.{arith}
 use Rattle.proto.proofs.Checks.{ascii-name}
 use Rattle.proto.proofs.formed.check_name.Statement.{statement}
 use Rattle.proto.proofs.formed.check_name.Tie as tie
