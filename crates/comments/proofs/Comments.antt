@@ -7,14 +7,14 @@ use lib.ListN.{getD}
 use lib.Dec.{eqb, ltb}
 use Rattle.lent.specs.Memory.{Puts}
 use Rattle.format.specs.Tree.{Functions, count}
-use Rattle.proto.specs.Walk.{childrenPiece}
+use Rattle.proto.specs.Walk.{childrenPiece, StandsAt}
 use Rattle.proto.proofs.Heres.{here-get}
-use Rattle.proto.proofs.Items.{StandsAt}
 use Rattle.comments.specs.Shown.{ChildIs}
 use borrow.Author.Tests.{ltb-true}
 use Rattle.instructions.specs.Fields.{GETARG-Bx}
 use Rattle.instructions.specs.OpCodes.{OP-CLOSURE}
-use Rattle.comments.specs.Comment.{address, comment, when, among, childNumber}
+use Rattle.proto.specs.Children.{childNumber}
+use Rattle.comments.specs.Comment.{address, comment, when, among}
 use Rattle.proto.proofs.constant.Constant as constant
 
 -- ---- which opcodes

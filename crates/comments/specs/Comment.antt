@@ -7,7 +7,8 @@ use lib.Dec.{eqb, ltb}
 use Rattle.digits.specs.Digits.{decimal}
 use Rattle.format.specs.Tree.{Constant, Parts, Functions, count}
 use Rattle.operands.specs.Operands.{formatConstant, formatConstantRaw, difference}
-use Rattle.proto.specs.Walk.{item, totalBefore}
+use Rattle.proto.specs.Walk.{item}
+use Rattle.proto.specs.Children.{childNumber}
 use Rattle.instructions.specs.Fields.{MAXARG-sBx, GETARG-B, GETARG-C, GETARG-Bx, ISK, INDEXK}
 use Rattle.instructions.specs.OpCodes.{ascii}
 use Rattle.instructions.specs.OpCodes.{OP-LOADK, OP-GETUPVAL, OP-GETGLOBAL, OP-GETTABLE, OP-SETGLOBAL, OP-SETUPVAL, OP-SETTABLE, OP-SELF, OP-ADD, OP-SUB, OP-MUL, OP-DIV, OP-MOD, OP-POW, OP-JMP, OP-EQ, OP-LT, OP-LE, OP-FORLOOP, OP-FORPREP, OP-SETLIST, OP-CLOSURE, OP-VARARG}
@@ -45,10 +46,6 @@ operandConstant constants x = cond (ISK x) (formatConstant constants (INDEXK x))
 -- where a jump goes: sbx + pc + 2
 abbrev pub jumpTarget : ℕ → ℕ → List ℕ
 jumpTarget pc i = difference (GETARG-Bx i + pc + 2) MAXARG-sBx
-
--- the number of child bx of a function
-abbrev pub childNumber : ℕ → Functions → ℕ → ℕ
-childNumber number fs bx = number + 1 + totalBefore fs bx
 
 -- SETLIST: C, or the word behind the instruction, where there is one
 abbrev pub extraText : Option ℕ → List ℕ

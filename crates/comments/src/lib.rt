@@ -33,6 +33,7 @@ use operands::constant::format_constant;
 use operands::constant::format_constant_raw;
 use operands::operand::MAXARG_SBX;
 use operands::operand::put_difference;
+use proto::lists::Lists;
 use proto::walk::item_at;
 use proto::walk::string_at;
 use proto::walk::word_at;
@@ -52,17 +53,8 @@ ghost use Rattle.instructions.specs.OpCodes.{ascii};
 ghost use Rattle.operands.specs.Operands.{formatConstant, formatConstantRaw};
 ghost use Rattle.comments.specs.Comment.{address, comment, when, upvalueText, operandConstant, jumpTarget, formatSetList, formatComment, among, operandOps, jumpOps};
 ghost use Rattle.operands.specs.Shown.{Shows};
-ghost use Rattle.comments.specs.Shown.{ListsAt, ChildIs};
-
-// Where the lists of a function stand in the words.
-pub struct Lists {
-    pub code: usize,
-    pub constants: usize,
-    pub functions: usize,
-    pub lines: usize,
-    pub locals: usize,
-    pub upvalues: usize,
-}
+ghost use Rattle.proto.specs.Lists.{ListsAt};
+ghost use Rattle.comments.specs.Shown.{ChildIs};
 
 // The number of a function, for its address.
 pub fn put_address(n: usize, out: &mut [u8], at: usize) -> usize

@@ -13,40 +13,33 @@ use Rattle.lent.proofs.Writes.{sets-past}
 use Rattle.format.specs.Tree.{Parts, Function, Functions}
 use Rattle.format.specs.Store.{functionPiece}
 use Rattle.format.specs.Dump.{WriteLeft}
-use Rattle.format.specs.Valid.{depth, Valid}
+use Rattle.format.specs.Valid.{depth, Valid, ValidAll, ValidParts}
 use Rattle.format.specs.declared.Written.{Written}
-use Rattle.proto.specs.Walk.{Stands, Past, toCode}
+use Rattle.proto.specs.Walk.{Stands, StandsAt, Past, toCode}
 use Rattle.proto.specs.Places.{Placed, onPlace, placeRefusal}
 use Rattle.proto.proofs.Items.{code-stands, ints-count}
-use Rattle.proto.proofs.Sources.{function-stands, On, place-on, on-answer, on-refused}
-use Rattle.symbexec.specs.declared.lists.Lists.{Lists}
-use Rattle.symbexec.specs.Lists.{ListsOf}
+use Rattle.proto.proofs.Sources.{all-suc, function-stands, On, place-on, on-answer, on-refused}
 use Rattle.debug_info.specs.Calls.{partsOf, onRegister, registerRefusal, nameLeft, nameRefused, namedBy}
 
 -- ---- the function that stands at a place
 
 module _ {words text : List ℕ} {place : ℕ} (o : On words text place) where
   -- what holds of every function that stands there, well formed, holds of the one found
-  pub of-function : (P : Function → Type 0) → ((p : Parts) (fs : Functions) (to : ℕ) → Valid (Function.function p fs) depth → Stands words text place to (functionPiece (Function.function p fs)) → P (Function.function p fs)) → P (o .function .function)
+  pub of-function : (P : Function → Type 0) → ((p : Parts) (fs : Functions) → ValidParts p → ValidAll fs depth → StandsAt words text place (functionPiece (Function.function p fs)) → P (Function.function p fs)) → P (o .function .function)
+  unfolding Valid
   of-function P g =
       let x = function-stands [] place (o .function) (o .holds) (o .begins) in
       go (o .function .function) (x .0 .to) (x .0 .valid) (subst (λ (at : ℕ). Stands words text at (x .0 .to) (functionPiece (o .function .function))) (x .1) (x .0 .stands))
     where
       go : (f : Function) (to : ℕ) → Valid f depth → Stands words text place to (functionPiece f) → P f
-      go (Function.function p fs) to v h = g p fs to v h
-
-  pub of-lists : {s : Lists} (P : Function → Type 0)
-      → ((text : List ℕ) (to : ℕ) (p : Parts) (fs : Functions) → Valid (Function.function p fs) depth → Stands words text place to (functionPiece (Function.function p fs)) → ListsOf words text p fs s)
-      → ((p : Parts) (fs : Functions) → ListsOf words text p fs s → P (Function.function p fs)) → P (o .function .function)
-  of-lists P l g = of-function P (λ p fs to v h. g p fs (l text to p fs v h))
+      go (Function.function p fs) to v h = g p fs (v .0) (all-suc fs _ (v .2)) (record { to = to; stands = h })
 
   -- its code's length
-  pub of-code : {a x : ℕ} → ((p : Parts) → Past words (toCode p) place a) → x ≡ getD words a 0 → x ≡ length (partsOf (o .function .function) .code)
-  of-code {x = x} w e = of-function (λ f. x ≡ length (partsOf f .code)) (λ p fs to v h. e ∙ ints-count (p .code) (code-stands p fs h (w p)))
+  pub of-code : {a x : ℕ} → ((p : Parts) (fs : Functions) → Past words (toCode p fs) place a) → x ≡ getD words a 0 → x ≡ length (partsOf (o .function .function) .code)
+  of-code {x = x} w e = of-function (λ f. x ≡ length (partsOf f .code)) (λ p fs u v h. e ∙ ints-count (p .code) (code-stands p fs (h .stands) (w p fs)))
 
   pub code-short : length (partsOf (o .function .function) .code) < 2 ^ 32
-  unfolding Valid
-  code-short = of-function (λ f. length (partsOf f .code) < 2 ^ 32) (λ p fs to v h. omega (arith, v .0 .code .short))
+  code-short = of-function (λ f. length (partsOf f .code) < 2 ^ 32) (λ p fs u v h. omega (arith, u .code .short))
 
 -- ---- a pc and a register of it
 
@@ -64,7 +57,7 @@ module _ (words text : List ℕ) (place pc reg : ℕ) where
   unfolding registerRefusal
   register-place e h = e ∙ sym (on-refused (λ n. n) (within (λ n. n) (λ f. 0) pc reg) words text place (λ z. omega arith))
 
-  module _ {n a x : ℕ} (z : n ≡ placeRefusal words text place) (k : n ≤ 0) (w : (p : Parts) → Past words (toCode p) place a) (e : x ≡ getD words a 0) where
+  module _ {n a x : ℕ} (z : n ≡ placeRefusal words text place) (k : n ≤ 0) (w : (p : Parts) (fs : Functions) → Past words (toCode p fs) place a) (e : x ≡ getD words a 0) where
     on : On words text place
     on = place-on words text place (omega arith)
 
@@ -118,29 +111,27 @@ module _ (words text : List ℕ) (place pc reg : ℕ) where
     pub registered-answer : (o : OnRegister words text place pc reg) → onRegister refuse answer words text place pc reg ≡ answer (o .on .function .function)
     registered-answer o = on-answer refuse (within refuse answer pc reg) (o .on) ∙ rw (le-leb pc (length (partsOf (o .on .function .function) .code)) (o .pc-within), le-leb reg 255 (o .reg-within))
 
--- ---- what a call answers, by the function whose lists were found
+-- ---- what a call answers, by the function that stands there
 
 module _ {A : Type 0} (refuse : ℕ → A) (answer : Function → A) (words text : List ℕ) (place : ℕ) {n : ℕ} where
   pub place-refused : n ≡ placeRefusal words text place → 0 < n → refuse n ≡ onPlace refuse (λ x. answer (x .function)) words text place
   place-refused e h = rw e (sym (on-refused refuse (λ x. answer (x .function)) words text place (λ z. omega arith)))
 
-  pub place-answered : {s : Lists} {r : A} → n ≡ placeRefusal words text place → n ≤ 0
-      → ((text : List ℕ) (to : ℕ) (p : Parts) (fs : Functions) → Valid (Function.function p fs) depth → Stands words text place to (functionPiece (Function.function p fs)) → ListsOf words text p fs s)
-      → ((p : Parts) (fs : Functions) → ListsOf words text p fs s → r ≡ answer (Function.function p fs)) → r ≡ onPlace refuse (λ x. answer (x .function)) words text place
-  place-answered {s} {r} e h l g =
+  pub place-answered : {r : A} → n ≡ placeRefusal words text place → n ≤ 0 → ((p : Parts) (fs : Functions) → ValidAll fs depth → StandsAt words text place (functionPiece (Function.function p fs)) → r ≡ answer (Function.function p fs))
+      → r ≡ onPlace refuse (λ x. answer (x .function)) words text place
+  place-answered {r} e h g =
       let o = place-on words text place (omega arith) in
-      of-lists o (λ f. r ≡ answer f) l g ∙ sym (on-answer refuse (λ x. answer (x .function)) o)
+      of-function o (λ f. r ≡ answer f) (λ p fs u v s. g p fs v s) ∙ sym (on-answer refuse (λ x. answer (x .function)) o)
 
   module _ (pc reg : ℕ) where
     pub register-refused : n ≡ registerRefusal words text place pc reg → 0 < n → refuse n ≡ onRegister refuse answer words text place pc reg
     register-refused e h = rw e (sym (registered-refused words text place pc reg refuse answer (λ z. omega arith)))
 
-    pub register-answered : {s : Lists} {r : A} → n ≡ registerRefusal words text place pc reg → n ≤ 0
-        → ((text : List ℕ) (to : ℕ) (p : Parts) (fs : Functions) → Valid (Function.function p fs) depth → Stands words text place to (functionPiece (Function.function p fs)) → ListsOf words text p fs s)
-        → ((p : Parts) (fs : Functions) → ListsOf words text p fs s → r ≡ answer (Function.function p fs)) → r ≡ onRegister refuse answer words text place pc reg
-    register-answered {s} {r} e h l g =
+    pub register-answered : {r : A} → n ≡ registerRefusal words text place pc reg → n ≤ 0 → ((p : Parts) (fs : Functions) → ValidAll fs depth → StandsAt words text place (functionPiece (Function.function p fs)) → r ≡ answer (Function.function p fs))
+        → r ≡ onRegister refuse answer words text place pc reg
+    register-answered {r} e h g =
         let o = register-on words text place pc reg (omega arith) in
-        of-lists (o .on) (λ f. r ≡ answer f) l g ∙ sym (registered-answer words text place pc reg refuse answer o)
+        of-function (o .on) (λ f. r ≡ answer f) (λ p fs u v s. g p fs v s) ∙ sym (registered-answer words text place pc reg refuse answer o)
 
 -- a pc and a register that are not refused
 pub register-bounds : (words text : List ℕ) (place pc reg : ℕ) {n : ℕ} → n ≡ registerRefusal words text place pc reg → n ≤ 0 → (pc < 2 ^ 32) × (reg < 256)

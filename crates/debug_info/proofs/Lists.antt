@@ -12,11 +12,10 @@ use borrow.Author.Tests.{lt-ltb, le-ltb}
 use Rattle.format.specs.Tree.{Local}
 use Rattle.format.specs.Store.{Piece, word, _⊕_, string, pieces, list, localPiece}
 use Rattle.format.proofs.Stored.{here-left}
-use Rattle.proto.specs.Walk.{item, Skips}
+use Rattle.proto.specs.Walk.{item, Skips, StandsAt}
 use Rattle.proto.proofs.Heres.{here-item, here-front}
 use Rattle.proto.proofs.Pieces.{stands-left, stands-right}
-use Rattle.proto.proofs.Items.{StandsAt, list-count, list-item}
-use Rattle.symbexec.proofs.Children.{somewhere, item-past}
+use Rattle.proto.proofs.Items.{somewhere, item-past, item-there, list-count, list-item}
 use Rattle.debug_info.specs.declared.name.Name.{Name}
 use Rattle.debug_info.specs.declared.name.Known.{Known}
 use Rattle.debug_info.specs.declared.list.LocalVar.{LocalVar}
@@ -32,23 +31,13 @@ pub record Looked {A : Type 0} (words text : List ℕ) (piece : A → Piece) (l 
   pub is : item l i ≡ some value
   pub stands : StandsAt words text r (piece value)
 
-record Item {A : Type 0} (l : List A) (i : ℕ) : Type 0 where
-  value : A
-  is : item l i ≡ some value
-
-item-within : {A : Type 0} (l : List A) (i : ℕ) → i < length l → Item l i
-unfolding item
-item-within [] i h = absurd (omega arith)
-item-within (a ∷ l) zero h = record { value = a; is = refl }
-item-within (a ∷ l) (suc i) h = let z = item-within l i (omega arith) in record { value = z .value; is = z .is }
-
 module _ {A : Type 0} {words text : List ℕ} (piece : A → Piece) {at x i : ℕ} (l : List A) (h : StandsAt words text at (list piece l)) (e : x ≡ getD words at 0) where
   pub looked-past : x ≤ i → item l i ≡ none
   looked-past k = item-past l i (omega (arith, list-count piece l (h .stands)))
 
   pub looked-up : {r : ℕ} (k : ℕ) → ((a : A) (to : ℕ) → length (piece a .words to) ≡ k) → i < x → Skips words (1 + k * i) at r → Looked words text piece l i r
   looked-up {r} k w n s =
-      let z = item-within l i (omega (arith, list-count piece l (h .stands))) in
+      let z = item-there l i (omega (arith, list-count piece l (h .stands))) in
       record { value = z .value; is = z .is; stands = list-item piece k w l i (z .value) (z .is) (h .stands) s }
 
 -- ---- locals

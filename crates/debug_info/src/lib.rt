@@ -11,10 +11,11 @@ use list::active_local;
 use list::operand_name;
 use name::Known;
 use name::write_name;
+use proto::lists::lists_at;
 use proto::place::place_refusal;
 use proto::walk::code_at;
+use proto::walk::constants_at;
 use proto::walk::word_at;
-use symbexec::lists::lists_at;
 use symbexec::symbexec_at;
 ghost use mathlib.Core.Path.{_≡_};
 ghost use Rattle.format.specs.Dump.{writeLeft};
@@ -110,7 +111,7 @@ pub fn kname(words: &[u32], text: &[u8], place: usize, c: u32, out: &mut [u8]) -
     if 0 < refusal {
         return Written { refusal, len: 0 };
     }
-    let constants = lists_at(words, place).constants;
+    let constants = constants_at(words, place);
     write_name(text, operand_name(words, constants, c), out)
 }
 

@@ -12,7 +12,7 @@ ghost use Prim.Native.Nat.{ℕ};
 ghost use Rattle.lent.specs.Memory.{Puts};
 ghost use Rattle.format.specs.Dump.{writeLeft, written};
 ghost use Rattle.format.specs.Store.{string};
-ghost use Rattle.proto.proofs.Items.{StandsAt};
+ghost use Rattle.proto.specs.Walk.{StandsAt};
 ghost use Rattle.proto.specs.Constants.{valueOf};
 ghost use Rattle.debug_info.specs.Names.{constantName, globalOf};
 ghost use Rattle.debug_info.specs.Known.{nameOf, objectOf};

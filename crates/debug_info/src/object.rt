@@ -12,20 +12,21 @@ use instructions::OP_GETTABLE;
 use instructions::OP_GETUPVAL;
 use instructions::OP_MOVE;
 use instructions::OP_SELF;
-use symbexec::lists::Lists;
+use proto::lists::Lists;
 use symbexec::symbexec_at;
 ghost use mathlib.Core.List.{List};
 ghost use mathlib.Core.Path.{_≡_};
 ghost use Prim.Native.Nat.{ℕ, _<_};
 ghost use Rattle.format.specs.Tree.{Parts, Function, Functions};
-ghost use Rattle.symbexec.specs.Lists.{ListsOf};
+ghost use Rattle.format.specs.Valid.{depth, ValidAll};
+ghost use Rattle.proto.specs.Lists.{ListsAt};
 ghost use Rattle.debug_info.specs.Names.{wrote, movesUp, searched};
 ghost use Rattle.debug_info.specs.Known.{objectOf};
 ghost use Rattle.debug_info.specs.Searched.{unsearched};
 
 // What an instruction other than MOVE wrote.
 fn wrote(words: &[u32], s: Lists, i: Instruction) -> Known
-    ensures { λ r. ⌜ ((text : List ℕ) (p : Parts) (fs : Functions) → ListsOf (now (words .entry)) text p fs s → objectOf text r ≡ wrote p (i .0)) ⌝ }
+    ensures { λ r. ⌜ ((text : List ℕ) (p : Parts) (fs : Functions) → ListsAt (now (words .entry)) text s p fs → objectOf text r ≡ wrote p (i .0)) ⌝ }
 {
     let constants = s.constants;
     let upvalues = s.upvalues;
@@ -62,7 +63,7 @@ fn moves_up(i: Instruction) -> bool
 // known where that was searched before.
 pub fn getobjname(words: &[u32], s: Lists, pc: u32, reg: u32, before: [bool; 256]) -> Known
     requires { ⌜ reg < 256 ⌝ }
-    ensures { λ r. ⌜ ((text : List ℕ) (p : Parts) (fs : Functions) → ListsOf (now (words .entry)) text p fs s → objectOf text r ≡ searched (Function.function p fs) pc (unsearched before) reg before) ⌝ }
+    ensures { λ r. ⌜ ((text : List ℕ) (p : Parts) (fs : Functions) → ListsAt (now (words .entry)) text s p fs → ValidAll fs depth → objectOf text r ≡ searched (Function.function p fs) pc (unsearched before) reg before) ⌝ }
 {
     let n = reg as usize;
     if before[n] {

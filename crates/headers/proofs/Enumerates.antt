@@ -9,8 +9,8 @@ use lib.ListN.{length, drop, getD}
 use Rattle.lent.specs.Memory.{Puts}
 use Rattle.lent.proofs.Writes.{Rest, rest-start, rest-put, rest-end, put-then}
 use Rattle.format.specs.Store.{Piece, list}
-use Rattle.proto.specs.Walk.{item, Skips}
-use Rattle.proto.proofs.Items.{StandsAt, list-count, list-item}
+use Rattle.proto.specs.Walk.{item, Skips, StandsAt}
+use Rattle.proto.proofs.Items.{list-count, list-item}
 use Rattle.operands.specs.Shown.{Shows}
 use Rattle.headers.specs.Tables.{enumerated}
 

@@ -7,10 +7,9 @@ use lib.ListN.{length, take, getD}
 use lib.Seq.{length-take-le}
 use Rattle.format.specs.Tree.{Local}
 use Rattle.format.specs.Store.{word, _⊕_, string, localPiece}
-use Rattle.proto.specs.Walk.{Stands, Skips}
+use Rattle.proto.specs.Walk.{Stands, Skips, StandsAt}
 use Rattle.proto.proofs.Heres.{here-item, here-front}
 use Rattle.proto.proofs.Pieces.{stands-left}
-use Rattle.proto.proofs.Items.{StandsAt}
 
 module _ {words text : List ℕ} {place : ℕ} (v : Local) (s : StandsAt words text place (localPiece v)) where
   pub local-name : Stands words text place (s .to) (string (v .name))

@@ -1,10 +1,10 @@
 // The header of a function (listing.rs: display_source, format_header).
-use comments::Lists;
 use comments::put_address;
 use digits::put_decimal;
 use lent::put_byte;
 use lent::put_bytes;
 use proto::head::Head;
+use proto::lists::Lists;
 use proto::walk::word_at;
 ghost use Prim.Native.Nat.{ℕ};
 ghost use mathlib.Core.List.{List, _++_};
@@ -14,7 +14,7 @@ ghost use Rattle.digits.specs.Digits.{decimal};
 ghost use Rattle.instructions.specs.OpCodes.{ascii};
 ghost use Rattle.format.specs.Tree.{Parts, Functions};
 ghost use Rattle.proto.specs.Head.{headOf};
-ghost use Rattle.comments.specs.Shown.{ListsAt};
+ghost use Rattle.proto.specs.Lists.{ListsAt};
 ghost use Rattle.headers.specs.Header.{displaySource, plural, vararg, kindOf, sourceLines, codeSize, formatParams, headerKind, headerCounts, formatHeader};
 
 // A source without a leading @.

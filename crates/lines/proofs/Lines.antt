@@ -10,11 +10,10 @@ use lib.Dec.{eqb}
 use borrow.Author.Tests.{eqb-true}
 use Rattle.digits.specs.Room.{Width}
 use Rattle.format.specs.Store.{word, ints}
-use Rattle.proto.specs.Walk.{item, Skips}
+use Rattle.proto.specs.Walk.{item, Skips, StandsAt}
 use Rattle.proto.proofs.Heres.{here-get}
 use Rattle.proto.proofs.Pieces.{stands-same}
-use Rattle.proto.proofs.Items.{StandsAt, list-count, list-item}
-use Rattle.operands.proofs.Shows.{item-past, item-there, ints-list}
+use Rattle.proto.proofs.Items.{list-count, list-item, item-past, item-there, ints-list}
 use Rattle.instructions.specs.OpCodes.{Row, blank, opcodes, orMove, opName, padded}
 
 module _ {words t l : List ℕ} {place n i : ℕ} (e : n ≡ getD words place 0) (s : StandsAt words t place (ints l)) where

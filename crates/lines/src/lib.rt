@@ -1,6 +1,5 @@
 // One instruction's line of a listing, and the constants that it names (listing.rs: format_constant, format_constant_raw, and the body of
 // format_code's loop). Each call writes its text at a place of lent bytes and answers the next place; what is past the end is not written.
-use comments::Lists;
 use comments::format_comment;
 use digits::put_decimal;
 use digits::store_byte;
@@ -12,6 +11,7 @@ use lent::put_byte;
 use lent::put_bytes;
 use operands::operand::operands_width;
 use operands::operand::store_operands;
+use proto::lists::Lists;
 use proto::walk::item_at;
 use proto::walk::word_at;
 ghost use Prim.Native.Nat.{ℕ, _+_, _-_, _^_, _≤_, _<_};
@@ -22,12 +22,12 @@ ghost use Rattle.digits.specs.Room.{Fits, Width};
 ghost use Rattle.lent.specs.Memory.{Puts};
 ghost use Rattle.format.specs.Tree.{Parts, Functions};
 ghost use Rattle.format.specs.Store.{ints};
-ghost use Rattle.proto.specs.Walk.{item};
+ghost use Rattle.proto.specs.Walk.{item, StandsAt};
 ghost use Rattle.instructions.specs.OpCodes.{opcode, opName, padded};
-ghost use Rattle.proto.proofs.Items.{StandsAt};
 ghost use Rattle.lines.specs.Line.{index, formatLine, formatStart, formatInstruction};
 ghost use Rattle.lines.specs.Shown.{lineOf};
-ghost use Rattle.comments.specs.Shown.{ListsAt, ChildIs};
+ghost use Rattle.proto.specs.Lists.{ListsAt};
+ghost use Rattle.comments.specs.Shown.{ChildIs};
 
 // A tab, an index and a tab.
 pub fn put_index(n: u64, out: &mut [u8], at: usize) -> usize

@@ -21,13 +21,13 @@ mutual
 
   total-words : (f : Function) (to : ℕ) → total f ≤ length (functionPiece f .words to)
   total-words (Function.function p fs) to =
-      let at = to + length (toFunctions p .text) in
+      let at = to + length (toFunctions p fs .text) in
       let inside = totals-words fs (at + 0) in
       omega (
         arith,
         ap length (function-debug p fs .words to),
         length-append (toLines p fs .words to) (debugPiece (p .debug) .words (to + length (toLines p fs .text))),
-        length-append (toFunctions p .words to) (childrenPiece fs .words at),
+        length-append (toFunctions p fs .words to) (childrenPiece fs .words at),
       )
 
   totals-words : (fs : Functions) (to : ℕ) → totalAll fs ≤ length (functionPieces fs .words to)

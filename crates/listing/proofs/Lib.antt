@@ -1,6 +1,5 @@
 pub mod Samples
-pub mod Kepts
-pub mod Knowns
+pub mod Closures
 pub mod Codes
 pub mod Listers
 pub mod Calls

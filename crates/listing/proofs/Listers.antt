@@ -7,27 +7,16 @@ use native.Mathlib.Omega.{arith}
 use lib.ListN.{getD}
 use Rattle.lent.specs.Memory.{Puts, far}
 use Rattle.lent.proofs.Writes.{put-none, put-then}
-use Rattle.format.specs.Tree.{Source, Debug, Parts, Function, Functions, count, filled}
-use Rattle.format.specs.Store.{word, _⊕_, ints, list, packed, sourcePiece, constantPiece, debugPiece, functionPiece, functionPieces}
+use Rattle.format.specs.Tree.{Debug, Parts, Function, Functions, count, filled}
+use Rattle.format.specs.Store.{word, debugPiece, functionPiece, functionPieces}
 use Rattle.format.specs.Valid.{ValidParts, Valid, ValidAll}
-use Rattle.proto.specs.Walk.{Stands, Skips, Past, total, totalAll, childrenPiece, toCode, toConstants, toFunctions, toLines}
+use Rattle.proto.specs.Walk.{Skips, Past, total, totalAll, toFunctions, PassesAll, StandsAt}
 use Rattle.proto.proofs.Heres.{here-get}
-use Rattle.proto.proofs.Pieces.{function-debug, stands-same, stands-left}
-use Rattle.proto.proofs.Walks.{PassesAll, all-none, all-more, past-word, past-stands, passes-past, passes-child, passes-children, passes-function}
-use Rattle.proto.proofs.Items.{StandsAt, functions-stand}
+use Rattle.proto.proofs.Pieces.{stands-left}
+use Rattle.proto.proofs.Walks.{all-none, all-more, past-word, past-stands, passes-past, passes-lines, passes-function}
+use Rattle.proto.proofs.Items.{functions-stand}
 use Rattle.listing.specs.Listing.{formatFunction, listFunctionRecursive, listFunctions}
 use Rattle.listing.specs.Lister.{Reached, reached, nextOf, ListsFunction}
-
--- a function up to its code stands where it begins, and so does its source
-module _ {words text : List ℕ} {at to : ℕ} (p : Parts) (fs : Functions) (s : Stands words text at to (functionPiece (Function.function p fs))) where
-  pub head-stands : Stands words text at to (toCode p)
-  head-stands =
-      let lines = stands-left (toLines p fs) (debugPiece (p .debug)) (stands-same (function-debug p fs) s) in
-      let constants = stands-left (toConstants p) (list constantPiece (p .constants)) (stands-left (toFunctions p) (childrenPiece fs) lines) in
-      stands-left (toCode p) (ints (p .code)) constants
-
-  pub source-stands : Stands words text at to (sourcePiece (p .source))
-  source-stands = stands-left (sourcePiece (p .source)) (word (p .lineDefined) ⊕ word (p .lastLineDefined) ⊕ word (packed p)) head-stands
 
 -- n functions, whichever they are
 pub record ListsAll (words text : List ℕ) (full : Bool) (source : List ℕ) (allowance n : ℕ) (s r : Reached) : Type 0 where
@@ -63,18 +52,18 @@ module _ {words text : List ℕ} {full : Bool} {source : List ℕ} {allowance : 
 
 -- a function: its own text, then those in it
 pub lists-function : {words text outer source : List ℕ} {full : Bool} {list num first m own end : ℕ} {out : List ℕ} {s r : Reached} (n : ℕ)
-    → ((z : Source) (to : ℕ) → Stands words text (s .state .at) to (sourcePiece z) → source ≡ filled outer z)
+    → ((p : Parts) (fs : Functions) → StandsAt words text (s .state .at) (functionPiece (Function.function p fs)) → source ≡ filled outer (p .source))
     → ((p : Parts) (fs : Functions) → ValidParts p → ValidAll fs n → StandsAt words text (s .state .at) (functionPiece (Function.function p fs)) → s .state .number + 1 + totalAll fs ≤ far → Puts (formatFunction p fs full source (s .state .number)) (s .state .out) (s .output) own out)
-    → ((p : Parts) → Past words (toFunctions p) (s .state .at) list) → num ≡ getD words list 0 → Skips words 1 list first → m ≡ min (s .state .number + 1) far
+    → ((p : Parts) (fs : Functions) → Past words (toFunctions p fs) (s .state .at) list) → num ≡ getD words list 0 → Skips words 1 list first → m ≡ min (s .state .number + 1) far
     → ListsAll words text full source n num (reached (record { at = first; number = m; out = own }) out) r → ((d : Debug) → Past words (debugPiece d) (r .state .at) end)
     → (f : Function) → Valid f (suc n) → ListsFunction words text full outer f s (reached (record { at = end; number = r .state .number; out = r .state .out }) (r .output))
 unfolding Valid total listFunctionRecursive
 lists-function {words} {text} {outer} {source} {full} {m = m} {s = s} {r = r} n own-source own-text fu e k g all debug (Function.function p fs) v =
     record {
-      passes = passes-function n (passes-children n e fu (passes-child fu k g (all .passes))) debug refl (Function.function p fs) v;
+      passes = passes-function n (passes-lines e fu k g (all .passes)) debug refl (Function.function p fs) v;
       puts = λ x b.
-          let q : source ≡ filled outer (p .source) = own-source (p .source) (x .to) (source-stands p fs (x .stands)) in
-          let children = functions-stand p fs (x .stands) (fu p) in
+          let q : source ≡ filled outer (p .source) = own-source p fs x in
+          let children = functions-stand p fs (x .stands) (fu p fs) in
           let first = past-stands {p = word (count fs)} {q = functionPieces fs} (past-word (count fs) k) children in
           let many = e ∙ here-get (count fs) _ (children .in-words) in
           let a : m ≡ s .state .number + 1 = omega arith in

@@ -1,4 +1,3 @@
 pub mod Listing
-pub mod Kept
-pub mod Known
+pub mod Closures
 pub mod Lister

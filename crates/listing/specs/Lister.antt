@@ -6,8 +6,7 @@ use Rattle.lent.specs.Memory.{Puts, far}
 use Rattle.format.specs.Tree.{Function}
 use Rattle.format.specs.Store.{functionPiece}
 use Rattle.proto.specs.declared.walk.Next.{Next}
-use Rattle.proto.specs.Walk.{Passes, total}
-use Rattle.proto.proofs.Items.{StandsAt}
+use Rattle.proto.specs.Walk.{Passes, total, StandsAt}
 use Rattle.listing.specs.declared.function.ListState.{ListState}
 use Rattle.listing.specs.Listing.{listFunctionRecursive}
 

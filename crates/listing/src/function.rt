@@ -1,7 +1,5 @@
 // Functions, one inside the other (listing.rs: list_function_recursive).
 use crate::code::format_code;
-use crate::code::lists_at;
-use comments::Lists;
 use headers::header::format_header;
 use headers::list::format_constants;
 use headers::list::format_locals;
@@ -9,20 +7,20 @@ use headers::list::format_upvalues;
 use lent::further;
 use lent::put_byte;
 use proto::head::head_at;
+use proto::lists::Lists;
+use proto::lists::lists_on_way;
 use proto::walk::after_debug;
 use proto::walk::functions_at;
-use proto::walk::own_source;
 use proto::walk::skip;
+use proto::walk::source_of;
 use proto::walk::word_at;
 ghost use Prim.Native.Nat.{_+_, _≤_};
 ghost use Rattle.lent.specs.Memory.{Puts, far};
 ghost use Rattle.format.specs.Tree.{Parts, Function, Functions};
 ghost use Rattle.format.specs.Store.{functionPiece};
 ghost use Rattle.format.specs.Valid.{Valid, ValidParts, ValidAll};
-ghost use Rattle.proto.specs.Walk.{totalAll};
-ghost use Rattle.proto.proofs.Items.{StandsAt};
-ghost use Rattle.comments.specs.Shown.{ListsAt};
-ghost use Rattle.listing.specs.Known.{Known};
+ghost use Rattle.proto.specs.Walk.{totalAll, StandsAt};
+ghost use Rattle.proto.specs.Lists.{ListsAt, LinesKept};
 ghost use Rattle.listing.specs.Listing.{formatLists, formatFunction};
 ghost use Rattle.listing.specs.Lister.{ListsFunction, reached};
 
@@ -61,23 +59,23 @@ fn format_function(
     full: bool,
     out: &mut [u8],
     begins: &mut [usize],
-    known: &mut [usize],
+    lines: &mut [usize],
     s: ListState,
     allowance: u32,
 ) -> usize
-    requires { ⌜ Known (now words) (now begins) (now known) ⌝ }
-    ensures known { λ r. ⌜ Known (now (words .entry)) (now (begins .exit)) (now (known .exit)) ⌝ }
+    requires { ⌜ LinesKept (now words) (now begins) (now lines) ⌝ }
+    ensures kept { λ r. ⌜ LinesKept (now (words .entry)) (now (begins .exit)) (now (lines .exit)) ⌝ }
     ensures lists { λ r. ⌜ ((p : Parts) (fs : Functions) → ValidParts p → ValidAll fs allowance → StandsAt (now (words .entry)) (now (text .entry)) (s .at) (functionPiece (Function.function p fs)) → s .number + 1 + totalAll fs ≤ far → Puts (formatFunction p fs full (now (source .entry)) (s .number)) (s .out) (now (out .entry)) r (now (out .exit))) ⌝ }
 {
-    let lists = lists_at(words, s.at, allowance, begins, known);
+    let lists = lists_on_way(words, s.at, allowance, begins, lines);
     let head = head_at(words, s.at);
     let a = format_header(words, head, lists, source, s.number, out, s.out);
     let b = format_code(words, text, lists, s.number, allowance, out, a);
     format_lists(words, text, lists, full, s.number, out, b)
 }
 
-// The function at s, and those in it, with so many nested at most. outer is the source that an inherited one stands for; begins and known
-// keep what is known of the lines of functions.
+// The function at s, and those in it, with so many nested at most. outer is the source that an inherited one stands for; begins and lines
+// keep where the lines of functions are.
 pub fn list_function_recursive<'a>(
     words: &[u32],
     text: &'a [u8],
@@ -85,18 +83,18 @@ pub fn list_function_recursive<'a>(
     full: bool,
     out: &mut [u8],
     begins: &mut [usize],
-    known: &mut [usize],
+    lines: &mut [usize],
     s: ListState,
     allowance: u32,
 ) -> ListState
-    requires { ⌜ Known (now words) (now begins) (now known) ⌝ }
-    ensures known { λ r. ⌜ Known (now (words .entry)) (now (begins .exit)) (now (known .exit)) ⌝ }
+    requires { ⌜ LinesKept (now words) (now begins) (now lines) ⌝ }
+    ensures kept { λ r. ⌜ LinesKept (now (words .entry)) (now (begins .exit)) (now (lines .exit)) ⌝ }
     ensures lists { λ r. ⌜ ((f : Function) → Valid f allowance → ListsFunction (now (words .entry)) (now (text .entry)) full (now (outer .entry)) f (reached s (now (out .entry))) (reached r (now (out .exit)))) ⌝ }
 {
     if allowance == 0 {
         return s;
     }
-    let source = own_source(words, text, outer, s.at);
+    let source = source_of(words, text, outer, s.at);
     let own = format_function(
         words,
         text,
@@ -104,7 +102,7 @@ pub fn list_function_recursive<'a>(
         full,
         out,
         begins,
-        known,
+        lines,
         s,
         allowance - 1,
     );
@@ -130,7 +128,7 @@ pub fn list_function_recursive<'a>(
             full,
             out,
             begins,
-            known,
+            lines,
             next,
             allowance - 1,
         );

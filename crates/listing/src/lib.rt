@@ -1,7 +1,6 @@
 // The listing of a store (listing.rs).
 pub mod code;
 pub mod function;
-pub mod known;
 
 use format::Written;
 use format::name_ok;
@@ -32,8 +31,8 @@ fn list_root<'a>(words: &[u32], text: &'a [u8], name: &'a [u8], full: bool, out:
         number: 1,
         out: 0,
     };
-    let mut begins = [0usize; 200];
-    let mut known = [0usize; 200];
+    let mut begins = [0usize; DEPTH as usize];
+    let mut lines = [0usize; DEPTH as usize];
     let end = list_function_recursive(
         words,
         text,
@@ -41,7 +40,7 @@ fn list_root<'a>(words: &[u32], text: &'a [u8], name: &'a [u8], full: bool, out:
         full,
         out,
         &mut begins,
-        &mut known,
+        &mut lines,
         start,
         DEPTH,
     );

@@ -1,5 +1,4 @@
 pub mod Records
-pub mod Steady
 pub mod Lookup
 pub mod LocalRow
 pub mod FillKinds

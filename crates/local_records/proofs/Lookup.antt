@@ -15,16 +15,17 @@ use Rattle.format.specs.Store.{word, _⊕_, string, pieces, list, ints, localPi
 use Rattle.format.specs.Stored.{part}
 use Rattle.format.specs.Undump.{over}
 use Rattle.format.specs.Dump.{writeRefused}
-use Rattle.format.specs.Valid.{Valid, ValidAll}
+use Rattle.format.specs.Valid.{depth, ValidAll}
 use Rattle.format.proofs.Stored.{here-left, here-part}
-use Rattle.proto.specs.Walk.{Stands, Skips, Past, toLines, toLocals}
+use Rattle.proto.specs.Walk.{Stands, Skips, Past, toLines, toLocals, StandsAt}
+use Rattle.proto.specs.Lists.{ListsFound}
+use Rattle.proto.specs.declared.lists.Lists.{Lists}
 use Rattle.proto.specs.Places.{placeRefusal}
 use Rattle.proto.proofs.Heres.{here-length, here-item, here-get}
 use Rattle.proto.proofs.Pieces.{same-sym, same-assoc, function-debug, stands-same, stands-left, stands-right, pieces-words}
-use Rattle.proto.proofs.Items.{StandsAt, list-count, locals-stand}
+use Rattle.proto.proofs.Steady.{locals-steady}
+use Rattle.proto.proofs.Items.{somewhere, list-count, locals-stand}
 use Rattle.proto.proofs.Sources.{On, place-on, on-answer, on-refused}
-use Rattle.symbexec.specs.Lists.{nested}
-use Rattle.symbexec.proofs.Children.{somewhere}
 use Rattle.debug_info.specs.declared.answer.Named.{Named}
 use Rattle.debug_info.specs.declared.name.Known.{Known}
 use Rattle.debug_info.specs.Names.{Object, nothing, local, activeLocal, getLocalName}
@@ -37,7 +38,6 @@ use Rattle.local_records.specs.declared.Locals.{Locals}
 use Rattle.local_records.specs.Records.{recordAt, recordsAt, filled, lookAt, after, activeIn}
 use Rattle.local_records.specs.Lookup.{localsOf, localsAt, LookupLeft, lookupLeft, withRecords, localNamedIn, noLocals, localsFor}
 use Rattle.local_records.proofs.Records.{records-length}
-use Rattle.local_records.proofs.Steady.{locals-steady}
 
 -- ---- what the records of locals lead to
 
@@ -85,12 +85,11 @@ module _ {words text : List ℕ} {place : ℕ} where
       record { behind = rw (e, locals-steady p fs .steady to 0); stand = somewhere (locals-stand p fs h w) }
 
   module _ (o : On words text place) where
-    pub walked-from : {r : ℕ} → ((p : Parts) (fs : Functions) → ValidAll fs nested → Past words (toLocals p fs) place r) → LocalsFrom words text place (o .function .function) r
-    unfolding Valid
-    walked-from {r} w = of-function o (λ f. LocalsFrom words text place f r) (λ p fs to v h. locals-from p fs h (w p fs (v .2)))
+    pub walked-from : {s : Lists} → ((p : Parts) (fs : Functions) → ValidAll fs depth → ListsFound words place p fs s) → LocalsFrom words text place (o .function .function) (s .locals)
+    walked-from {s} w = of-function o (λ f. LocalsFrom words text place f (s .locals)) (λ p fs u v h. locals-from p fs (h .stands) (w p fs v .locals))
 
     pub locals-there : LocalsFrom words text place (o .function .function) (toList place (o .function .function))
-    locals-there = of-function o (λ f. LocalsFrom words text place f (toList place f)) (λ p fs to v h. locals-from p fs h (record { past = λ to g. ap (λ (k : ℕ). place + k) (locals-steady p fs .steady 0 to) }))
+    locals-there = of-function o (λ f. LocalsFrom words text place f (toList place f)) (λ p fs u v h. locals-from p fs (h .stands) (record { past = λ to g. ap (λ (k : ℕ). place + k) (locals-steady p fs .steady 0 to) }))
 
     -- so their records lead to what they do
     pub locals-lead : {at m : ℕ} (n pc : ℕ) → at ≡ localsAt place (o .function .function) → m ≡ length (localsOf (o .function .function))
@@ -113,11 +112,11 @@ module _ (words text : List ℕ) (place n pc records space : ℕ) {z : ℕ} (e :
   unfolding localsFor
   for-refused h = place-refused noLocals choose words text place e h
 
-  module _ (h : z ≤ 0) {r m : ℕ} (w : (p : Parts) (fs : Functions) → ValidAll fs nested → Past words (toLocals p fs) place r) (c : m ≡ getD words r 0) where
+  module _ (h : z ≤ 0) (lists : Lists) {m : ℕ} (w : (p : Parts) (fs : Functions) → ValidAll fs depth → ListsFound words place p fs lists) (c : m ≡ getD words (lists .locals) 0) where
     abbrev o : On words text place
     o = place-on words text place (omega arith)
 
-    from : LocalsFrom words text place (o .function .function) r
+    from : LocalsFrom words text place (o .function .function) (lists .locals)
     from = walked-from o w
 
     counted : m ≡ length (localsOf (o .function .function))
@@ -131,7 +130,7 @@ module _ (words text : List ℕ) (place n pc records space : ℕ) {z : ℕ} (e :
     pub for-8 : records < m → noLocals 8 ≡ localsFor words text place n pc records space
     for-8 k = sym (chosen ∙ rw (lt-leb (length (localsOf (o .function .function))) records (omega (arith, counted))))
 
-    module _ (k : m ≤ records) (s : space < far) (v : Known) (a : (text : List ℕ) (l : List Local) → StandsAt words text r (list localPiece l) → objectOf text v ≡ activeLocal l n pc) {x : ℕ} (p : Puts (nameOf text (v .name)) 0 [] x []) where
+    module _ (k : m ≤ records) (s : space < far) (v : Known) (a : (text : List ℕ) (l : List Local) → StandsAt words text (lists .locals) (list localPiece l) → objectOf text v ≡ activeLocal l n pc) {x : ℕ} (p : Puts (nameOf text (v .name)) 0 [] x []) where
       name-len : x ≡ min (length (activeLocal (localsOf (o .function .function)) n pc .name)) far
       name-len =
           let i : nameOf text (v .name) ≡ activeLocal (localsOf (o .function .function)) n pc .name = ap (λ (y : Object). y .name) (a text (localsOf (o .function .function)) (from .stand)) in
@@ -143,7 +142,7 @@ module _ (words text : List ℕ) (place n pc records space : ℕ) {z : ℕ} (e :
           let q = lt-leb (length (activeLocal (localsOf (o .function .function)) n pc .name)) space (omega (arith, name-len)) in
           sym (chosen ∙ rw (le-leb (length (localsOf (o .function .function))) records (omega (arith, counted)), q))
 
-      pub for-0 : {at : ℕ} → x ≤ space → Skips words 1 r at → record { refusal = 0; at = at; count = m } ≡ localsFor words text place n pc records space
+      pub for-0 : {at : ℕ} → x ≤ space → Skips words 1 (lists .locals) at → record { refusal = 0; at = at; count = m } ≡ localsFor words text place n pc records space
       for-0 {at} l j =
           let q = le-leb (length (activeLocal (localsOf (o .function .function)) n pc .name)) space (omega (arith, name-len)) in
           let d : at ≡ localsAt place (o .function .function) = j .skips (length (localsOf (o .function .function)) ∷ []) refl (here-left (length (localsOf (o .function .function)) ∷ []) _ (from .stand .stands .in-words)) ∙ from .behind in

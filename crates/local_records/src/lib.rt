@@ -6,8 +6,8 @@ use debug_info::give;
 use debug_info::list::active_local;
 use debug_info::name::Known;
 use debug_info::name::name_len;
+use proto::lists::lists_at;
 use proto::place::place_refusal;
-use proto::walk::locals_at;
 use proto::walk::skip;
 use proto::walk::word_at;
 use record::LocalRecord;
@@ -16,7 +16,6 @@ use record::look;
 use record::nothing;
 use record::record_at;
 use record::text_name;
-use symbexec::lists::NESTED;
 ghost use mathlib.Core.Path.{_≡_};
 ghost use Prim.Native.Nat.{_+_, _*_, _<_, _≤_};
 ghost use lib.ListN.{length, take};
@@ -62,7 +61,7 @@ fn locals_for(
     if 0 < refusal {
         return no_locals(refusal);
     }
-    let locals = locals_at(words, place, NESTED);
+    let locals = lists_at(words, place).locals;
     let count = word_at(words, locals) as usize;
     if records < count {
         return no_locals(8);

@@ -10,11 +10,11 @@ use Rattle.lent.proofs.Writes.{put-then}
 use Rattle.format.specs.Tree.{Constant as Value}
 use Rattle.format.specs.Store.{Piece, word, string, pieces, list, ints, constantPiece}
 use Rattle.proto.specs.declared.constant.Constant.{Constant}
-use Rattle.proto.specs.Walk.{Stands, item, Skips}
+use Rattle.proto.specs.Walk.{Stands, item, Skips, StandsAt}
 use Rattle.proto.specs.Constants.{valueOf}
 use Rattle.proto.proofs.Heres.{here-get}
 use Rattle.proto.proofs.Pieces.{Same, stands-same}
-use Rattle.proto.proofs.Items.{StandsAt, list-count, list-item}
+use Rattle.proto.proofs.Items.{item-past, item-there, ints-list, list-count, list-item}
 use Rattle.operands.specs.Shown.{Shows}
 use Rattle.instructions.specs.OpCodes.{opModes}
 use Rattle.instructions.specs.declared.OpModes.{OpModes}
@@ -24,39 +24,6 @@ use Rattle.proto.specs.declared.constant.Constant.the-variants.{Nil, Bool as Tr
 use mathlib.Core.Logic.{⊎-elim}
 use types.Run.{OneOf}
 use denote.Enum.Declared.{tagOf}
-
--- ---- items of a list
-
-pub item-past : {A : Type 0} (l : List A) (i : ℕ) → length l ≤ i → item l i ≡ none
-unfolding item
-item-past [] i h = refl
-item-past (a ∷ l) zero h = absurd (omega arith)
-item-past (a ∷ l) (suc i) h = item-past l i (omega arith)
-
--- there is an item i
-pub record Item {A : Type 0} (l : List A) (i : ℕ) : Type 0 where
-  pub value : A
-  pub is : item l i ≡ some value
-
-pub item-there : {A : Type 0} (l : List A) (i : ℕ) → i < length l → Item l i
-unfolding item
-item-there [] i h = absurd (omega arith)
-item-there (a ∷ l) zero h = record { value = a; is = refl }
-item-there (a ∷ l) (suc i) h = let x = item-there l i (omega arith) in record { value = x .value; is = x .is }
-
--- words after their count are a list of pieces of a word
-word-pieces : (l : List ℕ) (to : ℕ) → pieces word l .words to ≡ l
-unfolding pieces
-word-pieces [] to = refl
-word-pieces (a ∷ l) to = rw (word-pieces l (to + 0))
-
-word-text : (l : List ℕ) → pieces word l .text ≡ []
-unfolding pieces
-word-text [] = refl
-word-text (a ∷ l) = word-text l
-
-pub ints-list : (l : List ℕ) → Same (ints l) (list word l)
-ints-list l = record { words = λ to. ap (λ (m : List ℕ). length l ∷ m) (sym (word-pieces l (to + 0))); text = sym (word-text l) }
 
 module _ {A : Type 0} {words text : List ℕ} {place at at′ : ℕ} {out out′ : List ℕ} where
   module _ {piece : A → Piece} where

@@ -3,7 +3,7 @@ use Prim.Native.Nat.{ℕ}
 use mathlib.Core.List.{List}
 use Rattle.lent.specs.Memory.{Puts}
 use Rattle.format.specs.Store.{Piece}
-use Rattle.proto.proofs.Items.{StandsAt}
+use Rattle.proto.specs.Walk.{StandsAt}
 
 -- whatever stands at a place of the words, its text is written
 pub record Shows {A : Type 0} (words text : List ℕ) (place : ℕ) (piece : A → Piece) (say : A → List ℕ) (at : ℕ) (out : List ℕ) (at′ : ℕ) (out′ : List ℕ) : Type 0 where

@@ -1,6 +1,6 @@
 -- What stands at the places that walking finds: the lists of a function, their counts, their items, strings and constants.
 use Prim.Native.Nat.{ℕ, zero, suc, _+_, _-_, _*_, _/_, _%_, _≤_, _<_, min}
-use mathlib.Core.Path.{_≡_, refl, ap, _∙_}
+use mathlib.Core.Path.{_≡_, refl, sym, ap, _∙_}
 use mathlib.Core.List.{List, [], _∷_}
 use mathlib.Core.Bool.{true, false, not}
 use mathlib.Core.Option.{none, some}
@@ -16,7 +16,7 @@ use Rattle.format.specs.Stored.{part, Here}
 use Rattle.format.specs.Valid.{ValidParts, Valid, ValidAll}
 use Rattle.format.proofs.Stored.{here-left, here-right, here-part}
 use Rattle.proto.specs.declared.walk.Next.{Next}
-use Rattle.proto.specs.Walk.{Stands, item, Skips, Past, totalAll, totalBefore, Passes, children, childrenPiece, toCode, toConstants, toFunctions, toChild, toLines, toLocals, toUpvalues}
+use Rattle.proto.specs.Walk.{Stands, StandsAt, item, Skips, Past, childrenPiece, toCode, toConstants, toFunctions, toLines, toLocals, toUpvalues}
 use Rattle.proto.specs.Head.{headOf}
 use Rattle.proto.proofs.Heres.{here-length, here-get, here-item, here-front, part-clamped}
 use Rattle.proto.proofs.Pieces.{Same, same-sym, same-trans, same-behind, same-assoc, function-debug, stands-same, stands-left, stands-right, source-words, constant-words, pieces-words}
@@ -28,18 +28,18 @@ module _ {words text : List ℕ} {at to : ℕ} (p : Parts) (fs : Functions) (h :
   lines : Stands words text at to (toLines p fs ⊕ debugPiece (p .debug))
   lines = stands-same (function-debug p fs) h
 
-  front : Stands words text at to (toFunctions p ⊕ childrenPiece fs)
+  front : Stands words text at to (toFunctions p fs ⊕ childrenPiece fs)
   front = stands-left (toLines p fs) (debugPiece (p .debug)) lines
 
-  pub code-stands : {r : ℕ} → Past words (toCode p) at r → Stands words text r (to + length (toCode p .text)) (ints (p .code))
+  pub code-stands : {r : ℕ} → Past words (toCode p fs) at r → Stands words text r (to + length (toCode p fs .text)) (ints (p .code))
   code-stands w =
-      past-stands {p = toCode p} {q = ints (p .code)} w (stands-left (toConstants p) (list constantPiece (p .constants)) (stands-left (toFunctions p) (childrenPiece fs) front))
+      past-stands {p = toCode p fs} {q = ints (p .code)} w (stands-left (toConstants p fs) (list constantPiece (p .constants)) (stands-left (toFunctions p fs) (childrenPiece fs) front))
 
-  pub constants-stand : {r : ℕ} → Past words (toConstants p) at r → Stands words text r (to + length (toConstants p .text)) (list constantPiece (p .constants))
-  constants-stand w = past-stands {p = toConstants p} {q = list constantPiece (p .constants)} w (stands-left (toFunctions p) (childrenPiece fs) front)
+  pub constants-stand : {r : ℕ} → Past words (toConstants p fs) at r → Stands words text r (to + length (toConstants p fs .text)) (list constantPiece (p .constants))
+  constants-stand w = past-stands {p = toConstants p fs} {q = list constantPiece (p .constants)} w (stands-left (toFunctions p fs) (childrenPiece fs) front)
 
-  pub functions-stand : {r : ℕ} → Past words (toFunctions p) at r → Stands words text r (to + length (toFunctions p .text)) (childrenPiece fs)
-  functions-stand w = past-stands {p = toFunctions p} {q = childrenPiece fs} w front
+  pub functions-stand : {r : ℕ} → Past words (toFunctions p fs) at r → Stands words text r (to + length (toFunctions p fs .text)) (childrenPiece fs)
+  functions-stand w = past-stands {p = toFunctions p fs} {q = childrenPiece fs} w front
 
   pub lines-stand : {r : ℕ} → Past words (toLines p fs) at r → Stands words text r (to + length (toLines p fs .text)) (ints (p .debug .lines))
   lines-stand w = stands-left (ints (p .debug .lines)) (list localPiece (p .debug .locals) ⊕ list string (p .debug .upvalues)) (past-stands {p = toLines p fs} {q = debugPiece (p .debug)} w lines)
@@ -57,13 +57,48 @@ module _ {words text : List ℕ} {at to : ℕ} (p : Parts) (fs : Functions) (h :
       past-stands {p = toUpvalues p fs} {q = list string (p .debug .upvalues)} w
       (stands-same (same-sym (same-assoc (toLocals p fs) (list localPiece (p .debug .locals)) (list string (p .debug .upvalues)))) names)
 
-  pub debug-stands : {r : ℕ} → Past words (toLines p fs) at r → Stands words text r (to + length (toLines p fs .text)) (debugPiece (p .debug))
-  debug-stands w = past-stands {p = toLines p fs} {q = debugPiece (p .debug)} w lines
+  -- its head stands where it begins, and so does its source
+  pub head-stands : Stands words text at to (toCode p fs)
+  head-stands = stands-left (toCode p fs) (ints (p .code)) (stands-left (toConstants p fs) (list constantPiece (p .constants)) (stands-left (toFunctions p fs) (childrenPiece fs) front))
 
--- a piece stands at a place of the words, its text somewhere
-pub record StandsAt (words text : List ℕ) (at : ℕ) (p : Piece) : Type 0 where
-  pub to : ℕ
-  pub stands : Stands words text at to p
+  pub source-stands : Stands words text at to (sourcePiece (p .source))
+  source-stands = stands-left (sourcePiece (p .source)) (word (p .lineDefined) ⊕ word (p .lastLineDefined) ⊕ word (packed p)) head-stands
+
+pub somewhere : {words text : List ℕ} {at to : ℕ} {p : Piece} → Stands words text at to p → StandsAt words text at p
+somewhere h = record { to = _; stands = h }
+
+-- ---- items of a list
+
+pub item-past : {A : Type 0} (l : List A) (i : ℕ) → length l ≤ i → item l i ≡ none
+unfolding item
+item-past [] i h = refl
+item-past (a ∷ l) zero h = absurd (omega arith)
+item-past (a ∷ l) (suc i) h = item-past l i (omega arith)
+
+-- there is an item i
+pub record Item {A : Type 0} (l : List A) (i : ℕ) : Type 0 where
+  pub value : A
+  pub is : item l i ≡ some value
+
+pub item-there : {A : Type 0} (l : List A) (i : ℕ) → i < length l → Item l i
+unfolding item
+item-there [] i h = absurd (omega arith)
+item-there (a ∷ l) zero h = record { value = a; is = refl }
+item-there (a ∷ l) (suc i) h = let x = item-there l i (omega arith) in record { value = x .value; is = x .is }
+
+-- words after their count are a list of pieces of a word
+word-pieces : (l : List ℕ) (to : ℕ) → pieces word l .words to ≡ l
+unfolding pieces
+word-pieces [] to = refl
+word-pieces (a ∷ l) to = rw (word-pieces l (to + 0))
+
+word-text : (l : List ℕ) → pieces word l .text ≡ []
+unfolding pieces
+word-text [] = refl
+word-text (a ∷ l) = word-text l
+
+pub ints-list : (l : List ℕ) → Same (ints l) (list word l)
+ints-list l = record { words = λ to. ap (λ (m : List ℕ). length l ∷ m) (sym (word-pieces l (to + 0))); text = sym (word-text l) }
 
 module _ {words text : List ℕ} where
   module _ {at to : ℕ} where
@@ -175,68 +210,21 @@ module _ {words : List ℕ} {at x a y b z : ℕ} (e : x ≡ getD words at 0) (f 
   constant-str n₀ n₁ n₃ (Value.num high low) text to h = absurd (n₃ (three-words (h .in-words) .0))
   constant-str n₀ n₁ n₃ (Value.str s) text to h = let t = three-words (h .in-words) in rw (t .1, t .2, add-zero to) (ap Value.str (here-part s (h .in-text)))
 
--- ---- the functions in a function
-
--- those before child i, the child, and those behind it
-record Split (fs : Functions) (i : ℕ) (f : Function) : Type 0 where
-  before : Functions
-  behind : Functions
-  many : count before ≡ i
-  number : totalAll before ≡ totalBefore fs i
-  pieces : Same (functionPieces fs) (functionPieces before ⊕ functionPiece f ⊕ functionPieces behind)
-  valid : (n : ℕ) → ValidAll fs n → ValidAll before n × Valid f n
-
-split : (fs : Functions) (i : ℕ) (f : Function) → item (children fs) i ≡ some f → Split fs i f
-unfolding item children count totalAll totalBefore functionPieces ValidAll
-split Functions.none i f e = let z : _≡_ {A = ℕ} 0 1 = cc in absurd (omega arith)
-split (Functions.more g fs) zero f e =
-    let q : g ≡ f = cc in
-    rw (← q) (record { before = Functions.none; behind = fs; many = refl; number = refl; pieces = record { words = λ to. rw add-zero; text = refl }; valid = λ n v. (tt, v .0) })
-split (Functions.more g fs) (suc i) f e =
-    let s = split fs i f e in
-    record {
-      before = Functions.more g (s .before);
-      behind = s .behind;
-      many = ap suc (s .many);
-      number = rw (s .number);
-      pieces = same-trans (same-behind (functionPiece g) (s .pieces)) (same-sym (same-assoc (functionPiece g) (functionPieces (s .before)) (functionPiece f ⊕ functionPieces (s .behind))));
-      valid = λ n v. let w = s .valid n (v .1) in ((v .0, w .0), w .1);
-    }
-
--- child i begins where child_at says, and has the number that it says
-pub child-stands : {words text : List ℕ} {to : ℕ} {s r : Next} (p : Parts) (fs : Functions) (allowance i : ℕ) (f : Function) → ValidAll fs allowance → item (children fs) i ≡ some f
-    → Stands words text (s .at) to (functionPiece (Function.function p fs))
-    → ((p : Parts) (n : ℕ) (gs : Functions) → ValidAll gs allowance → count gs ≡ i → Passes words (toChild p n gs) (suc (totalAll gs)) s r)
-    → StandsAt words text (r .at) (functionPiece f) × Valid f allowance × (s .number ≤ far → r .number ≡ min (s .number + suc (totalBefore fs i)) far)
-child-stands {words} {text} {s = s} {r = r} p fs allowance i f v e h w =
-    let x = split fs i f e in
-    let y = x .valid allowance v in
-    let a = toFunctions p in
-    let k = word (count fs) in
-    let b = functionPieces (x .before) in
-    let c = functionPiece f ⊕ functionPieces (x .behind) in
-    let g : Same (a ⊕ k ⊕ functionPieces fs) ((a ⊕ k ⊕ b) ⊕ c) =
-    same-trans (same-behind a (same-behind k (x .pieces))) (same-trans (same-behind a (same-sym (same-assoc k b c))) (same-sym (same-assoc a (k ⊕ b) c))) in
-    let t = stands-same g (stands-left (toLines p fs) (debugPiece (p .debug)) (stands-same (function-debug p fs) h)) in
-    let q = w p (count fs) (x .before) (y .0) (x .many) in (
-      record { to = _; stands = stands-left (functionPiece f) (functionPieces (x .behind)) (past-stands {p = toChild p (count fs) (x .before)} {q = c} (passes-past q) t) },
-      y .1,
-      rw (x .number) at (q .passes _ (stands-left (toChild p (count fs) (x .before)) c t .in-words) .1),
-    )
-
 -- ---- the head of a function
 
 -- behind the source stand three words
-head-words : {words : List ℕ} {at : ℕ} (p : Parts) (to : ℕ) → Here words at (toCode p .words to) → Here words (at + 3) (p .lineDefined ∷ p .lastLineDefined ∷ packed p ∷ [])
-head-words p to h = rw (source-words (p .source) to) at (here-right (sourcePiece (p .source) .words to) (p .lineDefined ∷ p .lastLineDefined ∷ packed p ∷ []) h)
+head-words : {words : List ℕ} {at : ℕ} (p : Parts) (fs : Functions) (to : ℕ) → Here words at (toCode p fs .words to) → Here words (at + 3) (p .lineDefined ∷ p .lastLineDefined ∷ packed p ∷ [])
+head-words p fs to h = rw (source-words (p .source) to) at (here-right (sourcePiece (p .source) .words to) (p .lineDefined ∷ p .lastLineDefined ∷ packed p ∷ []) h)
 
 pub head-here : {words : List ℕ} {at a b c x y z : ℕ} → Skips words 3 at a → x ≡ getD words a 0 → Skips words 4 at b → y ≡ getD words b 0 → Skips words 5 at c → z ≡ getD words c 0
-    → (p : Parts) (to : ℕ) → ValidParts p → Here words at (toCode p .words to)
+    → (p : Parts) (fs : Functions) (t : List ℕ) → ValidParts p → StandsAt words t at (functionPiece (Function.function p fs))
     → record { «line_defined» = x; «last_line_defined» = y; «num_upvalues» = z / 16777216; «num_params» = z / 65536 % 256; «is_vararg» = z / 256 % 256; «max_stack_size» = z % 256 } ≡ headOf p
-head-here {words} {at} {a} {b} {c} {x} {y} {z} f i g j k l p to v h =
-    let w = toCode p .words to in
+head-here {words} {at} {a} {b} {c} {x} {y} {z} f i g j k l p fs t v stands =
+    let to = stands .to in
+    let h = head-stands p fs (stands .stands) .in-words in
+    let w = toCode p fs .words to in
     let n : length w ≡ 6 = length-append (sourcePiece (p .source) .words to) _ ∙ rw (source-words (p .source) to) in
-    let t = head-words p to h in
+    let t = head-words p fs to h in
     let skipped : (m r : ℕ) → m ≤ 6 → Skips words m at r → r ≡ at + m = λ m r q s. s .skips (take m w) (length-take-le m w (omega arith)) (here-front m w h) in
     let e : x ≡ p .lineDefined = i ∙ rw (skipped 3 a (omega arith) f) (here-get _ _ t) in
     let d : b ≡ at + 3 + 1 = omega (arith, skipped 4 b (omega arith) g) in

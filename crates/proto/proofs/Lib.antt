@@ -7,4 +7,7 @@ pub mod Stores
 pub mod Places
 pub mod Sources
 pub mod Items
+pub mod ListPlaces
+pub mod Children
+pub mod Steady
 pub mod Calls

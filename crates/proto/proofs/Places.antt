@@ -123,20 +123,20 @@ module _ {words : List ℕ} (place : ℕ) {at : ℕ} {around own : Span} (s : (s
   unfolding placed beginsAt
   search-here e o i (Function.function p fs) = record { seeks = λ to bytes h. rw (eq-eqb place at e) (o, i ∙ own-here s p fs to h) }
 
-  module _ {a q n m : ℕ} {r : Sought} (z : place ≡ at → ⊥) (w : (p : Parts) → Past words (toFunctions p) at a) (e : n ≡ getD words a 0) (k : Skips words 1 a q) (all : SearchAll words place own m n q r) where
+  module _ {a q n m : ℕ} {r : Sought} (z : place ≡ at → ⊥) (w : (p : Parts) (fs : Functions) → Past words (toFunctions p fs) at a) (e : n ≡ getD words a 0) (k : Skips words 1 a q) (all : SearchAll words place own m n q r) where
     inside : (p : Parts) (fs : Functions) (to : ℕ) (bytes : List ℕ) → ValidAll fs m → Here words at (functionPiece (Function.function p fs) .words to)
         → Seeks (beginsAt place (placed (Function.function p fs) at to (record { bytes = bytes; span = around }))) (at + length (toLines p fs .words to)) r
     unfolding placed beginsAt
     inside p fs to bytes v h =
-        let to′ = to + length (toFunctions p .text) in
+        let to′ = to + length (toFunctions p fs .text) in
         let l : Here words at (toLines p fs .words to) = here-left (toLines p fs .words to) _ (rw (function-debug p fs .words to) at h) in
-        let d : a ≡ at + length (toFunctions p .words to) = w p .past to (here-left (toFunctions p .words to) _ l) in
-        let i : Here words a (childrenPiece fs .words to′) = rw d (here-right (toFunctions p .words to) _ l) in
+        let d : a ≡ at + length (toFunctions p fs .words to) = w p fs .past to (here-left (toFunctions p fs .words to) _ l) in
+        let i : Here words a (childrenPiece fs .words to′) = rw d (here-right (toFunctions p fs .words to) _ l) in
         let c : count fs ≡ n = sym (here-get (count fs) _ i) ∙ sym e in
         let j : q ≡ a + 1 = k .skips (count fs ∷ []) refl (here-left (count fs ∷ []) _ i) in
         let g : Here words q (functionPieces fs .words to′) = rw (j, ← add-zero to′) (here-right (count fs ∷ []) _ i) in
         let b : at + length (toLines p fs .words to) ≡ q + length (functionPieces fs .words to′) =
-        rw (j, d, length-append (toFunctions p .words to) (childrenPiece fs .words to′), add-zero to′) (omega arith) in
+        rw (j, d, length-append (toFunctions p fs .words to) (childrenPiece fs .words to′), add-zero to′) (omega arith) in
         rw (ne-eqb place at z, b, ← d, ← j, ← own-here s p fs to h) (all .seeks fs to′ (filled bytes (p .source)) v c g)
 
     -- it is in it

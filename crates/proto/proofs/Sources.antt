@@ -23,10 +23,11 @@ use Rattle.proto.specs.declared.place.SourceAt.{SourceAt}
 use Rattle.proto.specs.Walk.{Stands, toFunctions, toLines, childrenPiece}
 use Rattle.proto.specs.Formed.{isHeld}
 use Rattle.proto.specs.Places.{Filled, filledIn, named, Placed, placed, placedAll, beginsAt, functionAt, Seeks, Search, onTree, onFunction, onPlace, placeRefusal, noSource, spanAnswer, sourceAnswer, sourcePart}
-use Rattle.proto.proofs.Heres.{whole-here}
 use Rattle.proto.proofs.Pieces.{function-debug, stands-same, stands-left, stands-right}
 use Rattle.proto.proofs.Checks.{never}
 use Rattle.proto.proofs.Stores.{held-tree, no-tree}
+use Rattle.proto.proofs.Items.{source-stands}
+use Rattle.proto.proofs.Calls.{root-stands}
 
 -- ---- what stands in a store
 
@@ -68,16 +69,12 @@ module _ {words text : List ℕ} (name : List ℕ) where
       let e : to + length s - to ≡ length s = omega arith in
       record { ordered = omega arith; is = rw e (here-part s (h .in-text)) }
 
--- where a function stands, its source stands, and the functions in it
-pub stands-source : {words text : List ℕ} {at to : ℕ} (p : Parts) (fs : Functions) → Stands words text at to (functionPiece (Function.function p fs)) → Stands words text at to (sourcePiece (p .source))
-unfolding functionPiece
-stands-source {to = to} p fs h = record { in-words = here-left (sourcePiece (p .source) .words to) _ (h .in-words); in-text = here-left (sourcePiece (p .source) .text) _ (h .in-text) }
-
+-- where a function stands, the functions in it stand
 pub stands-children : {words text : List ℕ} {at to : ℕ} (p : Parts) (fs : Functions) → Stands words text at to (functionPiece (Function.function p fs))
-    → Stands words text (at + length (toFunctions p .words to) + 1) (to + length (toFunctions p .text)) (functionPieces fs)
+    → Stands words text (at + length (toFunctions p fs .words to) + 1) (to + length (toFunctions p fs .text)) (functionPieces fs)
 stands-children {words} {text} {at} {to} p fs h =
-    let l = stands-right (toFunctions p) (childrenPiece fs) (stands-left (toLines p fs) (debugPiece (p .debug)) (stands-same (function-debug p fs) h)) in
-    rw (← add-zero (to + length (toFunctions p .text))) (stands-right (word (count fs)) (functionPieces fs) l)
+    let l = stands-right (toFunctions p fs) (childrenPiece fs) (stands-left (toLines p fs) (debugPiece (p .debug)) (stands-same (function-debug p fs) h)) in
+    rw (← add-zero (to + length (toFunctions p fs .text))) (stands-right (word (count fs)) (functionPieces fs) l)
 
 module _ {words text : List ℕ} (name : List ℕ) (allowance : ℕ) where
   mutual
@@ -87,7 +84,7 @@ module _ {words text : List ℕ} (name : List ℕ) (allowance : ℕ) where
         → Stands words text at to (functionPiece f) → Sourced text name around → Every (StandsIn words text name allowance) (placed f at to around)
     placed-stands (Function.function p fs) zero at to around v up h k = absurd v
     placed-stands (Function.function p fs) (suc n) at to around v up h k =
-        let j = filled-sourced name (p .source) (stands-source p fs h) k in (
+        let j = filled-sourced name (p .source) (source-stands p fs h) k in (
           record { to = to; stands = h; valid = up (Function.function p fs) v; sourced = j },
           all-stand fs n _ _ _ (v .2) (λ g w. up g (valid-suc g n w)) (stands-children p fs h) j,
         )
@@ -111,20 +108,17 @@ begins-every P place (y ∷ l) x h e = by (λ d. begins-every P place l x (h .1)
         (rw s at (h .0), rw (← s) (sym (eqb-true place (y .place) e)))
     by i false e d = i d
 
-root-stands : {words text : List ℕ} (f : Function) → Holds words text f → Stands words text 0 0 (functionPiece f)
-root-stands {words} {text} f h = record { in-words = whole-here (wordsOf f) words (h .words-are); in-text = whole-here (textOf f) text (h .text-is) }
-
 -- ==== the statement: where functionAt finds a function, it stands there
 
 pub function-stands : {words text : List ℕ} (name : List ℕ) {f : Function} (place : ℕ) (x : Placed) → Holds words text f → functionAt f name place ≡ some x → StandsIn words text name depth x × (x .place ≡ place)
 function-stands name {f} place x h e =
-    begins-every _ place (placed f 0 0 (named name)) x (placed-stands name depth f depth 0 0 (named name) (h .valid) (λ g v. v) (root-stands f h) (named-sourced name)) e
+    begins-every _ place (placed f 0 0 (named name)) x (placed-stands name depth f depth 0 0 (named name) (h .valid) (λ g v. v) (root-stands h) (named-sourced name)) e
 
 -- ---- the calls
 
 -- the search from the root
 root-seeks : {words text : List ℕ} {place : ℕ} {r : Sought} (name : List ℕ) (f : Function) → Holds words text f → Search words place (named name .span) f 0 r → Seeks (functionAt f name place) (0 + length (wordsOf f)) r
-root-seeks name f h s = s .seeks 0 name (root-stands f h .in-words)
+root-seeks name f h s = s .seeks 0 name (root-stands h .in-words)
 
 -- where the search finds none, and where it finds one
 not-sought : (P : Option Placed → Type 0) (x : Option Placed) (end : ℕ) (r : Sought) → Seeks x end r → r .found ≡ false → P none → P x

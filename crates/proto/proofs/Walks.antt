@@ -11,14 +11,11 @@ use Rattle.format.specs.Store.{Piece, plain, word, _⊕_, string, pieces, list,
 use Rattle.format.specs.Valid.{Valid, ValidAll}
 use Rattle.format.specs.Stored.{Here}
 use Rattle.format.proofs.Stored.{here-left, here-right}
-use Rattle.proto.specs.Walk.{Stands, Skips, SkipsItems, Past, total, totalAll, Passes, toCode, toFunctions, toChild, toLines, childrenPiece}
+use Rattle.proto.specs.Walk.{Stands, Skips, SkipsItems, Past, total, totalAll, Passes, PassesAll, toCode, toFunctions, toLines, childrenPiece}
+use Rattle.proto.specs.Lists.{WalksToLines}
 use Rattle.proto.specs.declared.walk.Next.{Next}
 use Rattle.proto.proofs.Heres.{here-get}
 use Rattle.proto.proofs.Pieces.{Same, same-sym, same-assoc, function-debug, stands-left, stands-right, source-words, constant-words, pieces-words}
-
--- r is behind n functions, whichever they are, so many before that
-pub record PassesAll (words : List ℕ) (allowance n : ℕ) (s r : Next) : Type 0 where
-  pub all : (fs : Functions) → ValidAll fs allowance → count fs ≡ n → Passes words (functionPieces fs) (totalAll fs) s r
 
 module _ {words : List ℕ} where
   pub past-none : {at : ℕ} → Past words (plain []) at at
@@ -66,8 +63,8 @@ module _ {words : List ℕ} where
             s .skips (length l) (pieces piece l .words (to + 0)) n h ∙ omega arith;
       }
 
-  pub past-head : {at r : ℕ} (p : Parts) → Skips words 6 at r → Past words (toCode p) at r
-  past-head p s = past-words 6 (toCode p) (λ to. length-append (sourcePiece (p .source) .words to) _ ∙ rw (source-words (p .source) to)) s
+  pub past-head : {at r : ℕ} (p : Parts) (fs : Functions) → Skips words 6 at r → Past words (toCode p fs) at r
+  past-head p fs s = past-words 6 (toCode p fs) (λ to. length-append (sourcePiece (p .source) .words to) _ ∙ rw (source-words (p .source) to)) s
 
   pub past-constants : {at r : ℕ} (l : List Constant) → SkipsItems words 3 at r → Past words (list constantPiece l) at r
   past-constants l s = past-list constantPiece 3 constant-words l s
@@ -116,29 +113,23 @@ module _ {words : List ℕ} where
       go Functions.none v e = absurd (omega arith)
       go (Functions.more f fs) v e = passes-then (w f (v .0)) (a .all fs (v .1) (omega arith))
 
-  -- past the head, the count and i functions
-  pub passes-child : {allowance i a : ℕ} {s m r : Next} → ((p : Parts) → Past words (toFunctions p) (s .at) a) → Skips words 1 a (m .at) → m .number ≡ min (s .number + 1) far → PassesAll words allowance i m r
-      → (p : Parts) (n : ℕ) (fs : Functions) → ValidAll fs allowance → count fs ≡ i → Passes words (toChild p n fs) (suc (totalAll fs)) s r
-  passes-child {s = s} {m = m} w k e all p n fs v c =
-      let x : Passes words (toFunctions p ⊕ word n) 1 s m = past-passes (past-then (w p) (past-word n k)) (λ h. e) in
-      passes-same (same-assoc (toFunctions p) (word n) (functionPieces fs)) (omega arith) (passes-then x (all .all fs v c))
-
-  -- past all functions in it
-  pub passes-children : (allowance : ℕ) {i a : ℕ} {s r : Next} → i ≡ getD words a 0 → ((p : Parts) → Past words (toFunctions p) (s .at) a)
-      → ((p : Parts) (n : ℕ) (fs : Functions) → ValidAll fs allowance → count fs ≡ i → Passes words (toChild p n fs) (suc (totalAll fs)) s r)
-      → (p : Parts) (fs : Functions) → ValidAll fs allowance → Passes words (toLines p fs) (suc (totalAll fs)) s r
-  passes-children allowance {a = a} e w child p fs v =
+  -- past all functions in a function, as many as the count says
+  pub passes-lines : {allowance i a : ℕ} {s m r : Next} → i ≡ getD words a 0 → ((p : Parts) (fs : Functions) → Past words (toFunctions p fs) (s .at) a) → Skips words 1 a (m .at)
+      → m .number ≡ min (s .number + 1) far → PassesAll words allowance i m r → WalksToLines words allowance s r
+  passes-lines {a = a} {s = s} {m = m} e w k g all p fs v =
+      let head : Passes words (toFunctions p fs ⊕ word (count fs)) 1 s m = past-passes (past-then (w p fs) (past-word (count fs) k)) (λ h. g) in
       record {
         passes = λ to h.
-            let d : a ≡ _ = w p .past to (here-left (toFunctions p .words to) _ h) in
-            let i : Here words a (childrenPiece fs .words (to + length (toFunctions p .text))) = rw d (here-right (toFunctions p .words to) _ h) in
-            child p (count fs) fs v (sym (here-get (count fs) _ i) ∙ sym e) .passes to h;
+            let d : a ≡ _ = w p fs .past to (here-left (toFunctions p fs .words to) _ h) in
+            let i : Here words a (childrenPiece fs .words (to + length (toFunctions p fs .text))) = rw d (here-right (toFunctions p fs .words to) _ h) in
+            let c = sym (here-get (count fs) _ i) ∙ sym e in
+            passes-same {b = suc (totalAll fs)} (same-assoc (toFunctions p fs) (word (count fs)) (functionPieces fs)) (omega arith) (passes-then head (all .all fs v c)) .passes to h;
       }
 
   pub past-debug : {at a b r : ℕ} (d : Debug) → SkipsItems words 1 at a → SkipsItems words 4 a b → SkipsItems words 2 b r → Past words (debugPiece d) at r
   past-debug d s t u = past-then (past-ints (d .lines) s) (past-then (past-locals (d .locals) t) (past-names (d .upvalues) u))
 
-  pub passes-function : (n : ℕ) {s m r : Next} → ((p : Parts) (fs : Functions) → ValidAll fs n → Passes words (toLines p fs) (suc (totalAll fs)) s m) → ((d : Debug) → Past words (debugPiece d) (m .at) (r .at)) → r .number ≡ m .number
+  pub passes-function : (n : ℕ) {s m r : Next} → WalksToLines words n s m → ((d : Debug) → Past words (debugPiece d) (m .at) (r .at)) → r .number ≡ m .number
       → (f : Function) → Valid f (suc n) → Passes words (functionPiece f) (total f) s r
   unfolding Valid total
   passes-function n w d e (Function.function p fs) v =

@@ -47,7 +47,7 @@ unfoldable mutual
   pub placed : Function → ℕ → ℕ → Filled → List Placed
   placed (Function.function p fs) at to around =
       record { place = at; function = Function.function p fs; source = filledIn around to (p .source) }
-      ∷ placedAll fs (at + length (toFunctions p .words to) + 1) (to + length (toFunctions p .text)) (filledIn around to (p .source))
+      ∷ placedAll fs (at + length (toFunctions p fs .words to) + 1) (to + length (toFunctions p fs .text)) (filledIn around to (p .source))
 
   pub placedAll : Functions → ℕ → ℕ → Filled → List Placed
   placedAll Functions.none at to around = []

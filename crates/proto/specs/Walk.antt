@@ -8,12 +8,18 @@ use Rattle.lent.specs.Memory.{far}
 use Rattle.format.specs.Tree.{Parts, Function, Functions, count}
 use Rattle.format.specs.Store.{Piece, word, _⊕_, list, ints, sourcePiece, constantPiece, localPiece, packed, functionPieces}
 use Rattle.format.specs.Stored.{Here}
+use Rattle.format.specs.Valid.{ValidAll}
 use Rattle.proto.specs.declared.walk.Next.{Next}
 
 -- the piece stands in the words at a place, its text at a place of the text
 pub record Stands (words text : List ℕ) (at to : ℕ) (p : Piece) : Type 0 where
   pub in-words : Here words at (p .words to)
   pub in-text : Here text to (p .text)
+
+-- and its text somewhere
+pub record StandsAt (words text : List ℕ) (at : ℕ) (p : Piece) : Type 0 where
+  pub to : ℕ
+  pub stands : Stands words text at to p
 
 -- item i of a list
 unfoldable pub item : {A : Type 0} → List A → ℕ → Option A
@@ -52,16 +58,20 @@ totalBefore (Functions.more f fs) (suc i) = total f + totalBefore fs i
 pub record Passes (words : List ℕ) (p : Piece) (n : ℕ) (s r : Next) : Type 0 where
   pub passes : (to : ℕ) → Here words (s .at) (p .words to) → (r .at ≡ s .at + length (p .words to)) × (s .number ≤ far → r .number ≡ min (s .number + n) far)
 
+-- r is behind n functions, whichever they are, that begin at s
+pub record PassesAll (words : List ℕ) (allowance n : ℕ) (s r : Next) : Type 0 where
+  pub all : (fs : Functions) → ValidAll fs allowance → count fs ≡ n → Passes words (functionPieces fs) (totalAll fs) s r
+
 -- ---- a function up to each of its lists
 
-abbrev pub toCode : Parts → Piece
-toCode p = sourcePiece (p .source) ⊕ word (p .lineDefined) ⊕ word (p .lastLineDefined) ⊕ word (packed p)
+abbrev pub toCode : Parts → Functions → Piece
+toCode p fs = sourcePiece (p .source) ⊕ word (p .lineDefined) ⊕ word (p .lastLineDefined) ⊕ word (packed p)
 
-abbrev pub toConstants : Parts → Piece
-toConstants p = toCode p ⊕ ints (p .code)
+abbrev pub toConstants : Parts → Functions → Piece
+toConstants p fs = toCode p fs ⊕ ints (p .code)
 
-abbrev pub toFunctions : Parts → Piece
-toFunctions p = toConstants p ⊕ list constantPiece (p .constants)
+abbrev pub toFunctions : Parts → Functions → Piece
+toFunctions p fs = toConstants p fs ⊕ list constantPiece (p .constants)
 
 -- the functions in a function, as a list
 unfoldable pub children : Functions → List Function
@@ -72,12 +82,8 @@ children (Functions.more f fs) = f ∷ children fs
 abbrev pub childrenPiece : Functions → Piece
 childrenPiece fs = word (count fs) ⊕ functionPieces fs
 
--- up to the child behind fs
-abbrev pub toChild : Parts → ℕ → Functions → Piece
-toChild p n fs = toFunctions p ⊕ word n ⊕ functionPieces fs
-
 abbrev pub toLines : Parts → Functions → Piece
-toLines p fs = toFunctions p ⊕ childrenPiece fs
+toLines p fs = toFunctions p fs ⊕ childrenPiece fs
 
 abbrev pub toLocals : Parts → Functions → Piece
 toLocals p fs = toLines p fs ⊕ ints (p .debug .lines)

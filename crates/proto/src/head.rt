@@ -3,11 +3,12 @@ use crate::walk::skip;
 use crate::walk::word_at;
 ghost use mathlib.Core.Path.{_≡_};
 ghost use Prim.Native.Nat.{ℕ};
-ghost use Rattle.format.specs.Stored.{Here};
-ghost use Rattle.format.specs.Tree.{Parts};
+ghost use mathlib.Core.List.{List};
+ghost use Rattle.format.specs.Tree.{Parts, Function, Functions};
+ghost use Rattle.format.specs.Store.{functionPiece};
 ghost use Rattle.format.specs.Valid.{ValidParts};
 ghost use Rattle.proto.specs.Head.{headOf};
-ghost use Rattle.proto.specs.Walk.{toCode};
+ghost use Rattle.proto.specs.Walk.{StandsAt};
 
 // The fields of a function that are no lists.
 pub struct Head {
@@ -21,7 +22,7 @@ pub struct Head {
 
 // Those of the function at a place.
 pub fn head_at(words: &[u32], at: usize) -> Head
-    ensures { λ r. ⌜ ((p : Parts) (to : ℕ) → ValidParts p → Here (now (words .entry)) at (toCode p .words to) → r ≡ headOf p) ⌝ }
+    ensures { λ r. ⌜ ((p : Parts) (fs : Functions) (t : List ℕ) → ValidParts p → StandsAt (now (words .entry)) t at (functionPiece (Function.function p fs)) → r ≡ headOf p) ⌝ }
 {
     let line_defined = word_at(words, skip(words, at, 3));
     let last_line_defined = word_at(words, skip(words, at, 4));

@@ -2,13 +2,13 @@
 use lent::least;
 ghost use mathlib.Core.List.{List};
 ghost use mathlib.Core.Path.{_≡_};
-ghost use Prim.Native.Nat.{ℕ, suc, _+_, _*_, _≤_};
+ghost use Prim.Native.Nat.{ℕ, _+_, _*_, _≤_};
 ghost use lib.ListN.{getD};
-ghost use Rattle.format.specs.Tree.{Source, Debug, Parts, Functions, Function, count, filled};
+ghost use Rattle.format.specs.Tree.{Source, Debug, Parts, Functions, Function, filled};
 ghost use Rattle.format.specs.Store.{string, ints, sourcePiece, debugPiece, functionPiece};
 ghost use Rattle.format.specs.Stored.{part as partOf};
-ghost use Rattle.format.specs.Valid.{Valid, ValidAll};
-ghost use Rattle.proto.specs.Walk.{Stands, Skips, SkipsItems, Past, Passes, total, totalAll, toCode, toConstants, toFunctions, toChild, toLines, toLocals, toUpvalues};
+ghost use Rattle.format.specs.Valid.{Valid};
+ghost use Rattle.proto.specs.Walk.{Stands, StandsAt, Skips, SkipsItems, Past, Passes, PassesAll, total, toCode, toConstants, toFunctions};
 
 // A place in the words, and the number in preorder of the function that begins there.
 pub struct Next {
@@ -63,7 +63,7 @@ pub fn ints_at(words: &[u32], at: usize) -> &[u32]
     &words[start..end]
 }
 
-// The source of the function at a place: its own, or the one around it.
+// The source whose words stand at a place: a function's own, or the one around it.
 pub fn own_source<'a>(words: &[u32], text: &'a [u8], around: &'a [u8], at: usize) -> &'a [u8]
     ensures { λ r. ⌜ ((s : Source) (to : ℕ) → Stands (now (words .entry)) (now (text .entry)) at to (sourcePiece s) → now r ≡ filled (now (around .entry)) s) ⌝ }
 {
@@ -71,6 +71,13 @@ pub fn own_source<'a>(words: &[u32], text: &'a [u8], around: &'a [u8], at: usize
         return around;
     }
     string_at(words, text, skip(words, at, 1))
+}
+
+// The source of the function at a place.
+pub fn source_of<'a>(words: &[u32], text: &'a [u8], around: &'a [u8], at: usize) -> &'a [u8]
+    ensures { λ r. ⌜ ((p : Parts) (fs : Functions) → StandsAt (now (words .entry)) (now (text .entry)) at (functionPiece (Function.function p fs)) → now r ≡ filled (now (around .entry)) (p .source)) ⌝ }
+{
+    own_source(words, text, around, at)
 }
 
 // The place of item i of a list whose items have so many words.
@@ -90,21 +97,21 @@ fn after_list(words: &[u32], at: usize, k: usize) -> usize
 
 // The place of the code of the function at a place.
 pub fn code_at(words: &[u32], at: usize) -> usize
-    ensures { λ r. ⌜ ((p : Parts) → Past (now (words .entry)) (toCode p) at r) ⌝ }
+    ensures { λ r. ⌜ ((p : Parts) (fs : Functions) → Past (now (words .entry)) (toCode p fs) at r) ⌝ }
 {
     skip(words, at, 6)
 }
 
 // The place of its constants.
 pub fn constants_at(words: &[u32], at: usize) -> usize
-    ensures { λ r. ⌜ ((p : Parts) → Past (now (words .entry)) (toConstants p) at r) ⌝ }
+    ensures { λ r. ⌜ ((p : Parts) (fs : Functions) → Past (now (words .entry)) (toConstants p fs) at r) ⌝ }
 {
     after_list(words, code_at(words, at), 1)
 }
 
 // The place of the functions in it.
 pub fn functions_at(words: &[u32], at: usize) -> usize
-    ensures { λ r. ⌜ ((p : Parts) → Past (now (words .entry)) (toFunctions p) at r) ⌝ }
+    ensures { λ r. ⌜ ((p : Parts) (fs : Functions) → Past (now (words .entry)) (toFunctions p fs) at r) ⌝ }
 {
     after_list(words, constants_at(words, at), 3)
 }
@@ -116,17 +123,13 @@ pub fn after_debug(words: &[u32], at: usize) -> usize
     after_list(words, after_list(words, after_list(words, at, 1), 4), 2)
 }
 
-// Where the function i in the one at s begins, or where they end if there are so many.
-pub fn child_at(words: &[u32], s: Next, i: u32, allowance: u32) -> Next
-    ensures { λ r. ⌜ ((p : Parts) (n : ℕ) (fs : Functions) → ValidAll fs allowance → count fs ≡ i → Passes (now (words .entry)) (toChild p n fs) (suc (totalAll fs)) s r) ⌝ }
+// Past n functions from s on.
+pub fn pass_all(words: &[u32], s: Next, n: u32, allowance: u32) -> Next
+    ensures { λ r. ⌜ PassesAll (now (words .entry)) allowance n s r ⌝ }
 {
-    let list = functions_at(words, s.at);
-    let mut r = Next {
-        at: skip(words, list, 1),
-        number: lent::further(s.number, 1),
-    };
+    let mut r = s;
     let mut k: u32 = 0;
-    while k < i {
+    while k < n {
         r = pass(words, r, allowance);
         k += 1;
     }
@@ -140,39 +143,15 @@ pub fn pass(words: &[u32], s: Next, allowance: u32) -> Next
     if allowance == 0 {
         return s;
     }
-    let n = word_at(words, functions_at(words, s.at));
-    let r = child_at(words, s, n, allowance - 1);
+    let list = functions_at(words, s.at);
+    let n = word_at(words, list);
+    let first = Next {
+        at: skip(words, list, 1),
+        number: lent::further(s.number, 1),
+    };
+    let r = pass_all(words, first, n, allowance - 1);
     Next {
         at: after_debug(words, r.at),
         number: r.number,
     }
-}
-
-// The place behind the function at a place.
-pub fn end_of(words: &[u32], at: usize, allowance: u32) -> usize
-    ensures { λ r. ⌜ ((f : Function) → Valid f allowance → Past (now (words .entry)) (functionPiece f) at r) ⌝ }
-{
-    pass(words, Next { at, number: 0 }, allowance).at
-}
-
-// The place of its lines.
-pub fn lines_at(words: &[u32], at: usize, allowance: u32) -> usize
-    ensures { λ r. ⌜ ((p : Parts) (fs : Functions) → ValidAll fs allowance → Past (now (words .entry)) (toLines p fs) at r) ⌝ }
-{
-    let n = word_at(words, functions_at(words, at));
-    child_at(words, Next { at, number: 0 }, n, allowance).at
-}
-
-// The place of its locals.
-pub fn locals_at(words: &[u32], at: usize, allowance: u32) -> usize
-    ensures { λ r. ⌜ ((p : Parts) (fs : Functions) → ValidAll fs allowance → Past (now (words .entry)) (toLocals p fs) at r) ⌝ }
-{
-    after_list(words, lines_at(words, at, allowance), 1)
-}
-
-// The place of its upvalues' names.
-pub fn upvalues_at(words: &[u32], at: usize, allowance: u32) -> usize
-    ensures { λ r. ⌜ ((p : Parts) (fs : Functions) → ValidAll fs allowance → Past (now (words .entry)) (toUpvalues p fs) at r) ⌝ }
-{
-    after_list(words, locals_at(words, at, allowance), 4)
 }

@@ -8,16 +8,17 @@ use lib.ListN.{length, getD, take, List·getD-eq-default}
 use lib.Seq.{length-take-le}
 use lib.Dec.{eqb, leb, ltb}
 use borrow.Author.Tests.{lt-ltb, le-ltb, ltb-true}
-use Rattle.format.specs.Tree.{Function}
+use Rattle.format.specs.Tree.{Function, Functions}
+use Rattle.format.specs.Valid.{depth, ValidAll}
 use Rattle.format.specs.Store.{ints}
 use Rattle.instructions.specs.Fields.{MAXARG-sBx, GETARG-C, GETARG-Bx, NO-REG}
 use Rattle.instructions.specs.OpCodes.{opcode}
-use Rattle.proto.specs.Walk.{Skips}
-use Rattle.proto.proofs.Items.{StandsAt, ints-count, ints-item}
+use Rattle.proto.specs.Walk.{Skips, StandsAt, children, childrenPiece}
+use Rattle.proto.specs.Children.{ChildAt}
+use Rattle.proto.proofs.Items.{ints-count, ints-item}
 use Rattle.proto.proofs.Heres.{here-front}
-use Rattle.symbexec.specs.declared.child.Child.{Child}
+use Rattle.proto.specs.declared.child.Child.{Child}
 use Rattle.symbexec.specs.declared.operands.Skipped.{Skipped}
-use Rattle.symbexec.specs.Lists.{ChildrenAt, ChildOf}
 use Rattle.symbexec.specs.Operands.{Behind}
 use Rattle.symbexec.specs.SymbExec.{isJump, raised, followed, operands, nextPc, after, writes, lastWrite}
 
@@ -86,24 +87,23 @@ module _ {l : List ℕ} {fs : List Function} {lastpc reg last pc : ℕ} where
 
 -- so for each function whose code and functions stand there, the child kept being one of these
 pub record Traced (words : List ℕ) (code functions lastpc reg last : ℕ) (child : Child) (pc : ℕ) : Type 0 where
-  pub traced : (text l : List ℕ) (fs : List Function) → StandsAt words text code (ints l) → ChildrenAt words text fs functions → ChildOf words text fs child × Left l fs lastpc reg last pc
+  pub kept : ChildAt words functions 0 depth child
+  pub traced : (text l : List ℕ) (fs : Functions) → StandsAt words text code (ints l) → StandsAt words text functions (childrenPiece fs) → ValidAll fs depth → Left l (children fs) lastpc reg last pc
 
 module _ {words : List ℕ} {code functions lastpc reg : ℕ} where
-  pub trace-start : {last : ℕ} {child : Child} → ((text l : List ℕ) → StandsAt words text code (ints l) → last ≡ length l - 1)
-      → ((text : List ℕ) (fs : List Function) → ChildrenAt words text fs functions → ChildOf words text fs child) → Traced words code functions lastpc reg last child 0
-  trace-start f g = record { traced = λ text l fs h k. (g text fs k, record { left = lastpc; enough = omega arith; same = rw (f text l h) }) }
+  pub trace-start : {last : ℕ} {child : Child} → ((text l : List ℕ) → StandsAt words text code (ints l) → last ≡ length l - 1) → ChildAt words functions 0 depth child → Traced words code functions lastpc reg last child 0
+  trace-start f k = record { kept = k; traced = λ text l fs h c v. record { left = lastpc; enough = omega arith; same = rw (f text l h) } }
 
   pub trace-turn : {i last last′ pc pc′ : ℕ} {child : Child} {b : Skipped} → pc < lastpc → ((text l : List ℕ) → StandsAt words text code (ints l) → i ≡ getD l pc 0)
       → last′ ≡ cond (writes i reg) pc last → Behind words functions child (λ fs. operands fs (opcode i) (GETARG-Bx i) (GETARG-C i)) b
       → (pc′ ≡ nextPc (opcode i) (GETARG-Bx i) (b .count) lastpc reg pc) × (pc < pc′) → Traced words code functions lastpc reg last child pc → Traced words code functions lastpc reg last′ (b .child) pc′
-  trace-turn {i} {pc = pc} {child = child} {b = b} k e f g m x =
+  trace-turn {i} {pc = pc} {b = b} k e f g m x =
       record {
-        traced = λ text l fs h c.
-            let y = x .traced text l fs h c in
-            let z = g .behind text fs c (y .0) in
-            (z .1, left-turn k (e text l h) f (m .0 ∙ ap (λ (n : ℕ). nextPc (opcode i) (GETARG-Bx i) n lastpc reg pc) (z .0)) (m .1) (y .1));
+        kept = g .found (x .kept);
+        traced = λ text l fs h c v.
+            left-turn k (e text l h) f (m .0 ∙ ap (λ (n : ℕ). nextPc (opcode i) (GETARG-Bx i) n lastpc reg pc) (g .many text fs c v (x .kept))) (m .1) (x .traced text l fs h c v);
       }
 
   pub trace-end : {last pc : ℕ} {child : Child} → lastpc ≤ pc → Traced words code functions lastpc reg last child pc
-      → (text l : List ℕ) (fs : List Function) → StandsAt words text code (ints l) → ChildrenAt words text fs functions → last ≡ lastWrite l fs lastpc reg lastpc 0 (length l - 1)
-  trace-end k x text l fs h c = left-end k (x .traced text l fs h c .1)
+      → (text l : List ℕ) (fs : Functions) → StandsAt words text code (ints l) → StandsAt words text functions (childrenPiece fs) → ValidAll fs depth → last ≡ lastWrite l (children fs) lastpc reg lastpc 0 (length l - 1)
+  trace-end k x text l fs h c v = left-end k (x .traced text l fs h c v)

@@ -1,3 +1,2 @@
 pub mod SymbExec
-pub mod Lists
 pub mod Operands

@@ -1,13 +1,11 @@
 // The last instruction that wrote a register (ldebug.c, symbexec; in the Rust, debug_info.rs).
-pub mod child;
-pub mod lists;
 pub mod operands;
 pub mod step;
 
-use child::first_child;
 use instructions::Instruction;
-use lists::Lists;
 use operands::operands;
+use proto::child::first_child;
+use proto::lists::Lists;
 use proto::walk::item_at;
 use proto::walk::word_at;
 use step::latest;
@@ -18,9 +16,9 @@ ghost use Prim.Native.Nat.{ℕ, _-_};
 ghost use lib.ListN.{length, getD};
 ghost use Rattle.format.specs.Store.{ints};
 ghost use Rattle.format.specs.Tree.{Parts, Function, Functions};
-ghost use Rattle.proto.proofs.Items.{StandsAt};
-ghost use Rattle.proto.specs.Walk.{children};
-ghost use Rattle.symbexec.specs.Lists.{ListsOf};
+ghost use Rattle.proto.specs.Walk.{children, StandsAt};
+ghost use Rattle.format.specs.Valid.{depth, ValidAll};
+ghost use Rattle.proto.specs.Lists.{ListsAt};
 ghost use Rattle.symbexec.specs.SymbExec.{lastWrite, symbexec};
 
 // The instruction at pc, 0 past the code's end.
@@ -43,13 +41,13 @@ fn last_pc(words: &[u32], code: usize) -> u32
 
 // The pc of the last instruction before lastpc that wrote a register, the last pc of all where none did.
 fn last_write(words: &[u32], s: Lists, lastpc: u32, reg: u32) -> u32
-    ensures { λ r. ⌜ ((text : List ℕ) (p : Parts) (fs : Functions) → ListsOf (now (words .entry)) text p fs s → r ≡ lastWrite (p .code) (children fs) lastpc reg lastpc 0 (length (p .code) - 1)) ⌝ }
+    ensures { λ r. ⌜ ((text : List ℕ) (p : Parts) (fs : Functions) → ListsAt (now (words .entry)) text s p fs → ValidAll fs depth → r ≡ lastWrite (p .code) (children fs) lastpc reg lastpc 0 (length (p .code) - 1)) ⌝ }
 {
     let code = s.code;
     let functions = s.functions;
     let end = lastpc as usize;
     let mut last = last_pc(words, code);
-    let mut child = first_child(words, functions);
+    let mut child = first_child(words, functions, 0);
     let mut pc: usize = 0;
     while pc < end {
         let here = pc as u32;
@@ -64,7 +62,7 @@ fn last_write(words: &[u32], s: Lists, lastpc: u32, reg: u32) -> u32
 
 // That instruction, in the function whose lists stand at s.
 pub fn symbexec_at(words: &[u32], s: Lists, lastpc: u32, reg: u32) -> u32
-    ensures { λ r. ⌜ ((text : List ℕ) (p : Parts) (fs : Functions) → ListsOf (now (words .entry)) text p fs s → r ≡ symbexec (Function.function p fs) lastpc reg) ⌝ }
+    ensures { λ r. ⌜ ((text : List ℕ) (p : Parts) (fs : Functions) → ListsAt (now (words .entry)) text s p fs → ValidAll fs depth → r ≡ symbexec (Function.function p fs) lastpc reg) ⌝ }
 {
     let last = last_write(words, s, lastpc, reg);
     let code = s.code;

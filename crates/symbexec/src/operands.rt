@@ -1,9 +1,10 @@
 // The words behind an instruction that are no instructions.
-use crate::child::Child;
-use crate::child::seek_child;
 use instructions::Instruction;
 use instructions::OP_CLOSURE;
 use instructions::OP_SETLIST;
+use proto::child::Child;
+use proto::child::child_at;
+use proto::formed::DEPTH;
 use proto::head::head_at;
 use proto::walk::word_at;
 ghost use Rattle.instructions.specs.Fields.{GETARG-C, GETARG-Bx};
@@ -28,7 +29,7 @@ fn closure_operands(words: &[u32], functions: usize, kept: Child, i: u32) -> Ski
             child: kept,
         };
     }
-    let child = seek_child(words, functions, kept, i);
+    let child = child_at(words, functions, 0, kept, i, DEPTH);
     let at = child.at;
     Skipped {
         count: head_at(words, at).num_upvalues,

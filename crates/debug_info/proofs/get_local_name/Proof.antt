@@ -3,6 +3,7 @@ use borrow.Author.Needs.{needs}
 use mathlib.Core.Path.{ap, _∙_}
 use Rattle.debug_info.specs.Names.{getLocalName}
 use Rattle.debug_info.specs.Calls.{partsOf, nameRefused, named, localNamed}
+use Rattle.proto.proofs.ListPlaces.{lists-stand}
 use Rattle.debug_info.proofs.Calls.{place-refused, place-answered}
 use Rattle.debug_info.proofs.get_local_name.Statement.{statement}
 use Rattle.debug_info.proofs.get_local_name.Tie as tie
@@ -41,7 +42,7 @@ returns-2 c =
     let c₄ = c₃ .before in
     let c₅ = c₄ .before in
     let c₆ = c₅ .before .before .before .before in
-    place-answered (nameRefused (c₆ .args .out .now)) (λ f. named (getLocalName (partsOf f .debug .locals) (c₆ .args .local-number) (c₆ .args .pc)) (c₆ .args .out .now)) _ _ (c₆ .args .place) (c₅ .place-refusal .ensures) (c₄ .if1 .left) (c₃ .lists-at .ensures) (λ p fs h. c₁ .give .ensures ∙ ap (λ o. named o (c₆ .args .out .now)) (c₂ .active-local .ensures (c₆ .args .text .now) (p .debug .locals) (h .locals)))
+    place-answered (nameRefused (c₆ .args .out .now)) (λ f. named (getLocalName (partsOf f .debug .locals) (c₆ .args .local-number) (c₆ .args .pc)) (c₆ .args .out .now)) _ _ (c₆ .args .place) (c₅ .place-refusal .ensures) (c₄ .if1 .left) (λ p fs v h. c₁ .give .ensures ∙ ap (λ o. named o (c₆ .args .out .now)) (c₂ .active-local .ensures (c₆ .args .text .now) (p .debug .locals) (lists-stand p fs h (c₃ .lists-at .ensures p fs v) .locals)))
 
 pub get-local-name-spec : {M : Type 1} → statement M
 get-local-name-spec =

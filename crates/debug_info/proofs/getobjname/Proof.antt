@@ -4,6 +4,7 @@ use mathlib.Core.Path.{ap, _∙_}
 use Rattle.debug_info.specs.Names.{getobjname}
 use Rattle.debug_info.specs.Searched.{unsearched}
 use Rattle.debug_info.specs.Calls.{nameRefused, named, objectNamed}
+use Rattle.proto.proofs.ListPlaces.{lists-stand}
 use Rattle.debug_info.proofs.Calls.{register-refused, register-answered, register-bounds}
 use Rattle.debug_info.proofs.getobjname.Statement.{statement}
 use Rattle.debug_info.proofs.getobjname.Tie as tie
@@ -50,7 +51,7 @@ returns-2 c =
     let c₄ = c₃ .before in
     let c₅ = c₄ .before in
     let c₆ = c₅ .before .before .before .before in
-    register-answered (nameRefused (c₆ .args .out .now)) (λ f. named (getobjname f (c₆ .args .pc) (c₆ .args .stackpos)) (c₆ .args .out .now)) _ _ (c₆ .args .place) (c₆ .args .pc) (c₆ .args .stackpos) (c₅ .register-refusal .ensures) (c₄ .if1 .left) (c₃ .lists-at .ensures) (λ p fs h. c₁ .give .ensures ∙ ap (λ o. named o (c₆ .args .out .now)) (c₂ .getobjname .ensures (c₆ .args .text .now) p fs h))
+    register-answered (nameRefused (c₆ .args .out .now)) (λ f. named (getobjname f (c₆ .args .pc) (c₆ .args .stackpos)) (c₆ .args .out .now)) _ _ (c₆ .args .place) (c₆ .args .pc) (c₆ .args .stackpos) (c₅ .register-refusal .ensures) (c₄ .if1 .left) (λ p fs v h. c₁ .give .ensures ∙ ap (λ o. named o (c₆ .args .out .now)) (c₂ .getobjname .ensures (c₆ .args .text .now) p fs (lists-stand p fs h (c₃ .lists-at .ensures p fs v)) v))
 
 pub getobjname-spec : {M : Type 1} → statement M
 getobjname-spec =

@@ -2,6 +2,7 @@
 use borrow.Author.Needs.{needs}
 use mathlib.Core.Path.{ap, _∙_}
 use Rattle.format.specs.Dump.{writeRefused, written}
+use Rattle.proto.proofs.Items.{somewhere, constants-stand}
 use Rattle.debug_info.specs.Names.{kname}
 use Rattle.debug_info.specs.Calls.{partsOf, knamed}
 use Rattle.debug_info.proofs.Calls.{place-refused, place-answered}
@@ -18,8 +19,8 @@ returns c =
     let c₂ = c₁ .before .before .before .before in
     place-refused (λ n. writeRefused n (c₂ .args .out .now)) (λ f. written (kname (partsOf f .constants) (c₂ .args .c)) (c₂ .args .out .now)) _ _ (c₂ .args .place) (c₁ .place-refusal .ensures) (c .if1 .taken)
 
-lists-at-requires : tie.Need-lists-at-requires
-lists-at-requires c κs = search needs
+constants-at-requires : tie.Need-constants-at-requires
+constants-at-requires c κs = search needs
 
 operand-name-requires : tie.Need-operand-name-requires
 operand-name-requires c κs = search needs
@@ -39,7 +40,7 @@ returns-2 c =
     let c₄ = c₃ .before in
     let c₅ = c₄ .before in
     let c₆ = c₅ .before .before .before .before in
-    place-answered (λ n. writeRefused n (c₆ .args .out .now)) (λ f. written (kname (partsOf f .constants) (c₆ .args .c)) (c₆ .args .out .now)) _ _ (c₆ .args .place) (c₅ .place-refusal .ensures) (c₄ .if1 .left) (c₃ .lists-at .ensures) (λ p fs h. c₁ .write-name .ensures ∙ ap (λ s. written s (c₆ .args .out .now)) (c₂ .operand-name .ensures (c₆ .args .text .now) (p .constants) (h .constants)))
+    place-answered (λ n. writeRefused n (c₆ .args .out .now)) (λ f. written (kname (partsOf f .constants) (c₆ .args .c)) (c₆ .args .out .now)) _ _ (c₆ .args .place) (c₅ .place-refusal .ensures) (c₄ .if1 .left) (λ p fs v h. c₁ .write-name .ensures ∙ ap (λ s. written s (c₆ .args .out .now)) (c₂ .operand-name .ensures (c₆ .args .text .now) (p .constants) (somewhere (constants-stand p fs (h .stands) (c₃ .constants-at .ensures p fs)))))
 
 pub kname-spec : {M : Type 1} → statement M
 kname-spec =
@@ -47,7 +48,7 @@ kname-spec =
     (tie.spec
     place-refusal-requires
     returns
-    lists-at-requires
+    constants-at-requires
     operand-name-requires
     write-name-requires
     same-length

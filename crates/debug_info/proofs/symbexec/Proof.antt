@@ -2,6 +2,7 @@
 use borrow.Author.Needs.{needs}
 use Rattle.symbexec.specs.SymbExec.{symbexec}
 use Rattle.debug_info.specs.Calls.{noInstruction, symbexecAnswer}
+use Rattle.proto.proofs.ListPlaces.{lists-stand}
 use Rattle.debug_info.proofs.Calls.{register-refused, register-answered, register-bounds}
 use Rattle.debug_info.proofs.symbexec.Statement.{statement}
 use Rattle.debug_info.proofs.symbexec.Tie as tie
@@ -36,7 +37,7 @@ returns-2 c =
     let c₂ = c₁ .before in
     let c₃ = c₂ .before in
     let c₄ = c₃ .before .before .before in
-    register-answered noInstruction (λ f. record { refusal = 0; instruction = symbexec f (c₄ .args .lastpc) (c₄ .args .reg) }) _ _ (c₄ .args .place) (c₄ .args .lastpc) (c₄ .args .reg) (c₃ .register-refusal .ensures) (c₂ .if1 .left) (c₁ .lists-at .ensures) (λ p fs h. rw (c .symbexec-at .ensures (c₄ .args .text .now) p fs h))
+    register-answered noInstruction (λ f. record { refusal = 0; instruction = symbexec f (c₄ .args .lastpc) (c₄ .args .reg) }) _ _ (c₄ .args .place) (c₄ .args .lastpc) (c₄ .args .reg) (c₃ .register-refusal .ensures) (c₂ .if1 .left) (λ p fs v h. rw (c .symbexec-at .ensures (c₄ .args .text .now) p fs (lists-stand p fs h (c₁ .lists-at .ensures p fs v)) v))
 
 pub symbexec-spec : {M : Type 1} → statement M
 symbexec-spec =

@@ -20,7 +20,7 @@ first-child-requires : tie.Need-first-child-requires Inv-loop μ-loop
 first-child-requires c κs = search needs
 
 loop-holds : tie.Need-loop-holds Inv-loop μ-loop
-loop-holds c = (omega arith, trace-start (c .before .last-pc .ensures) (c .first-child .ensures .1))
+loop-holds c = (omega arith, trace-start (c .before .last-pc .ensures) (c .first-child .ensures .1 _))
 
 cast-here : tie.Need-cast-here Inv-loop μ-loop
 cast-here c = omega arith
@@ -49,7 +49,7 @@ loop-again c =
     (c₄ .loop .inv .0, trace-turn (omega arith) (c₃ .instruction-at .ensures) (c₂ .latest .ensures) (c₁ .operands .ensures) (c .next-pc .ensures) (c₄ .loop .inv .1))
 
 returns : tie.Need-returns Inv-loop μ-loop
-returns c = λ text p fs h. trace-end (omega arith) (c .before .loop .inv .1) text (p .code) _ (h .code) (h .functions)
+returns c = λ text p fs h v. trace-end (omega arith) (c .before .loop .inv .1) text (p .code) fs (h .code) (h .functions) v
 
 pub last-write-spec : {M : Type 1} → statement M
 last-write-spec =

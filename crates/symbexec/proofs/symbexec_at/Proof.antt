@@ -13,7 +13,7 @@ instruction-at-requires c κs = search needs
 
 returns : tie.Need-returns
 unfolding symbexec
-returns c = λ text p fs h. c .instruction-at .ensures text (p .code) (h .code) ∙ rw (c .before .last-write .ensures text p fs h)
+returns c = λ text p fs h v. c .instruction-at .ensures text (p .code) (h .code) ∙ rw (c .before .last-write .ensures text p fs h v)
 
 pub symbexec-at-spec : {M : Type 1} → statement M
 symbexec-at-spec = tie.close (tie.spec last-write-requires instruction-at-requires returns)

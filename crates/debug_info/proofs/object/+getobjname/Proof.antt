@@ -45,7 +45,7 @@ getobjname-nothing-requires : (t : ℕ) → getobjname-lts.Need-nothing-requires
 getobjname-nothing-requires t c κs = search needs
 
 getobjname-returns : (t : ℕ) → getobjname-lts.Need-returns (getobjname-calls t) (getobjname-at t) getobjname.Post
-getobjname-returns t c = λ text p fs h. search-again (objectOf text (c .nothing .result)) p fs _ _ _ _ (c .before .if1 .taken) (c .nothing .ensures text)
+getobjname-returns t c = λ text p fs h v. search-again (objectOf text (c .nothing .result)) p fs _ _ _ _ (c .before .if1 .taken) (c .nothing .ensures text)
 
 getobjname-add-active-local : (t : ℕ) → getobjname-lts.Need-add-active-local (getobjname-calls t) (getobjname-at t) getobjname.Post
 getobjname-add-active-local t c = omega arith
@@ -58,7 +58,7 @@ getobjname-returns-2 t c =
     let c₁ = c .before .before in
     let c₂ = c₁ .before in
     let c₃ = c₂ .before .before in
-    λ text p fs h. search-local (objectOf text (c₁ .active-local .result)) p fs (c₃ .args .pc) (c₃ .args .reg) (c₃ .args .t5) (omega (arith, c₃ .fits)) (omega (arith, c₃ .good .1 .1 .1 .1 .0 .1 .0 .1, c₃ .pre .1)) (c₂ .if1 .left) (c₁ .active-local .ensures text (p .debug .locals) (h .locals)) (c .if2 .taken)
+    λ text p fs h v. search-local (objectOf text (c₁ .active-local .result)) p fs (c₃ .args .pc) (c₃ .args .reg) (c₃ .args .t5) (omega (arith, c₃ .fits)) (omega (arith, c₃ .good .1 .1 .1 .1 .0 .1 .0 .1, c₃ .pre .1)) (c₂ .if1 .left) (c₁ .active-local .ensures text (p .debug .locals) (h .locals)) (c .if2 .taken)
 
 getobjname-symbexec-at-requires : (t : ℕ) → getobjname-lts.Need-symbexec-at-requires (getobjname-calls t) (getobjname-at t) getobjname.Post
 getobjname-symbexec-at-requires t c κs = search needs
@@ -90,7 +90,7 @@ getobjname-returns-3 t c =
     let c₆ = c₅ .before .before in
     let c₇ = c₆ .before in
     let c₈ = c₇ .before .before in
-    λ text p fs h. search-moved (objectOf text (c .getobjname .result)) p fs (c₈ .args .pc) (c₈ .args .reg) (c₈ .args .t5) (omega (arith, c₈ .fits)) (omega (arith, c₈ .good .1 .1 .1 .1 .0 .1 .0 .1, c₈ .pre .1)) (c₇ .if1 .left) (c₆ .active-local .ensures text (p .debug .locals) (h .locals)) (c₅ .if2 .left) (c₄ .symbexec-at .ensures text p fs h) (sym (c₃ .moves-up .ensures) ∙ c₂ .if3 .taken) (c₁ .b .ensures) (c .getobjname .ensures text p fs h)
+    λ text p fs h v. search-moved (objectOf text (c .getobjname .result)) p fs (c₈ .args .pc) (c₈ .args .reg) (c₈ .args .t5) (omega (arith, c₈ .fits)) (omega (arith, c₈ .good .1 .1 .1 .1 .0 .1 .0 .1, c₈ .pre .1)) (c₇ .if1 .left) (c₆ .active-local .ensures text (p .debug .locals) (h .locals)) (c₅ .if2 .left) (c₄ .symbexec-at .ensures text p fs h v) (sym (c₃ .moves-up .ensures) ∙ c₂ .if3 .taken) (c₁ .b .ensures) (c .getobjname .ensures text p fs h v)
 
 getobjname-wrote-requires : (t : ℕ) → getobjname-lts.Need-wrote-requires (getobjname-calls t) (getobjname-at t) getobjname.Post
 getobjname-wrote-requires t c κs = search needs
@@ -104,7 +104,7 @@ getobjname-returns-4 t c =
     let c₅ = c₄ .before .before in
     let c₆ = c₅ .before in
     let c₇ = c₆ .before .before in
-    λ text p fs h. search-wrote (objectOf text (c .wrote .result)) p fs (c₇ .args .pc) (c₇ .args .reg) (c₇ .args .t5) (omega (arith, c₇ .fits)) (omega (arith, c₇ .good .1 .1 .1 .1 .0 .1 .0 .1, c₇ .pre .1)) (c₆ .if1 .left) (c₅ .active-local .ensures text (p .debug .locals) (h .locals)) (c₄ .if2 .left) (c₃ .symbexec-at .ensures text p fs h) (sym (c₂ .moves-up .ensures) ∙ c₁ .if3 .left) (c .wrote .ensures text p fs h)
+    λ text p fs h v. search-wrote (objectOf text (c .wrote .result)) p fs (c₇ .args .pc) (c₇ .args .reg) (c₇ .args .t5) (omega (arith, c₇ .fits)) (omega (arith, c₇ .good .1 .1 .1 .1 .0 .1 .0 .1, c₇ .pre .1)) (c₆ .if1 .left) (c₅ .active-local .ensures text (p .debug .locals) (h .locals)) (c₄ .if2 .left) (c₃ .symbexec-at .ensures text p fs h v) (sym (c₂ .moves-up .ensures) ∙ c₁ .if3 .left) (c .wrote .ensures text p fs h)
 
 pub +getobjname-spec : {M : Type 1} → statement M
 +getobjname-spec = close μ-getobjname λ t. getobjname-lts.spec (getobjname-calls t) (getobjname-at t)

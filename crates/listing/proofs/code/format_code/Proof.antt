@@ -21,7 +21,7 @@ first-child-requires : tie.Need-first-child-requires Inv-loop μ-loop
 first-child-requires c κs = search needs
 
 loop-holds : tie.Need-loop-holds Inv-loop μ-loop
-loop-holds c = (refl, codes-start (λ x k. c .first-child .ensures .0 (c .before .before .before .before .before .args .allowance) (x .functions) (c .before .before .before .before .before .args .text .now) (k .at-lists .functions) (k .valid) (k .small)))
+loop-holds c = (refl, codes-start (c .first-child .ensures .1 _))
 
 item-at-requires : tie.Need-item-at-requires Inv-loop μ-loop
 item-at-requires c κs = search needs

@@ -6,7 +6,7 @@ use mathlib.Core.Path.{_≡_, refl, _∙_}
 use lib.ListN.{length}
 use Rattle.proto.proofs.Loops.{Loop, loop-start, loop-turn, loop-end}
 use Rattle.proto.proofs.Walks.{none-deep}
-use Rattle.listing.specs.Known.{Known}
+use Rattle.proto.specs.Lists.{LinesKept}
 use Rattle.listing.specs.Lister.{reached}
 use Rattle.listing.proofs.Listers.{ListsAll, lists-none, lists-more, lists-function}
 use borrow.Fn.PlainCycle.{Measures, is, falls, and}
@@ -19,7 +19,7 @@ use Rattle.lent.proofs.put_byte.Reads as put-byte-reads
 use Rattle.listing.proofs.function.format_function.Reads as format-function-reads
 use Rattle.proto.proofs.walk.after_debug.Reads as after-debug-reads
 use Rattle.proto.proofs.walk.functions_at.Reads as functions-at-reads
-use Rattle.proto.proofs.walk.own_source.Reads as own-source-reads
+use Rattle.proto.proofs.walk.source_of.Reads as source-of-reads
 use Rattle.proto.proofs.walk.skip.Reads as skip-reads
 use Rattle.proto.proofs.walk.word_at.Reads as word-at-reads
 use Rattle.listing.proofs.function.+list_function_recursive.{statement}
@@ -45,98 +45,38 @@ list-function-recursive-below t =
     list-function-recursive.Pre
 
 abbrev list-function-recursive-calls : ℕ → list-function-recursive-lts.Claims
-list-function-recursive-calls t = (own-source-reads.Asked, own-source-reads.Learnt, format-function-reads.Asked, format-function-reads.Learnt, functions-at-reads.Asked, functions-at-reads.Learnt, word-at-reads.Asked, word-at-reads.Learnt, skip-reads.Asked, skip-reads.Learnt, further-reads.Asked, further-reads.Learnt, put-byte-reads.Asked, put-byte-reads.Learnt, list-function-recursive-below t, list-function-recursive.Post, after-debug-reads.Asked, after-debug-reads.Learnt)
+list-function-recursive-calls t = (source-of-reads.Asked, source-of-reads.Learnt, format-function-reads.Asked, format-function-reads.Learnt, functions-at-reads.Asked, functions-at-reads.Learnt, word-at-reads.Asked, word-at-reads.Learnt, skip-reads.Asked, skip-reads.Learnt, further-reads.Asked, further-reads.Learnt, put-byte-reads.Asked, put-byte-reads.Learnt, list-function-recursive-below t, list-function-recursive.Post, after-debug-reads.Asked, after-debug-reads.Learnt)
 
 abbrev list-function-recursive-Inv-loop : list-function-recursive-lts.InvT-loop
-list-function-recursive-Inv-loop words text outer full out₀ begins₀ known₀ allowance source own list n r₀ i₀ out begins known r i =
+list-function-recursive-Inv-loop words text outer full out₀ begins₀ lines₀ allowance source own list n r₀ i₀ out begins lines r i =
     (length out ≡ length out₀)
     × (length begins ≡ length begins₀)
-    × (length known ≡ length known₀)
-    × Known words begins known
+    × (length lines ≡ length lines₀)
+    × LinesKept words begins lines
     × Loop (ListsAll words text full source (allowance - 1)) n (reached r₀ out₀) i (reached r out)
 
 abbrev list-function-recursive-μ-loop : list-function-recursive-lts.MeasureT-loop
-list-function-recursive-μ-loop words text outer full out₀ begins₀ known₀ allowance source own list n r₀ i₀ out begins known r i = n - i
+list-function-recursive-μ-loop words text outer full out₀ begins₀ lines₀ allowance source own list n r₀ i₀ out begins lines r i = n - i
 
 list-function-recursive-returns : (t : ℕ) → list-function-recursive-lts.Need-returns (list-function-recursive-calls t) (list-function-recursive-at t) list-function-recursive.Post list-function-recursive-Inv-loop list-function-recursive-μ-loop
 list-function-recursive-returns t c = (c .before .before .before .before .before .before .before .pre .1, λ f v. absurd (none-deep (c .if1 .taken) f v))
 
-list-function-recursive-own-source-requires :
-    (t : ℕ) → list-function-recursive-lts.Need-own-source-requires (
-      own-source-reads.Asked,
-      own-source-reads.Learnt,
-      format-function-reads.Asked,
-      format-function-reads.Learnt,
-      functions-at-reads.Asked,
-      functions-at-reads.Learnt,
-      word-at-reads.Asked,
-      word-at-reads.Learnt,
-      skip-reads.Asked,
-      skip-reads.Learnt,
-      further-reads.Asked,
-      further-reads.Learnt,
-      put-byte-reads.Asked,
-      put-byte-reads.Learnt,
-      list-function-recursive-below t,
-      list-function-recursive.Post,
-      after-debug-reads.Asked,
-      after-debug-reads.Learnt,
-    )
-    (list-function-recursive-at t)
+list-function-recursive-source-of-requires :
+    (t : ℕ) → list-function-recursive-lts.Need-source-of-requires (list-function-recursive-calls t) (list-function-recursive-at t)
     list-function-recursive.Post
     list-function-recursive-Inv-loop
     list-function-recursive-μ-loop
-list-function-recursive-own-source-requires t c κs = search needs
+list-function-recursive-source-of-requires t c κs = search needs
 
 list-function-recursive-sub-format-function :
-    (t : ℕ) → list-function-recursive-lts.Need-sub-format-function (
-      own-source-reads.Asked,
-      own-source-reads.Learnt,
-      format-function-reads.Asked,
-      format-function-reads.Learnt,
-      functions-at-reads.Asked,
-      functions-at-reads.Learnt,
-      word-at-reads.Asked,
-      word-at-reads.Learnt,
-      skip-reads.Asked,
-      skip-reads.Learnt,
-      further-reads.Asked,
-      further-reads.Learnt,
-      put-byte-reads.Asked,
-      put-byte-reads.Learnt,
-      list-function-recursive-below t,
-      list-function-recursive.Post,
-      after-debug-reads.Asked,
-      after-debug-reads.Learnt,
-    )
-    (list-function-recursive-at t)
+    (t : ℕ) → list-function-recursive-lts.Need-sub-format-function (list-function-recursive-calls t) (list-function-recursive-at t)
     list-function-recursive.Post
     list-function-recursive-Inv-loop
     list-function-recursive-μ-loop
 list-function-recursive-sub-format-function t c = omega (arith, c .before .before .before .before .if1 .left)
 
 list-function-recursive-format-function-requires :
-    (t : ℕ) → list-function-recursive-lts.Need-format-function-requires (
-      own-source-reads.Asked,
-      own-source-reads.Learnt,
-      format-function-reads.Asked,
-      format-function-reads.Learnt,
-      functions-at-reads.Asked,
-      functions-at-reads.Learnt,
-      word-at-reads.Asked,
-      word-at-reads.Learnt,
-      skip-reads.Asked,
-      skip-reads.Learnt,
-      further-reads.Asked,
-      further-reads.Learnt,
-      put-byte-reads.Asked,
-      put-byte-reads.Learnt,
-      list-function-recursive-below t,
-      list-function-recursive.Post,
-      after-debug-reads.Asked,
-      after-debug-reads.Learnt,
-    )
-    (list-function-recursive-at t)
+    (t : ℕ) → list-function-recursive-lts.Need-format-function-requires (list-function-recursive-calls t) (list-function-recursive-at t)
     list-function-recursive.Post
     list-function-recursive-Inv-loop
     list-function-recursive-μ-loop
@@ -145,54 +85,14 @@ list-function-recursive-format-function-requires t c κs =
     c₁ .pre .1
 
 list-function-recursive-functions-at-requires :
-    (t : ℕ) → list-function-recursive-lts.Need-functions-at-requires (
-      own-source-reads.Asked,
-      own-source-reads.Learnt,
-      format-function-reads.Asked,
-      format-function-reads.Learnt,
-      functions-at-reads.Asked,
-      functions-at-reads.Learnt,
-      word-at-reads.Asked,
-      word-at-reads.Learnt,
-      skip-reads.Asked,
-      skip-reads.Learnt,
-      further-reads.Asked,
-      further-reads.Learnt,
-      put-byte-reads.Asked,
-      put-byte-reads.Learnt,
-      list-function-recursive-below t,
-      list-function-recursive.Post,
-      after-debug-reads.Asked,
-      after-debug-reads.Learnt,
-    )
-    (list-function-recursive-at t)
+    (t : ℕ) → list-function-recursive-lts.Need-functions-at-requires (list-function-recursive-calls t) (list-function-recursive-at t)
     list-function-recursive.Post
     list-function-recursive-Inv-loop
     list-function-recursive-μ-loop
 list-function-recursive-functions-at-requires t c κs = search needs
 
 list-function-recursive-word-at-requires :
-    (t : ℕ) → list-function-recursive-lts.Need-word-at-requires (
-      own-source-reads.Asked,
-      own-source-reads.Learnt,
-      format-function-reads.Asked,
-      format-function-reads.Learnt,
-      functions-at-reads.Asked,
-      functions-at-reads.Learnt,
-      word-at-reads.Asked,
-      word-at-reads.Learnt,
-      skip-reads.Asked,
-      skip-reads.Learnt,
-      further-reads.Asked,
-      further-reads.Learnt,
-      put-byte-reads.Asked,
-      put-byte-reads.Learnt,
-      list-function-recursive-below t,
-      list-function-recursive.Post,
-      after-debug-reads.Asked,
-      after-debug-reads.Learnt,
-    )
-    (list-function-recursive-at t)
+    (t : ℕ) → list-function-recursive-lts.Need-word-at-requires (list-function-recursive-calls t) (list-function-recursive-at t)
     list-function-recursive.Post
     list-function-recursive-Inv-loop
     list-function-recursive-μ-loop
@@ -202,27 +102,7 @@ list-function-recursive-skip-requires : (t : ℕ) → list-function-recursive-lt
 list-function-recursive-skip-requires t c κs = search needs
 
 list-function-recursive-further-requires :
-    (t : ℕ) → list-function-recursive-lts.Need-further-requires (
-      own-source-reads.Asked,
-      own-source-reads.Learnt,
-      format-function-reads.Asked,
-      format-function-reads.Learnt,
-      functions-at-reads.Asked,
-      functions-at-reads.Learnt,
-      word-at-reads.Asked,
-      word-at-reads.Learnt,
-      skip-reads.Asked,
-      skip-reads.Learnt,
-      further-reads.Asked,
-      further-reads.Learnt,
-      put-byte-reads.Asked,
-      put-byte-reads.Learnt,
-      list-function-recursive-below t,
-      list-function-recursive.Post,
-      after-debug-reads.Asked,
-      after-debug-reads.Learnt,
-    )
-    (list-function-recursive-at t)
+    (t : ℕ) → list-function-recursive-lts.Need-further-requires (list-function-recursive-calls t) (list-function-recursive-at t)
     list-function-recursive.Post
     list-function-recursive-Inv-loop
     list-function-recursive-μ-loop
@@ -232,54 +112,14 @@ list-function-recursive-loop-holds : (t : ℕ) → list-function-recursive-lts.N
 list-function-recursive-loop-holds t c = (refl, refl, refl, c .before .before .before .before .before .before .before .before .before .before .format-function .ensures .0, loop-start)
 
 list-function-recursive-put-byte-requires :
-    (t : ℕ) → list-function-recursive-lts.Need-put-byte-requires (
-      own-source-reads.Asked,
-      own-source-reads.Learnt,
-      format-function-reads.Asked,
-      format-function-reads.Learnt,
-      functions-at-reads.Asked,
-      functions-at-reads.Learnt,
-      word-at-reads.Asked,
-      word-at-reads.Learnt,
-      skip-reads.Asked,
-      skip-reads.Learnt,
-      further-reads.Asked,
-      further-reads.Learnt,
-      put-byte-reads.Asked,
-      put-byte-reads.Learnt,
-      list-function-recursive-below t,
-      list-function-recursive.Post,
-      after-debug-reads.Asked,
-      after-debug-reads.Learnt,
-    )
-    (list-function-recursive-at t)
+    (t : ℕ) → list-function-recursive-lts.Need-put-byte-requires (list-function-recursive-calls t) (list-function-recursive-at t)
     list-function-recursive.Post
     list-function-recursive-Inv-loop
     list-function-recursive-μ-loop
 list-function-recursive-put-byte-requires t c κs = search needs
 
 list-function-recursive-sub-list-function-recursive :
-    (t : ℕ) → list-function-recursive-lts.Need-sub-list-function-recursive (
-      own-source-reads.Asked,
-      own-source-reads.Learnt,
-      format-function-reads.Asked,
-      format-function-reads.Learnt,
-      functions-at-reads.Asked,
-      functions-at-reads.Learnt,
-      word-at-reads.Asked,
-      word-at-reads.Learnt,
-      skip-reads.Asked,
-      skip-reads.Learnt,
-      further-reads.Asked,
-      further-reads.Learnt,
-      put-byte-reads.Asked,
-      put-byte-reads.Learnt,
-      list-function-recursive-below t,
-      list-function-recursive.Post,
-      after-debug-reads.Asked,
-      after-debug-reads.Learnt,
-    )
-    (list-function-recursive-at t)
+    (t : ℕ) → list-function-recursive-lts.Need-sub-list-function-recursive (list-function-recursive-calls t) (list-function-recursive-at t)
     list-function-recursive.Post
     list-function-recursive-Inv-loop
     list-function-recursive-μ-loop
@@ -288,27 +128,7 @@ list-function-recursive-sub-list-function-recursive t c =
     omega (arith, c₁ .if1 .left)
 
 list-function-recursive-list-function-recursive-requires :
-    (t : ℕ) → list-function-recursive-lts.Need-list-function-recursive-requires (
-      own-source-reads.Asked,
-      own-source-reads.Learnt,
-      format-function-reads.Asked,
-      format-function-reads.Learnt,
-      functions-at-reads.Asked,
-      functions-at-reads.Learnt,
-      word-at-reads.Asked,
-      word-at-reads.Learnt,
-      skip-reads.Asked,
-      skip-reads.Learnt,
-      further-reads.Asked,
-      further-reads.Learnt,
-      put-byte-reads.Asked,
-      put-byte-reads.Learnt,
-      list-function-recursive-below t,
-      list-function-recursive.Post,
-      after-debug-reads.Asked,
-      after-debug-reads.Learnt,
-    )
-    (list-function-recursive-at t)
+    (t : ℕ) → list-function-recursive-lts.Need-list-function-recursive-requires (list-function-recursive-calls t) (list-function-recursive-at t)
     list-function-recursive.Post
     list-function-recursive-Inv-loop
     list-function-recursive-μ-loop
@@ -340,27 +160,7 @@ list-function-recursive-loop-again t c =
     )
 
 list-function-recursive-after-debug-requires :
-    (t : ℕ) → list-function-recursive-lts.Need-after-debug-requires (
-      own-source-reads.Asked,
-      own-source-reads.Learnt,
-      format-function-reads.Asked,
-      format-function-reads.Learnt,
-      functions-at-reads.Asked,
-      functions-at-reads.Learnt,
-      word-at-reads.Asked,
-      word-at-reads.Learnt,
-      skip-reads.Asked,
-      skip-reads.Learnt,
-      further-reads.Asked,
-      further-reads.Learnt,
-      put-byte-reads.Asked,
-      put-byte-reads.Learnt,
-      list-function-recursive-below t,
-      list-function-recursive.Post,
-      after-debug-reads.Asked,
-      after-debug-reads.Learnt,
-    )
-    (list-function-recursive-at t)
+    (t : ℕ) → list-function-recursive-lts.Need-after-debug-requires (list-function-recursive-calls t) (list-function-recursive-at t)
     list-function-recursive.Post
     list-function-recursive-Inv-loop
     list-function-recursive-μ-loop
@@ -398,13 +198,13 @@ list-function-recursive-returns-2 t c =
     let allowance = c₉ .args .allowance in
     let n = allowance - 1 in
     let e : allowance ≡ suc n = omega (arith, c₈ .if1 .left) in
-    (c₁ .loop .inv .3, rw e (lists-function n (c₇ .own-source .ensures) (c₆ .format-function .ensures .1) (c₅ .functions-at .ensures) (c₄ .word-at .ensures) (c₃ .skip .ensures) (c₂ .further .ensures) (loop-end (omega arith) (c₁ .loop .inv .4) lists-none) (c .after-debug .ensures)))
+    (c₁ .loop .inv .3, rw e (lists-function n (c₇ .source-of .ensures) (c₆ .format-function .ensures .1) (c₅ .functions-at .ensures) (c₄ .word-at .ensures) (c₃ .skip .ensures) (c₂ .further .ensures) (loop-end (omega arith) (c₁ .loop .inv .4) lists-none) (c .after-debug .ensures)))
 
 pub +list-function-recursive-spec : {M : Type 1} → statement M
 +list-function-recursive-spec =
     close μ-list-function-recursive λ t. list-function-recursive-lts.spec (list-function-recursive-calls t) (list-function-recursive-at t) list-function-recursive.Post list-function-recursive-Inv-loop list-function-recursive-μ-loop
     (list-function-recursive-returns t)
-    (list-function-recursive-own-source-requires t)
+    (list-function-recursive-source-of-requires t)
     (list-function-recursive-sub-format-function t)
     (list-function-recursive-format-function-requires t)
     (list-function-recursive-functions-at-requires t)

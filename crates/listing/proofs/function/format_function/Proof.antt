@@ -1,12 +1,12 @@
--- The head stands where the function begins, and its lists where lists_at says.
+-- The lists of the function stand where lists_on_way says.
 use borrow.Author.Needs.{needs}
 use Rattle.lent.proofs.Writes.{put-then}
-use Rattle.listing.proofs.Listers.{head-stands}
+use Rattle.proto.proofs.ListPlaces.{lists-stand}
 use Rattle.listing.proofs.function.format_function.Statement.{statement}
 use Rattle.listing.proofs.function.format_function.Tie as tie
 
-lists-at-requires : tie.Need-lists-at-requires
-lists-at-requires c κs = search needs
+lists-on-way-requires : tie.Need-lists-on-way-requires
+lists-on-way-requires c κs = search needs
 
 head-at-requires : tie.Need-head-at-requires
 head-at-requires c κs = search needs
@@ -38,23 +38,22 @@ returns c =
     let c₅ = c₄ .before .before .before .before .before in
     let c₆ = c₅ .before .before .before .before .before .before .before .before .before in
     let t = c₆ .args .text .now in
-    let known = c₅ .lists-at .ensures .0 in
     let header = c₃ .format-header .ensures in
     let head = c₄ .head-at .ensures in
     let code = c₂ .format-code .ensures in
     let rest = c₁ .format-lists .ensures in
-    let at = c₅ .lists-at .ensures .1 in (
-      known,
+    let found = c₅ .lists-on-way .ensures in (
+      found .1,
       λ p fs vp v s small.
-          let l = at p fs t v s in
-          put-then (put-then (header p fs t (head p (s .to) vp (head-stands p fs (s .stands) .in-words)) l) (code p fs l v small)) (rest p fs l),
+          let l = lists-stand p fs s (found .0 p fs v) in
+          put-then (put-then (header p fs t (head p fs t vp s) l) (code p fs l v small)) (rest p fs l),
     )
 
 pub format-function-spec : {M : Type 1} → statement M
 format-function-spec =
     tie.close
     (tie.spec
-    lists-at-requires
+    lists-on-way-requires
     head-at-requires
     format-header-requires
     format-code-requires

@@ -8,7 +8,7 @@ skip-requires : tie.Need-skip-requires
 skip-requires c κs = search needs
 
 returns : tie.Need-returns
-returns c = λ p. past-head p (c .skip .ensures)
+returns c = λ p fs. past-head p fs (c .skip .ensures)
 
 pub code-at-spec : {M : Type 1} → statement M
 code-at-spec = tie.close (tie.spec skip-requires returns)

@@ -11,7 +11,7 @@ after-list-requires : tie.Need-after-list-requires
 after-list-requires c κs = search needs
 
 returns : tie.Need-returns
-returns c = λ p. past-then (c .before .code-at .ensures p) (past-ints (p .code) (c .after-list .ensures))
+returns c = λ p fs. past-then (c .before .code-at .ensures p fs) (past-ints (p .code) (c .after-list .ensures))
 
 pub constants-at-spec : {M : Type 1} → statement M
 constants-at-spec = tie.close (tie.spec code-at-requires after-list-requires returns)

@@ -11,7 +11,7 @@ after-list-requires : tie.Need-after-list-requires
 after-list-requires c κs = search needs
 
 returns : tie.Need-returns
-returns c = λ p. past-then (c .before .constants-at .ensures p) (past-constants (p .constants) (c .after-list .ensures))
+returns c = λ p fs. past-then (c .before .constants-at .ensures p fs) (past-constants (p .constants) (c .after-list .ensures))
 
 pub functions-at-spec : {M : Type 1} → statement M
 functions-at-spec = tie.close (tie.spec constants-at-requires after-list-requires returns)

@@ -1,6 +1,6 @@
 -- Past the count there is no such function; before it, the head of the function found has its upvalues.
 use borrow.Author.Needs.{needs}
-use Rattle.symbexec.proofs.Children.{behind-none, behind-child}
+use Rattle.symbexec.proofs.Upvalues.{behind-none, behind-child}
 use Rattle.symbexec.proofs.operands.closure_operands.Statement.{statement}
 use Rattle.symbexec.proofs.operands.closure_operands.Tie as tie
 
@@ -10,15 +10,15 @@ word-at-requires c κs = search needs
 returns : tie.Need-returns
 returns c = behind-none (c .before .word-at .ensures) (c .if1 .taken)
 
-seek-child-requires : tie.Need-seek-child-requires
-seek-child-requires c κs = search needs
+child-at-requires : tie.Need-child-at-requires
+child-at-requires c κs = search needs
 
 head-at-requires : tie.Need-head-at-requires
 head-at-requires c κs = search needs
 
 returns-2 : tie.Need-returns-2
-returns-2 c = behind-child (c .before .before .before .word-at .ensures) (c .before .before .if1 .left) (c .before .seek-child .ensures) (c .head-at .ensures)
+returns-2 c = behind-child (c .before .before .before .word-at .ensures) (c .before .before .if1 .left) (c .before .child-at .ensures) (c .head-at .ensures)
 
 pub closure-operands-spec : {M : Type 1} → statement M
 closure-operands-spec =
-    tie.close (tie.spec word-at-requires returns seek-child-requires head-at-requires returns-2)
+    tie.close (tie.spec word-at-requires returns child-at-requires head-at-requires returns-2)

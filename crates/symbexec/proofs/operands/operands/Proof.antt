@@ -2,7 +2,7 @@
 use borrow.Author.Needs.{needs}
 use borrow.Author.Tests.{eq-eqb, ne-eqb}
 use Rattle.symbexec.specs.SymbExec.{operands}
-use Rattle.symbexec.proofs.Children.{behind-kept, behind-is}
+use Rattle.symbexec.proofs.Upvalues.{behind-kept, behind-is}
 use Rattle.symbexec.proofs.operands.operands.Statement.{statement}
 use Rattle.symbexec.proofs.operands.operands.Tie as tie
 

@@ -1,0 +1,18 @@
+-- It stands behind the count, and its number is the next one.
+use borrow.Author.Needs.{needs}
+use mathlib.Core.Path.{refl}
+use Rattle.proto.proofs.Children.{child-first}
+use Rattle.proto.proofs.child.first_child.Statement.{statement}
+use Rattle.proto.proofs.child.first_child.Tie as tie
+
+skip-requires : tie.Need-skip-requires
+skip-requires c κs = search needs
+
+further-requires : tie.Need-further-requires
+further-requires c κs = search needs
+
+returns : tie.Need-returns
+returns c = (refl, child-first (c .before .skip .ensures) (c .further .ensures))
+
+pub first-child-spec : {M : Type 1} → statement M
+first-child-spec = tie.close (tie.spec skip-requires further-requires returns)

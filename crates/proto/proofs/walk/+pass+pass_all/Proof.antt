@@ -1,0 +1,124 @@
+-- The loop's invariant: whatever passes the other functions from here passes all of them from the start.
+-- The measure is twice the allowance, and one more for pass_all, which calls pass at the same allowance.
+use borrow.Author.Needs.{needs}
+use native.Mathlib.Omega.{arith}
+use Prim.Native.Nat.{ℕ, suc, _+_, _-_, _<_}
+use mathlib.Core.Path.{_≡_, refl}
+use Rattle.proto.specs.Walk.{PassesAll}
+use Rattle.proto.proofs.Loops.{Loop, loop-start, loop-turn, loop-end}
+use Rattle.proto.proofs.Walks.{all-none, all-more, passes-lines, passes-function, none-deep}
+use borrow.Fn.Kinds.{In}
+use borrow.Fn.PlainCycle.{Measures, is, falls, and}
+use Rattle.proto.proofs.walk.pass.Reads as pass
+use Rattle.proto.proofs.walk.pass.Kinds as pass-kinds
+use Rattle.proto.proofs.walk.+pass+pass_all.Lts-pass as pass-lts
+use Rattle.proto.proofs.walk.pass_all.Reads as pass-all
+use Rattle.proto.proofs.walk.pass_all.Kinds as pass-all-kinds
+use Rattle.proto.proofs.walk.+pass+pass_all.Lts-pass_all as pass-all-lts
+use Rattle.lent.proofs.further.Reads as further-reads
+use Rattle.proto.proofs.walk.after_debug.Reads as after-debug-reads
+use Rattle.proto.proofs.walk.functions_at.Reads as functions-at-reads
+use Rattle.proto.proofs.walk.skip.Reads as skip-reads
+use Rattle.proto.proofs.walk.word_at.Reads as word-at-reads
+use Rattle.proto.proofs.walk.+pass+pass_all.{statement}
+use Rattle.proto.proofs.walk.+pass+pass_all.Tie.{close}
+
+abbrev μ-pass : Measures 1 pass-kinds.ps ℕ
+μ-pass κs a = a .1 .1 .0 + a .1 .1 .0
+
+abbrev μ-pass-all : Measures 1 pass-all-kinds.ps ℕ
+μ-pass-all κs a = a .1 .1 .1 .0 + a .1 .1 .1 .0 + 1
+
+abbrev pass-at : ℕ → In 1 pass-kinds.ps
+pass-at t = and 1 pass-kinds.ps (is 1 pass-kinds.ps μ-pass t) pass.Pre
+
+abbrev pass-below : ℕ → In 1 pass-kinds.ps
+pass-below t = and 1 pass-kinds.ps (falls 1 pass-kinds.ps _<_ μ-pass t) pass.Pre
+
+abbrev pass-all-at : ℕ → In 1 pass-all-kinds.ps
+pass-all-at t = and 1 pass-all-kinds.ps (is 1 pass-all-kinds.ps μ-pass-all t) pass-all.Pre
+
+abbrev pass-all-below : ℕ → In 1 pass-all-kinds.ps
+pass-all-below t =
+    and 1 pass-all-kinds.ps (falls 1 pass-all-kinds.ps _<_ μ-pass-all t) pass-all.Pre
+
+abbrev pass-calls : ℕ → pass-lts.Claims
+pass-calls t = (functions-at-reads.Asked, functions-at-reads.Learnt, word-at-reads.Asked, word-at-reads.Learnt, skip-reads.Asked, skip-reads.Learnt, further-reads.Asked, further-reads.Learnt, pass-all-below t, pass-all.Post, after-debug-reads.Asked, after-debug-reads.Learnt)
+
+abbrev pass-all-calls : ℕ → pass-all-lts.Claims
+pass-all-calls t = (pass-below t, pass.Post)
+
+pass-returns : (t : ℕ) → pass-lts.Need-returns (pass-calls t) (pass-at t) pass.Post
+pass-returns t c = λ f v. absurd (none-deep (c .if1 .taken) f v)
+
+pass-functions-at-requires : (t : ℕ) → pass-lts.Need-functions-at-requires (pass-calls t) (pass-at t) pass.Post
+pass-functions-at-requires t c κs = search needs
+
+pass-word-at-requires : (t : ℕ) → pass-lts.Need-word-at-requires (pass-calls t) (pass-at t) pass.Post
+pass-word-at-requires t c κs = search needs
+
+pass-skip-requires : (t : ℕ) → pass-lts.Need-skip-requires (pass-calls t) (pass-at t) pass.Post
+pass-skip-requires t c κs = search needs
+
+pass-further-requires : (t : ℕ) → pass-lts.Need-further-requires (pass-calls t) (pass-at t) pass.Post
+pass-further-requires t c κs = search needs
+
+pass-sub-pass-all : (t : ℕ) → pass-lts.Need-sub-pass-all (pass-calls t) (pass-at t) pass.Post
+pass-sub-pass-all t c = omega (arith, c .before .before .before .before .if1 .left)
+
+pass-pass-all-requires : (t : ℕ) → pass-lts.Need-pass-all-requires (pass-calls t) (pass-at t) pass.Post
+pass-pass-all-requires t c κs = (omega (arith, c .before .before .before .before .before .before .pre .0, c .before .before .before .before .if1 .left), tt)
+
+pass-after-debug-requires : (t : ℕ) → pass-lts.Need-after-debug-requires (pass-calls t) (pass-at t) pass.Post
+pass-after-debug-requires t c κs = search needs
+
+pass-returns-2 : (t : ℕ) → pass-lts.Need-returns-2 (pass-calls t) (pass-at t) pass.Post
+pass-returns-2 t c =
+    let n = c .before .before .before .before .before .before .before .before .args .allowance - 1 in
+    let e : c .before .before .before .before .before .before .before .before .args .allowance ≡ suc n = omega (arith, c .before .before .before .before .before .before .if1 .left) in
+    rw e (passes-function n (passes-lines (c .before .before .before .before .word-at .ensures) (c .before .before .before .before .before .functions-at .ensures) (c .before .before .before .skip .ensures) (c .before .before .further .ensures) (c .before .pass-all .ensures)) (c .after-debug .ensures) refl)
+
+abbrev pass-all-Inv-loop : pass-all-lts.InvT-loop
+pass-all-Inv-loop words n allowance r₀ k₀ r k = Loop (PassesAll words allowance) n r₀ k r
+
+abbrev pass-all-μ-loop : pass-all-lts.MeasureT-loop
+pass-all-μ-loop words n allowance r₀ k₀ r k = n - k
+
+pass-all-loop-holds : (t : ℕ) → pass-all-lts.Need-loop-holds (pass-all-calls t) (pass-all-at t) pass-all.Post pass-all-Inv-loop pass-all-μ-loop
+pass-all-loop-holds t c = loop-start
+
+pass-all-pass-requires : (t : ℕ) → pass-all-lts.Need-pass-requires (pass-all-calls t) (pass-all-at t) pass-all.Post pass-all-Inv-loop pass-all-μ-loop
+pass-all-pass-requires t c κs = (omega (arith, c .before .before .before .pre .0), tt)
+
+pass-all-add-k : (t : ℕ) → pass-all-lts.Need-add-k (pass-all-calls t) (pass-all-at t) pass-all.Post pass-all-Inv-loop pass-all-μ-loop
+pass-all-add-k t c = omega arith
+
+pass-all-loop-less : (t : ℕ) → pass-all-lts.Need-loop-less (pass-all-calls t) (pass-all-at t) pass-all.Post pass-all-Inv-loop pass-all-μ-loop
+pass-all-loop-less t c = omega arith
+
+pass-all-loop-again : (t : ℕ) → pass-all-lts.Need-loop-again (pass-all-calls t) (pass-all-at t) pass-all.Post pass-all-Inv-loop pass-all-μ-loop
+pass-all-loop-again t c = loop-turn (omega arith) (c .before .before .loop .inv) (all-more (c .pass .ensures))
+
+pass-all-returns : (t : ℕ) → pass-all-lts.Need-returns (pass-all-calls t) (pass-all-at t) pass-all.Post pass-all-Inv-loop pass-all-μ-loop
+pass-all-returns t c = loop-end (omega arith) (c .before .loop .inv) all-none
+
+pub +pass+pass-all-spec : {M : Type 1} → statement M
++pass+pass-all-spec = close μ-pass μ-pass-all (λ t. pass-lts.spec (pass-calls t) (pass-at t) pass.Post
+    (pass-returns t)
+    (pass-functions-at-requires t)
+    (pass-word-at-requires t)
+    (pass-skip-requires t)
+    (pass-further-requires t)
+    (pass-sub-pass-all t)
+    (pass-pass-all-requires t)
+    (pass-after-debug-requires t)
+    (pass-returns-2 t))
+    λ t. pass-all-lts.spec (pass-all-calls t) (pass-all-at t) pass-all.Post
+    pass-all-Inv-loop
+    pass-all-μ-loop
+    (pass-all-loop-holds t)
+    (pass-all-pass-requires t)
+    (pass-all-add-k t)
+    (pass-all-loop-less t)
+    (pass-all-loop-again t)
+    (pass-all-returns t)
