@@ -10,20 +10,22 @@ use native.Mathlib.Omega.{arith}
 use lib.ListN.{length, take, drop, length-append}
 use lib.Seq.{take-at, drop-at, drop-drop}
 use lib.Dec.{leb, eqb}
-use borrow.Author.Tests.{leb-true, eqb-true, eqb-false}
+use borrow.Author.Tests.{leb-true, eq-eqb, ne-eqb, eqb-true, eqb-false}
 use Rattle.lent.specs.Memory.{Every}
 use Rattle.utf8.specs.Utf8.{isUtf8}
 use Rattle.utf8.specs.Rows.{both}
-use Rattle.format.specs.Tree.{Function, Functions, rootSource, stripped, strippedAll, fill}
+use Rattle.format.specs.Tree.{Function, rootSource, stripped, fill}
 use Rattle.format.specs.Read.{got, refused}
 use Rattle.format.specs.Write.{dumpChunk}
 use Rattle.format.specs.Valid.{depth, most, Name, Holds, HoldOne}
+use Rattle.format.specs.Agree.{Agree}
 use Rattle.format.specs.Stored.{treeOf}
 use Rattle.format.specs.Undump.{loadChunk, UndumpLeft, undumpRefused, Refuses, wordsUsed, textUsed}
 use Rattle.format.specs.Dump.{WriteLeft, writeLeft}
 use Rattle.chunk.specs.Demand3.{DumpCall, Accepted, bytesOf, dumpsOf, endToEnd, dumpedSource, UndumpCall, leftBy, Calls, FindsStripped, Takes, Step, dumpsLeft, Session, Demand3}
 use Rattle.format.proofs.RoundTrip.{Reads, readBack, chunk-law, found-valid, found-filled}
-use Rattle.format.proofs.Stored.{tree-holds}
+use Rattle.format.proofs.Stored.{tree-holds, holds-tree, holds-one}
+use Rattle.format.proofs.Filled.{stripped-not, fill-one}
 use Rattle.format.proofs.Calls.{Outcome, Stores, undump-outcome, undump-refused, refusal-is, stored-holds, DumpRefuses, DumpOutcome, dump-outcome}
 
 got-both : {A : Type 0} {a b : A} {s t : List ℕ} → got a s ≡ got b t → (a ≡ b) × (s ≡ t)
@@ -77,23 +79,41 @@ dump-of d e = by (outcome-of d)
           reads = rw b (chunk-law (s .tree) (d .strip) (d .name) (h .valid) (rw (h .text-is) (h .text-fits)) (n .0) (leb-true (length (d .name)) most (n .1)));
         }
 
+-- ---- what the words of the statement mean, of any dump call whose store holds f
+
+-- the bytes of a dump are the chunk of the tree
+pub bytes-written : (d : DumpCall) → Accepted d → (f : Function) → Holds (d .words) (d .text) f → bytesOf d ≡ dumpChunk (d .strip) (d .name) f
+bytes-written d a f h = dump-of d a .bytes ∙ ap (dumpChunk (d .strip) (d .name)) (holds-one (dump-of d a .holds) h)
+
+-- the source dumped is the root's
+pub dumped-source : (d : DumpCall) (f : Function) → Holds (d .words) (d .text) f → dumpedSource d ≡ rootSource f (d .name)
+dumped-source d f h = rw (holds-tree h)
+
+-- what is found agrees with it in every field, function by function, the debug lists stripped where the dump is
+pub found-agrees : (d : DumpCall) (left : UndumpLeft) (name : List ℕ) (found : FindsStripped d left name) → Agree (found .tree) name (stripped (found .tree′) (d .strip)) (d .name)
+found-agrees d left name found = fill-one (found .tree) name (stripped (found .tree′) (d .strip)) (d .name) .0 (found .one)
+
+-- an accepted call is a dump, a refused one none
+pub dump-kept : (d : DumpCall) (ds : List DumpCall) → Accepted d → dumpsOf (d ∷ ds) ≡ d ∷ dumpsOf ds
+unfolding dumpsOf
+dump-kept d ds a = rw (eq-eqb (d .answer .refusal) 0 a)
+
+pub dump-left-out : (d : DumpCall) (ds : List DumpCall) → (Accepted d → ⊥) → dumpsOf (d ∷ ds) ≡ dumpsOf ds
+unfolding dumpsOf
+dump-left-out d ds n = rw (ne-eqb (d .answer .refusal) 0 n)
+
+-- two dumps stand one behind the other
+pub two-dumps : (d e : DumpCall) → endToEnd (d ∷ e ∷ []) ≡ bytesOf d ++ bytesOf e
+unfolding endToEnd
+two-dumps d e = rw append-nil
+
 -- a refused call wrote nothing
-refused-bytes : (d : DumpCall) → (Accepted d → ⊥) → bytesOf d ≡ []
+pub refused-bytes : (d : DumpCall) → (Accepted d → ⊥) → bytesOf d ≡ []
 refused-bytes d e = by (outcome-of d)
   where
     by : DumpOutcome (d .name) (d .strip) (d .out) (treeOf (d .words) (d .text)) (writeLeft (d .answer) (d .left)) → bytesOf d ≡ []
     by (DumpOutcome.refuses n r l) = ap wrote l
     by (DumpOutcome.dumps s) = absurd (e (ap (λ (u : WriteLeft). u .answer .refusal) (s .leaves)))
-
-mutual
-  unfolding stripped
-
-  stripped-not : (f : Function) → stripped f false ≡ f
-  stripped-not (Function.function p fs) = rw (stripped-none fs)
-
-  stripped-none : (fs : Functions) → strippedAll fs false ≡ fs
-  stripped-none Functions.none = refl
-  stripped-none (Functions.more f fs) = rw (stripped-not f, stripped-none fs)
 
 stripped-by : (f : Function) (strip : Bool) → strip ≡ false → stripped f strip ≡ f
 stripped-by f strip e = rw e (stripped-not f)
@@ -136,7 +156,7 @@ module _ (d : DumpCall) (a : Accepted d) (bytes behind : List ℕ) (is : bytes �
       }
 
   under : (¬ (dumpedSource d ≡ [])) ⊎ (c .lent .name ≡ []) → rootSource (dump .tree) (d .name) ≡ [] → c .lent .name ≡ rootSource (dump .tree) (d .name)
-  under (inl h) e = let root : dumpedSource d ≡ rootSource (dump .tree) (d .name) = rw (dump .held) in absurd (h (root ∙ e))
+  under (inl h) e = absurd (h (dumped-source d (dump .tree) (dump .holds) ∙ e))
   under (inr h) e = h ∙ sym e
 
   takes-law : Stored → Takes d (c .lent .name) (leftBy c)

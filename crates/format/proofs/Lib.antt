@@ -4,3 +4,4 @@ pub mod Loaded
 pub mod Calls
 pub mod Samples
 pub mod Writing
+pub mod Filled

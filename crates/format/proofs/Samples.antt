@@ -3,15 +3,16 @@ use Prim.Native.Nat.{ℕ}
 use mathlib.Core.Path.{_≡_, refl}
 use mathlib.Core.Bool.{true, false}
 use mathlib.Core.Option.{none, some}
-use mathlib.Core.List.{List, [], _∷_, _++_}
+use mathlib.Core.List.{List, [], _∷_, _++_, map}
 use native.Mathlib.Decide.{decLe, decLt, ℕ-discrete}
+use lib.Dec.{leb}
 use Rattle.lent.specs.Memory.{Every}
 use Rattle.utf8.specs.Utf8.{utf8UpTo, repairUpTo, firstStep, whole, begun, matched}
-use Rattle.format.specs.Tree.{Constant, Source, Debug, Function, Functions, count, noDebug}
-use Rattle.format.specs.Read.{got, loadFunction, loadConstants, loadDebug, loadHeader, many, manyFunctions, littleEndian, same}
+use Rattle.format.specs.Tree.{Constant, Source, Debug, Function, Functions, count, partsOf, preorder, fill, noDebug}
+use Rattle.format.specs.Read.{got, refused, countOf, loadFunction, loadConstants, loadDebug, loadHeader, many, manyFunctions, littleEndian, same}
 use Rattle.format.specs.Write.{dumpNumber, each, dumpFunction, dumpChunk}
 use Rattle.format.specs.Store.{functionPiece, pieces}
-use Rattle.format.specs.Valid.{Valid}
+use Rattle.format.specs.Valid.{depth, most, Valid}
 use Rattle.format.specs.Stored.{storedFunction, both?, as?, true?, every?, same?, valid?, treeOf}
 use Rattle.format.specs.Undump.{loadChunk, repaired}
 
@@ -113,3 +114,26 @@ family-written : (loadChunk (dumpChunk false [] (family (Source.own a)) ++ 0xff 
     × (loadChunk (dumpChunk true a (family Source.inherited)) ≡ got (written noDebug) [])
 unfolding loadChunk loadHeader same loadFunction loadConstants loadDebug many manyFunctions littleEndian repaired repairUpTo firstStep whole begun matched dumpFunction dumpNumber each count
 family-written = (refl, refl, refl)
+
+-- each function of it in preorder, its source filled in
+family-filled : map (λ f. partsOf f .source) (preorder (fill (family Source.inherited) a))
+    ≡ Source.own a ∷ Source.own a ∷ Source.own a ∷ Source.own b ∷ Source.own [] ∷ Source.own a ∷ []
+unfolding fill preorder
+family-filled = refl
+
+-- ---- names: sources, local and upvalue names are repaired in every function, constants stay as they are
+
+abbrev names : List ℕ → Debug
+names s = record { lines = 7 ∷ []; locals = record { name = s; start = 0; end = 1 } ∷ []; upvalues = s ∷ [] }
+
+abbrev twoNamed : List ℕ → Function
+twoNamed s = sourced (Source.own s) (names s) (one (sourced (Source.own s) (names s) Functions.none))
+
+names-repaired : repaired (twoNamed (0x41 ∷ 0xff ∷ [])) ≡ twoNamed (0x41 ∷ 0xef ∷ 0xbf ∷ 0xbd ∷ [])
+unfolding repaired repairUpTo firstStep whole begun matched
+names-repaired = refl
+
+-- ---- the limits, each at its last number and one beyond
+
+limits : (countOf 65535 [] ≡ got 65535 []) × (countOf 65536 [] ≡ refused 6) × (leb 200 depth ≡ true) × (leb 201 depth ≡ false) × (leb 16777216 most ≡ true) × (leb 16777217 most ≡ false)
+limits = (refl, refl, refl, refl, refl, refl)

@@ -3,6 +3,7 @@ pub mod Read
 pub mod Write
 pub mod Store
 pub mod Valid
+pub mod Agree
 pub mod Stored
 pub mod Undump
 pub mod Dump

@@ -1,6 +1,6 @@
 -- A Lua 5.1 function prototype as a tree (lobject.h, Proto; in the Rust, proto.rs).
 use Prim.Native.Nat.{ℕ, suc}
-use mathlib.Core.List.{List, []}
+use mathlib.Core.List.{List, [], _∷_, _++_}
 use mathlib.Core.Bool.{Bool, cond}
 
 -- a number is its bits, the high half first
@@ -55,6 +55,19 @@ mutual
 unfoldable pub count : Functions → ℕ
 count Functions.none = 0
 count (Functions.more f fs) = suc (count fs)
+
+-- a function without those in it
+abbrev pub partsOf : Function → Parts
+partsOf (Function.function p fs) = p
+
+-- the functions of a tree in preorder: a function, then those in it
+unfoldable mutual
+  pub preorder : Function → List Function
+  preorder (Function.function p fs) = Function.function p fs ∷ preorderAll fs
+
+  pub preorderAll : Functions → List Function
+  preorderAll Functions.none = []
+  preorderAll (Functions.more f fs) = preorder f ++ preorderAll fs
 
 -- the parts with another source and other debug lists
 abbrev pub with : Source → Debug → Parts → Parts

@@ -11,3 +11,4 @@ pub mod ListPlaces
 pub mod Children
 pub mod Steady
 pub mod Calls
+pub mod Preorder

@@ -1,0 +1,211 @@
+-- Filling in inherited sources changes nothing else, so two trees are one with their sources filled in exactly when their fields agree.
+-- What strip leaves, by the same fields; and what of a tree holds function by function in preorder.
+use Prim.Native.Nat.{ℕ, zero, suc, _+_}
+use mathlib.Core.Path.{_≡_, refl, sym, ap}
+use mathlib.Core.Logic.{_↔_}
+use mathlib.Core.Bool.{Bool, true, false}
+use mathlib.Core.List.{List, [], _∷_, _++_}
+use native.Mathlib.Omega.{arith}
+use lib.ListN.{length, length-append}
+use Rattle.lent.specs.Memory.{Every}
+use Rattle.lent.proofs.Lists.{every-append}
+use Rattle.format.specs.Tree.{Source, Debug, Parts, Function, Functions, partsOf, preorder, preorderAll, with, filled, fill, fillAll, rootSource, stripped, strippedAll}
+use Rattle.format.specs.Valid.{ValidParts, Valid, ValidAll, HoldOne}
+use Rattle.format.specs.Agree.{SameBody, SameDebug, SameParts, StrippedParts, ByFunction, ByFunctions, Agree, Stripped, OwnSource, HoldAgreeing}
+
+-- what holds of every item of two lists one after the other holds of every item of each
+every-both : {A : Type 0} (P : A → Type 0) (s t : List A) → Every P (s ++ t) → Every P s × Every P t
+unfolding Every
+every-both P [] t h = (tt, h)
+every-both P (a ∷ s) t h = let k = every-both P s t (h .1) in ((h .0, k .0), k .1)
+
+-- another source and other debug lists leave the rest alone
+same-body : (s : Source) (d : Debug) (p : Parts) → SameBody p (with s d p)
+same-body s d p =
+    record { lineDefined = refl; lastLineDefined = refl; numUpvalues = refl; numParams = refl; isVararg = refl; maxStackSize = refl; code = refl; constants = refl }
+
+same-debug : (d : Debug) → SameDebug d d
+same-debug d = record { lines = refl; locals = refl; upvalues = refl }
+
+-- ---- fill changes inherited sources alone
+
+mutual
+  unfolding fill ByFunction
+
+  -- the tree filled in agrees with the tree, whatever it stands under
+  pub fill-agrees : (f : Function) (outer under : List ℕ) → Agree f outer (fill f outer) under
+  fill-agrees (Function.function p fs) outer under =
+      (record { source = refl; body = same-body _ _ p; debug = same-debug (p .debug) }, fill-all-agrees fs (filled outer (p .source)) (filled outer (p .source)))
+
+  fill-all-agrees : (fs : Functions) (outer under : List ℕ) → ByFunctions SameParts fs outer (fillAll fs outer) under
+  fill-all-agrees Functions.none outer under = tt
+  fill-all-agrees (Functions.more f fs) outer under = (fill-agrees f outer under, fill-all-agrees fs outer under)
+
+mutual
+  unfolding fill preorder Every
+
+  -- each source of it is its function's own
+  pub fill-owns : (f : Function) (outer : List ℕ) → Every OwnSource (preorder (fill f outer))
+  fill-owns (Function.function p fs) outer = (record { bytes = filled outer (p .source); is = refl }, fill-all-owns fs (filled outer (p .source)))
+
+  fill-all-owns : (fs : Functions) (outer : List ℕ) → Every OwnSource (preorderAll (fillAll fs outer))
+  fill-all-owns Functions.none outer = tt
+  fill-all-owns (Functions.more f fs) outer = every-append OwnSource (preorder (fill f outer)) _ (fill-owns f outer) (fill-all-owns fs outer)
+
+mutual
+  unfolding fill preorder Every
+
+  -- where each source is its function's own, nothing changes
+  pub fill-own : (f : Function) (outer : List ℕ) → Every OwnSource (preorder f) → fill f outer ≡ f
+  fill-own (Function.function p fs) outer h =
+      let e : with (Source.own (filled outer (p .source))) (p .debug) p ≡ p = rw (h .0 .is) in
+      cc (fill-all-own fs (filled outer (p .source)) (h .1))
+
+  fill-all-own : (fs : Functions) (outer : List ℕ) → Every OwnSource (preorderAll fs) → fillAll fs outer ≡ fs
+  fill-all-own Functions.none outer h = refl
+  fill-all-own (Functions.more f fs) outer h =
+      let k = every-both OwnSource (preorder f) (preorderAll fs) h in
+      cc (fill-own f outer (k .0), fill-all-own fs outer (k .1))
+
+-- the root's source is that of the first function of the tree filled in
+pub root-source : (f : Function) (name : List ℕ) → partsOf (fill f name) .source ≡ Source.own (rootSource f name)
+unfolding fill
+root-source (Function.function p fs) name = refl
+
+-- ---- trees that agree are one with their sources filled in, and the other way round
+
+module _ (outer : List ℕ) (p : Parts) (outer′ : List ℕ) (p′ : Parts) where
+  parts-one : SameParts outer p outer′ p′ → with (Source.own (filled outer (p .source))) (p .debug) p ≡ with (Source.own (filled outer′ (p′ .source))) (p′ .debug) p′
+  parts-one h i =
+      record {
+        source = Source.own (h .source i);
+        lineDefined = h .body .lineDefined i;
+        lastLineDefined = h .body .lastLineDefined i;
+        numUpvalues = h .body .numUpvalues i;
+        numParams = h .body .numParams i;
+        isVararg = h .body .isVararg i;
+        maxStackSize = h .body .maxStackSize i;
+        code = h .body .code i;
+        constants = h .body .constants i;
+        debug = record { lines = h .debug .lines i; locals = h .debug .locals i; upvalues = h .debug .upvalues i };
+      }
+
+  parts-agree : with (Source.own (filled outer (p .source))) (p .debug) p ≡ with (Source.own (filled outer′ (p′ .source))) (p′ .debug) p′ → SameParts outer p outer′ p′
+  parts-agree e =
+      let own : Source.own (filled outer (p .source)) ≡ Source.own (filled outer′ (p′ .source)) = ap (λ (q : Parts). q .source) e in
+      record {
+        source = cc;
+        body =
+            record {
+              lineDefined = ap (λ (q : Parts). q .lineDefined) e;
+              lastLineDefined = ap (λ (q : Parts). q .lastLineDefined) e;
+              numUpvalues = ap (λ (q : Parts). q .numUpvalues) e;
+              numParams = ap (λ (q : Parts). q .numParams) e;
+              isVararg = ap (λ (q : Parts). q .isVararg) e;
+              maxStackSize = ap (λ (q : Parts). q .maxStackSize) e;
+              code = ap (λ (q : Parts). q .code) e;
+              constants = ap (λ (q : Parts). q .constants) e;
+            };
+        debug = record { lines = ap (λ (q : Parts). q .debug .lines) e; locals = ap (λ (q : Parts). q .debug .locals) e; upvalues = ap (λ (q : Parts). q .debug .upvalues) e };
+      }
+
+mutual
+  unfolding fill ByFunction
+
+  agree-one : (f : Function) (outer : List ℕ) (f′ : Function) (outer′ : List ℕ) → Agree f outer f′ outer′ → fill f outer ≡ fill f′ outer′
+  agree-one (Function.function p fs) outer (Function.function p′ fs′) outer′ h =
+      cc (parts-one outer p outer′ p′ (h .0), agree-all-one fs (filled outer (p .source)) fs′ (filled outer′ (p′ .source)) (h .1))
+
+  agree-all-one : (fs : Functions) (outer : List ℕ) (fs′ : Functions) (outer′ : List ℕ) → ByFunctions SameParts fs outer fs′ outer′ → fillAll fs outer ≡ fillAll fs′ outer′
+  agree-all-one Functions.none outer Functions.none outer′ h = refl
+  agree-all-one Functions.none outer (Functions.more f′ fs′) outer′ h = absurd h
+  agree-all-one (Functions.more f fs) outer Functions.none outer′ h = absurd h
+  agree-all-one (Functions.more f fs) outer (Functions.more f′ fs′) outer′ h = cc (agree-one f outer f′ outer′ (h .0), agree-all-one fs outer fs′ outer′ (h .1))
+
+mutual
+  unfolding fill ByFunction
+
+  one-agree : (f : Function) (outer : List ℕ) (f′ : Function) (outer′ : List ℕ) → fill f outer ≡ fill f′ outer′ → Agree f outer f′ outer′
+  one-agree (Function.function p fs) outer (Function.function p′ fs′) outer′ e =
+      (parts-agree outer p outer′ p′ cc, one-all-agree fs (filled outer (p .source)) fs′ (filled outer′ (p′ .source)) cc)
+
+  one-all-agree : (fs : Functions) (outer : List ℕ) (fs′ : Functions) (outer′ : List ℕ) → fillAll fs outer ≡ fillAll fs′ outer′ → ByFunctions SameParts fs outer fs′ outer′
+  one-all-agree Functions.none outer Functions.none outer′ e = tt
+  one-all-agree Functions.none outer (Functions.more f′ fs′) outer′ e = let z : _≡_ {A = ℕ} 0 1 = cc in omega arith
+  one-all-agree (Functions.more f fs) outer Functions.none outer′ e = let z : _≡_ {A = ℕ} 0 1 = cc in omega arith
+  one-all-agree (Functions.more f fs) outer (Functions.more f′ fs′) outer′ e = (one-agree f outer f′ outer′ cc, one-all-agree fs outer fs′ outer′ cc)
+
+-- ---- strip
+
+mutual
+  unfolding stripped ByFunction
+
+  stripped-under : (f : Function) (outer outer′ : List ℕ) → ByFunction (λ outer p outer′ p′. StrippedParts p p′) f outer (stripped f true) outer′
+  stripped-under (Function.function p fs) outer outer′ =
+      (record { source = refl; body = same-body _ _ p; lines = refl; locals = refl; upvalues = refl }, stripped-all-under fs _ _)
+
+  stripped-all-under : (fs : Functions) (outer outer′ : List ℕ) → ByFunctions (λ outer p outer′ p′. StrippedParts p p′) fs outer (strippedAll fs true) outer′
+  stripped-all-under Functions.none outer outer′ = tt
+  stripped-all-under (Functions.more f fs) outer outer′ = (stripped-under f outer outer′, stripped-all-under fs outer outer′)
+
+-- the debug lists are empty in every function, all else is as it was
+pub stripped-parts : (f : Function) → Stripped f (stripped f true)
+stripped-parts f = stripped-under f [] []
+
+mutual
+  unfolding stripped
+
+  pub stripped-not : (f : Function) → stripped f false ≡ f
+  stripped-not (Function.function p fs) = rw (stripped-none fs)
+
+  stripped-none : (fs : Functions) → strippedAll fs false ≡ fs
+  stripped-none Functions.none = refl
+  stripped-none (Functions.more f fs) = rw (stripped-not f, stripped-none fs)
+
+-- ---- in preorder
+
+module _ (R : List ℕ → Parts → List ℕ → Parts → Type 0) where
+  mutual
+    unfolding ByFunction preorder
+
+    -- trees of one shape have as many functions
+    pub preorder-length : (f : Function) (outer : List ℕ) (f′ : Function) (outer′ : List ℕ) → ByFunction R f outer f′ outer′ → length (preorder f) ≡ length (preorder f′)
+    preorder-length (Function.function p fs) outer (Function.function p′ fs′) outer′ h = ap suc (preorder-all-length fs _ fs′ _ (h .1))
+
+    preorder-all-length : (fs : Functions) (outer : List ℕ) (fs′ : Functions) (outer′ : List ℕ) → ByFunctions R fs outer fs′ outer′ → length (preorderAll fs) ≡ length (preorderAll fs′)
+    preorder-all-length Functions.none outer Functions.none outer′ h = refl
+    preorder-all-length Functions.none outer (Functions.more f′ fs′) outer′ h = absurd h
+    preorder-all-length (Functions.more f fs) outer Functions.none outer′ h = absurd h
+    preorder-all-length (Functions.more f fs) outer (Functions.more f′ fs′) outer′ h =
+        simp length-append (cc (preorder-length f outer f′ outer′ (h .0), preorder-all-length fs outer fs′ outer′ (h .1)))
+
+pub fill-length : (f : Function) (outer : List ℕ) → length (preorder (fill f outer)) ≡ length (preorder f)
+fill-length f outer = sym (preorder-length SameParts f outer (fill f outer) [] (fill-agrees f outer []))
+
+pub stripped-length : (f : Function) (strip : Bool) → length (preorder (stripped f strip)) ≡ length (preorder f)
+stripped-length f true = sym (preorder-length _ f [] (stripped f true) [] (stripped-parts f))
+stripped-length f false = rw stripped-not
+
+mutual
+  unfolding preorder Valid Every
+
+  -- each function of a well-formed tree has well-formed parts
+  pub preorder-valid : (f : Function) (allowance : ℕ) → Valid f allowance → Every (λ g. ValidParts (partsOf g)) (preorder f)
+  preorder-valid (Function.function p fs) zero v = absurd v
+  preorder-valid (Function.function p fs) (suc allowance) v = (v .0, preorder-all-valid fs allowance (v .2))
+
+  preorder-all-valid : (fs : Functions) (allowance : ℕ) → ValidAll fs allowance → Every (λ g. ValidParts (partsOf g)) (preorderAll fs)
+  preorder-all-valid Functions.none allowance v = tt
+  preorder-all-valid (Functions.more f fs) allowance v =
+      every-append (λ g. ValidParts (partsOf g)) (preorder f) _ (preorder-valid f allowance (v .0)) (preorder-all-valid fs allowance (v .1))
+
+-- ==== the statement: two stores hold one tree exactly when all fields of their trees agree, function by function, inherited sources filled in
+
+pub fill-one : (f : Function) (outer : List ℕ) (f′ : Function) (outer′ : List ℕ) → (fill f outer ≡ fill f′ outer′) ↔ Agree f outer f′ outer′
+fill-one f outer f′ outer′ = (one-agree f outer f′ outer′, agree-one f outer f′ outer′)
+
+pub hold-one : (words text name words′ text′ name′ : List ℕ) → HoldOne words text name words′ text′ name′ ↔ HoldAgreeing words text name words′ text′ name′
+hold-one words text name words′ text′ name′ = (
+  λ h. record { tree = h .tree; tree′ = h .tree′; holds = h .holds; holds′ = h .holds′; agree = one-agree (h .tree) name (h .tree′) name′ (h .one) },
+  λ h. record { tree = h .tree; tree′ = h .tree′; holds = h .holds; holds′ = h .holds′; one = agree-one (h .tree) name (h .tree′) name′ (h .agree) },
+)
