@@ -17,7 +17,7 @@ use Rattle.format.specs.Store.{wordsOf, textOf}
 use Rattle.format.specs.Valid.{depth, most, Valid, Holds}
 use Rattle.format.specs.Stored.{treeOf}
 use Rattle.format.specs.Undump.{loadChunk, UndumpLeft, undumpRefused, nameOk, fits, over, storeLeft, undumpedBy, undumped, UndumpLent, Refuses, wordsUsed, textUsed}
-use Rattle.format.specs.Dump.{WriteLeft, writeRefused, dumpedBy, dumped}
+use Rattle.format.specs.Dump.{WriteLeft, writeRefused, written, onTree, dumped}
 use Rattle.format.proofs.Loaded.{loaded-valid, load-refuses}
 
 -- ---- undump
@@ -137,7 +137,8 @@ pub data DumpOutcome (name : List ℕ) (strip : Bool) (out : List ℕ) (x : Opti
   refuses : (n : ℕ) → DumpRefuses name strip out x n → left ≡ writeRefused n out → DumpOutcome name strip out x left
   dumps : Dumps name strip out x left → DumpOutcome name strip out x left
 
-dumped-by : (name : List ℕ) (strip : Bool) (out : List ℕ) (x : Option Function) → DumpOutcome name strip out x (cond (nameOk name) (dumpedBy x name strip out) (writeRefused 1 out))
+dumped-by : (name : List ℕ) (strip : Bool) (out : List ℕ) (x : Option Function)
+    → DumpOutcome name strip out x (cond (nameOk name) (onTree (λ n. writeRefused n out) (λ f. written (dumpChunk strip name f) out) x) (writeRefused 1 out))
 dumped-by name strip out x = named x (nameOk name) refl
   where
     fitting : (f : Function) → nameOk name ≡ true → (b : Bool) → leb (length (dumpChunk strip name f)) (length out) ≡ b
@@ -146,7 +147,8 @@ dumped-by name strip out x = named x (nameOk name) refl
     fitting f e false h = DumpOutcome.refuses 11 (DumpRefuses.too-long e (leb-false _ _ h)) refl
     fitting f e true h = DumpOutcome.dumps (record { named = e; tree = f; held = refl; fits = leb-true _ _ h; leaves = refl })
 
-    named : (x : Option Function) (b : Bool) → nameOk name ≡ b → DumpOutcome name strip out x (cond b (dumpedBy x name strip out) (writeRefused 1 out))
+    named : (x : Option Function) (b : Bool) → nameOk name ≡ b
+        → DumpOutcome name strip out x (cond b (onTree (λ n. writeRefused n out) (λ f. written (dumpChunk strip name f) out) x) (writeRefused 1 out))
     named x false e = DumpOutcome.refuses 1 (DumpRefuses.bad-name e) refl
     named none true e = DumpOutcome.refuses 10 (DumpRefuses.not-well-formed e) refl
     named (some f) true e = fitting f e _ refl

@@ -1,4 +1,4 @@
--- What dump answers, and what it leaves in lent memory.
+-- What a call on a store that writes answers and leaves in lent memory, dump among them.
 use Prim.Native.Nat.{ℕ}
 use mathlib.Core.List.{List}
 use mathlib.Core.Bool.{Bool, cond}
@@ -26,11 +26,21 @@ writeRefused n out = record { answer = record { refusal = n; len = 0 }; out = ou
 abbrev pub written : List ℕ → List ℕ → WriteLeft
 written bytes out = cond (leb (length bytes) (length out)) (record { answer = record { refusal = 0; len = length bytes }; out = over bytes out }) (writeRefused 11 out)
 
--- by the tree that the store holds: 10 where it holds none
-abbrev pub dumpedBy : Option Function → List ℕ → Bool → List ℕ → WriteLeft
-dumpedBy none name strip out = writeRefused 10 out
-dumpedBy (some f) name strip out = written (dumpChunk strip name f) out
+-- ---- calls on a store: refused by 1, 10, in this order
+
+-- a call that takes a chunk name
+abbrev pub underName : {A : Type 0} → (ℕ → A) → List ℕ → A → A
+underName refuse name answer = cond (nameOk name) answer (refuse 1)
+
+-- on the tree that a store holds
+abbrev pub onTree : {A : Type 0} → (ℕ → A) → (Function → A) → Option Function → A
+onTree refuse answer none = refuse 10
+onTree refuse answer (some f) = answer f
+
+-- a call that writes what bytes gives of the tree that a store holds
+abbrev pub onStore : (Function → List ℕ) → List ℕ → List ℕ → List ℕ → List ℕ → WriteLeft
+onStore bytes words text name out = underName (λ n. writeRefused n out) name (onTree (λ n. writeRefused n out) (λ f. written (bytes f) out) (treeOf words text))
 
 -- dump(words, text, name, strip, out)
 unfoldable pub dumped : List ℕ → List ℕ → List ℕ → Bool → List ℕ → WriteLeft
-dumped words text name strip out = cond (nameOk name) (dumpedBy (treeOf words text) name strip out) (writeRefused 1 out)
+dumped words text name strip out = onStore (λ f. dumpChunk strip name f) words text name out

@@ -4,9 +4,8 @@ use mathlib.Core.Bool.{Bool, cond}
 use mathlib.Core.List.{List, [], _++_}
 use Rattle.instructions.specs.OpCodes.{ascii}
 use Rattle.format.specs.Tree.{Parts, Function, Functions, filled}
-use Rattle.format.specs.Dump.{WriteLeft}
+use Rattle.format.specs.Dump.{WriteLeft, onStore}
 use Rattle.proto.specs.Walk.{total}
-use Rattle.proto.specs.Places.{onStore}
 use Rattle.lines.specs.Line.{formatInstruction}
 use Rattle.headers.specs.Header.{formatHeader}
 use Rattle.headers.specs.Tables.{enumerated, formatConstants, formatLocals, formatUpvalues}

@@ -10,11 +10,10 @@ use Rattle.format.specs.Store.{wordsOf, textOf, functionPiece}
 use Rattle.format.specs.Stored.{treeOf}
 use Rattle.format.specs.Undump.{nameOk}
 use Rattle.format.specs.Valid.{Holds}
-use Rattle.format.specs.Dump.{writeRefused, written}
+use Rattle.format.specs.Dump.{writeRefused, written, onTree, onStore}
 use Rattle.format.proofs.Writing.{written-short, written-all, written-fits}
 use Rattle.proto.specs.Formed.{isHeld}
 use Rattle.proto.specs.Walk.{Stands}
-use Rattle.proto.specs.Places.{onTree, onStore}
 use Rattle.proto.proofs.Heres.{whole-here}
 use Rattle.proto.proofs.Stores.{held-tree, no-tree}
 

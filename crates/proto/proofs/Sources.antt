@@ -17,12 +17,13 @@ use Rattle.format.specs.Store.{word, sourcePiece, debugPiece, functionPiece, fu
 use Rattle.format.specs.Stored.{part, treeOf}
 use Rattle.format.specs.Undump.{nameOk}
 use Rattle.format.specs.Valid.{depth, Valid, ValidAll, Holds}
+use Rattle.format.specs.Dump.{onTree}
 use Rattle.format.proofs.Stored.{here-left, here-part, tree-holds, holds-tree}
 use Rattle.proto.specs.declared.place.Sought.{Sought}
 use Rattle.proto.specs.declared.place.SourceAt.{SourceAt}
 use Rattle.proto.specs.Walk.{Stands, toFunctions, toLines, childrenPiece}
 use Rattle.proto.specs.Formed.{isHeld}
-use Rattle.proto.specs.Places.{Filled, filledIn, named, Placed, placed, placedAll, beginsAt, functionAt, Seeks, Search, onTree, onFunction, onPlace, placeRefusal, noSource, spanAnswer, sourceAnswer, sourcePart}
+use Rattle.proto.specs.Places.{Filled, filledIn, named, Placed, placed, placedAll, beginsAt, functionAt, Seeks, Search, onFunction, onPlace, placeRefusal, noSource, spanAnswer, sourceAnswer, sourcePart}
 use Rattle.proto.proofs.Pieces.{function-debug, stands-same, stands-left, stands-right}
 use Rattle.proto.proofs.Checks.{never}
 use Rattle.proto.proofs.Stores.{held-tree, no-tree}

@@ -9,8 +9,7 @@ use lib.Dec.{eqb}
 use Rattle.format.specs.Tree.{Source, Function, Functions, filled}
 use Rattle.format.specs.Store.{functionPiece}
 use Rattle.format.specs.Stored.{treeOf, Here}
-use Rattle.format.specs.Undump.{nameOk}
-use Rattle.format.specs.Dump.{WriteLeft, writeRefused, written}
+use Rattle.format.specs.Dump.{underName, onTree}
 use Rattle.proto.specs.Walk.{toFunctions}
 use Rattle.proto.specs.declared.place.Span.{Span}
 use Rattle.proto.specs.declared.place.Sought.{Sought}
@@ -74,20 +73,7 @@ pub record Search (words : List ℕ) (place : ℕ) (around : Span) (f : Function
   pub seeks : (to : ℕ) (bytes : List ℕ) → Here words at (functionPiece f .words to)
       → Seeks (beginsAt place (placed f at to (record { bytes = bytes; span = around }))) (at + length (functionPiece f .words to)) r
 
--- ---- calls on a store: refused by 1, 10, 12, in this order
-
--- a call that takes a chunk name
-abbrev pub underName : {A : Type 0} → (ℕ → A) → List ℕ → A → A
-underName refuse name answer = cond (nameOk name) answer (refuse 1)
-
--- on the tree that a store holds
-abbrev pub onTree : {A : Type 0} → (ℕ → A) → (Function → A) → Option Function → A
-onTree refuse answer none = refuse 10
-onTree refuse answer (some f) = answer f
-
--- a call that writes what bytes gives of the tree that a store holds
-abbrev pub onStore : (Function → List ℕ) → List ℕ → List ℕ → List ℕ → List ℕ → WriteLeft
-onStore bytes words text name out = underName (λ n. writeRefused n out) name (onTree (λ n. writeRefused n out) (λ f. written (bytes f) out) (treeOf words text))
+-- ---- calls on a function of a store: refused by 1, 10, 12, in this order
 
 -- on the function that begins at a place
 abbrev pub onFunction : {A : Type 0} → (ℕ → A) → (Placed → A) → Option Placed → A
