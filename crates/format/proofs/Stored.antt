@@ -26,6 +26,11 @@ module _ {xs : List ℕ} where
   pub here-part : {place : ℕ} (s : List ℕ) → Here xs place s → part xs place (length s) ≡ s
   here-part s h = rw (h .is) (take-at s (h .more) (length s) refl)
 
+-- the four bytes in a word, taken out again
+pub unpacked : (p : Parts) → ValidParts p
+    → (packed p / 16777216 ≡ p .numUpvalues) × (packed p / 65536 % 256 ≡ p .numParams) × (packed p / 256 % 256 ≡ p .isVararg) × (packed p % 256 ≡ p .maxStackSize)
+unpacked p v = omega arith
+
 module _ (text : List ℕ) where
   -- wherever the piece's text stands, r finds a in its words
   pub record Finds {A : Type 0} (r : Reader A) (p : Piece) (a : A) : Type 0 where
@@ -80,10 +85,6 @@ module _ (text : List ℕ) where
 
   debug-law : (d : Debug) → Finds (storedDebug text) (debugPiece d) d
   debug-law d = next _ _ (ints-law (d .lines)) (next _ _ (list-law (storedLocal text) localPiece local-law (d .locals)) (ends _ (pure _) (list-law (storedName text) string name-law (d .upvalues))))
-
-  unpacked : (p : Parts) → ValidParts p
-      → (packed p / 16777216 ≡ p .numUpvalues) × (packed p / 65536 % 256 ≡ p .numParams) × (packed p / 256 % 256 ≡ p .isVararg) × (packed p % 256 ≡ p .maxStackSize)
-  unpacked p v = omega arith
 
   mutual
     unfolding storedFunction functionPiece manyFunctions count Valid

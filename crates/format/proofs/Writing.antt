@@ -1,5 +1,5 @@
 -- A call that counts its bytes with no space, and writes them where they fit.
-use Prim.Native.Nat.{ℕ, _+_, _≤_, _<_, min}
+use Prim.Native.Nat.{ℕ, _≤_, _<_, min}
 use mathlib.Core.Path.{_≡_, _∙_}
 use mathlib.Core.List.{List, []}
 use native.Mathlib.Omega.{arith}
@@ -8,7 +8,7 @@ use lib.ListN.{length}
 use borrow.Author.Tests.{le-leb, lt-leb}
 use Rattle.lent.specs.Memory.{far, Puts}
 use Rattle.lent.proofs.Writes.{put-fits}
-use Rattle.format.specs.Dump.{WriteLeft, writeRefused, written}
+use Rattle.format.specs.Dump.{writeRefused, written}
 
 counted : {bytes last : List ℕ} {n : ℕ} → Puts bytes 0 [] n last → n ≡ min (length bytes) far
 counted p = p .puts (omega arith) (omega arith) .0 ∙ omega arith
