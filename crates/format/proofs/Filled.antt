@@ -1,15 +1,15 @@
 -- Filling in inherited sources changes nothing else, so two trees are one with their sources filled in exactly when their fields agree.
 -- What strip leaves, by the same fields; and what of a tree holds function by function in preorder.
-use Prim.Native.Nat.{ℕ, zero, suc, _+_}
+use Prim.Native.Nat.{ℕ, zero, suc}
 use mathlib.Core.Path.{_≡_, refl, sym, ap}
 use mathlib.Core.Logic.{_↔_}
 use mathlib.Core.Bool.{Bool, true, false}
-use mathlib.Core.List.{List, [], _∷_, _++_}
+use mathlib.Core.List.{List, [], _∷_, _++_, map, map-append}
 use native.Mathlib.Omega.{arith}
-use lib.ListN.{length, length-append}
+use lib.ListN.{length, length-map}
 use Rattle.lent.specs.Memory.{Every}
 use Rattle.lent.proofs.Lists.{every-append}
-use Rattle.format.specs.Tree.{Source, Debug, Parts, Function, Functions, partsOf, preorder, preorderAll, with, filled, fill, fillAll, rootSource, stripped, strippedAll}
+use Rattle.format.specs.Tree.{Source, Debug, Parts, Function, Functions, partsOf, preorder, preorderAll, with, filled, fill, fillAll, rootSource, noDebug, stripped, strippedAll}
 use Rattle.format.specs.Valid.{ValidParts, Valid, ValidAll, HoldOne}
 use Rattle.format.specs.Agree.{SameBody, SameDebug, SameParts, StrippedParts, ByFunction, ByFunctions, Agree, Stripped, OwnSource, HoldAgreeing}
 
@@ -26,6 +26,22 @@ same-body s d p =
 
 same-debug : (d : Debug) → SameDebug d d
 same-debug d = record { lines = refl; locals = refl; upvalues = refl }
+
+-- where all fields are the same the parts are
+parts-one : {p p′ : Parts} {s s′ : Source} {d d′ : Debug} → SameBody p p′ → s ≡ s′ → SameDebug d d′ → with s d p ≡ with s′ d′ p′
+parts-one h e k i =
+    record {
+      source = e i;
+      lineDefined = h .lineDefined i;
+      lastLineDefined = h .lastLineDefined i;
+      numUpvalues = h .numUpvalues i;
+      numParams = h .numParams i;
+      isVararg = h .isVararg i;
+      maxStackSize = h .maxStackSize i;
+      code = h .code i;
+      constants = h .constants i;
+      debug = record { lines = k .lines i; locals = k .locals i; upvalues = k .upvalues i };
+    }
 
 -- ---- fill changes inherited sources alone
 
@@ -74,47 +90,32 @@ root-source (Function.function p fs) name = refl
 
 -- ---- trees that agree are one with their sources filled in, and the other way round
 
-module _ (outer : List ℕ) (p : Parts) (outer′ : List ℕ) (p′ : Parts) where
-  parts-one : SameParts outer p outer′ p′ → with (Source.own (filled outer (p .source))) (p .debug) p ≡ with (Source.own (filled outer′ (p′ .source))) (p′ .debug) p′
-  parts-one h i =
-      record {
-        source = Source.own (h .source i);
-        lineDefined = h .body .lineDefined i;
-        lastLineDefined = h .body .lastLineDefined i;
-        numUpvalues = h .body .numUpvalues i;
-        numParams = h .body .numParams i;
-        isVararg = h .body .isVararg i;
-        maxStackSize = h .body .maxStackSize i;
-        code = h .body .code i;
-        constants = h .body .constants i;
-        debug = record { lines = h .debug .lines i; locals = h .debug .locals i; upvalues = h .debug .upvalues i };
-      }
-
-  parts-agree : with (Source.own (filled outer (p .source))) (p .debug) p ≡ with (Source.own (filled outer′ (p′ .source))) (p′ .debug) p′ → SameParts outer p outer′ p′
-  parts-agree e =
-      let own : Source.own (filled outer (p .source)) ≡ Source.own (filled outer′ (p′ .source)) = ap (λ (q : Parts). q .source) e in
-      record {
-        source = cc;
-        body =
-            record {
-              lineDefined = ap (λ (q : Parts). q .lineDefined) e;
-              lastLineDefined = ap (λ (q : Parts). q .lastLineDefined) e;
-              numUpvalues = ap (λ (q : Parts). q .numUpvalues) e;
-              numParams = ap (λ (q : Parts). q .numParams) e;
-              isVararg = ap (λ (q : Parts). q .isVararg) e;
-              maxStackSize = ap (λ (q : Parts). q .maxStackSize) e;
-              code = ap (λ (q : Parts). q .code) e;
-              constants = ap (λ (q : Parts). q .constants) e;
-            };
-        debug = record { lines = ap (λ (q : Parts). q .debug .lines) e; locals = ap (λ (q : Parts). q .debug .locals) e; upvalues = ap (λ (q : Parts). q .debug .upvalues) e };
-      }
+agree-parts : (outer : List ℕ) (p : Parts) (outer′ : List ℕ) (p′ : Parts)
+    → with (Source.own (filled outer (p .source))) (p .debug) p ≡ with (Source.own (filled outer′ (p′ .source))) (p′ .debug) p′ → SameParts outer p outer′ p′
+agree-parts outer p outer′ p′ e =
+    let own : Source.own (filled outer (p .source)) ≡ Source.own (filled outer′ (p′ .source)) = ap (λ (q : Parts). q .source) e in
+    record {
+      source = cc;
+      body =
+          record {
+            lineDefined = ap (λ (q : Parts). q .lineDefined) e;
+            lastLineDefined = ap (λ (q : Parts). q .lastLineDefined) e;
+            numUpvalues = ap (λ (q : Parts). q .numUpvalues) e;
+            numParams = ap (λ (q : Parts). q .numParams) e;
+            isVararg = ap (λ (q : Parts). q .isVararg) e;
+            maxStackSize = ap (λ (q : Parts). q .maxStackSize) e;
+            code = ap (λ (q : Parts). q .code) e;
+            constants = ap (λ (q : Parts). q .constants) e;
+          };
+      debug = record { lines = ap (λ (q : Parts). q .debug .lines) e; locals = ap (λ (q : Parts). q .debug .locals) e; upvalues = ap (λ (q : Parts). q .debug .upvalues) e };
+    }
 
 mutual
   unfolding fill ByFunction
 
   agree-one : (f : Function) (outer : List ℕ) (f′ : Function) (outer′ : List ℕ) → Agree f outer f′ outer′ → fill f outer ≡ fill f′ outer′
   agree-one (Function.function p fs) outer (Function.function p′ fs′) outer′ h =
-      cc (parts-one outer p outer′ p′ (h .0), agree-all-one fs (filled outer (p .source)) fs′ (filled outer′ (p′ .source)) (h .1))
+      cc (parts-one (h .0 .body) (ap Source.own (h .0 .source)) (h .0 .debug), agree-all-one fs (filled outer (p .source)) fs′ (filled outer′ (p′ .source)) (h .1))
 
   agree-all-one : (fs : Functions) (outer : List ℕ) (fs′ : Functions) (outer′ : List ℕ) → ByFunctions SameParts fs outer fs′ outer′ → fillAll fs outer ≡ fillAll fs′ outer′
   agree-all-one Functions.none outer Functions.none outer′ h = refl
@@ -127,7 +128,7 @@ mutual
 
   one-agree : (f : Function) (outer : List ℕ) (f′ : Function) (outer′ : List ℕ) → fill f outer ≡ fill f′ outer′ → Agree f outer f′ outer′
   one-agree (Function.function p fs) outer (Function.function p′ fs′) outer′ e =
-      (parts-agree outer p outer′ p′ cc, one-all-agree fs (filled outer (p .source)) fs′ (filled outer′ (p′ .source)) cc)
+      (agree-parts outer p outer′ p′ cc, one-all-agree fs (filled outer (p .source)) fs′ (filled outer′ (p′ .source)) cc)
 
   one-all-agree : (fs : Functions) (outer : List ℕ) (fs′ : Functions) (outer′ : List ℕ) → fillAll fs outer ≡ fillAll fs′ outer′ → ByFunctions SameParts fs outer fs′ outer′
   one-all-agree Functions.none outer Functions.none outer′ e = tt
@@ -148,9 +149,24 @@ mutual
   stripped-all-under Functions.none outer outer′ = tt
   stripped-all-under (Functions.more f fs) outer outer′ = (stripped-under f outer outer′, stripped-all-under fs outer outer′)
 
--- the debug lists are empty in every function, all else is as it was
-pub stripped-parts : (f : Function) → Stripped f (stripped f true)
-stripped-parts f = stripped-under f [] []
+mutual
+  unfolding stripped ByFunction
+
+  stripped-one : (f : Function) (outer : List ℕ) (f′ : Function) (outer′ : List ℕ) → ByFunction (λ outer p outer′ p′. StrippedParts p p′) f outer f′ outer′ → stripped f true ≡ f′
+  stripped-one (Function.function p fs) outer (Function.function p′ fs′) outer′ h =
+      let k = h .0 in
+      let e : with (p .source) noDebug p ≡ p′ = parts-one (k .body) (k .source) (record { lines = sym (k .lines); locals = sym (k .locals); upvalues = sym (k .upvalues) }) in
+      cc (stripped-all-one fs _ fs′ _ (h .1))
+
+  stripped-all-one : (fs : Functions) (outer : List ℕ) (fs′ : Functions) (outer′ : List ℕ) → ByFunctions (λ outer p outer′ p′. StrippedParts p p′) fs outer fs′ outer′ → strippedAll fs true ≡ fs′
+  stripped-all-one Functions.none outer Functions.none outer′ h = refl
+  stripped-all-one Functions.none outer (Functions.more f′ fs′) outer′ h = absurd h
+  stripped-all-one (Functions.more f fs) outer Functions.none outer′ h = absurd h
+  stripped-all-one (Functions.more f fs) outer (Functions.more f′ fs′) outer′ h = cc (stripped-one f outer f′ outer′ (h .0), stripped-all-one fs outer fs′ outer′ (h .1))
+
+-- a tree is stripped exactly when its debug lists are empty and all else is as it was, function by function
+pub strip-one : (f f′ : Function) → (stripped f true ≡ f′) ↔ Stripped f f′
+strip-one f f′ = (λ e. rw e at (stripped-under f [] []), stripped-one f [] f′ [])
 
 mutual
   unfolding stripped
@@ -164,26 +180,34 @@ mutual
 
 -- ---- in preorder
 
-module _ (R : List ℕ → Parts → List ℕ → Parts → Type 0) where
+module _ {A : Type 0} (R : List ℕ → Parts → List ℕ → Parts → Type 0) (g : Parts → A) (same : (outer : List ℕ) (p : Parts) (outer′ : List ℕ) (p′ : Parts) → R outer p outer′ p′ → g p ≡ g p′) where
   mutual
     unfolding ByFunction preorder
 
-    -- trees of one shape have as many functions
-    pub preorder-length : (f : Function) (outer : List ℕ) (f′ : Function) (outer′ : List ℕ) → ByFunction R f outer f′ outer′ → length (preorder f) ≡ length (preorder f′)
-    preorder-length (Function.function p fs) outer (Function.function p′ fs′) outer′ h = ap suc (preorder-all-length fs _ fs′ _ (h .1))
+    -- what R leaves the same in each function is the same in preorder
+    pub preorder-same : (f : Function) (outer : List ℕ) (f′ : Function) (outer′ : List ℕ) → ByFunction R f outer f′ outer′ → map (λ x. g (partsOf x)) (preorder f) ≡ map (λ x. g (partsOf x)) (preorder f′)
+    preorder-same (Function.function p fs) outer (Function.function p′ fs′) outer′ h = cc (same outer p outer′ p′ (h .0), preorder-all-same fs _ fs′ _ (h .1))
 
-    preorder-all-length : (fs : Functions) (outer : List ℕ) (fs′ : Functions) (outer′ : List ℕ) → ByFunctions R fs outer fs′ outer′ → length (preorderAll fs) ≡ length (preorderAll fs′)
-    preorder-all-length Functions.none outer Functions.none outer′ h = refl
-    preorder-all-length Functions.none outer (Functions.more f′ fs′) outer′ h = absurd h
-    preorder-all-length (Functions.more f fs) outer Functions.none outer′ h = absurd h
-    preorder-all-length (Functions.more f fs) outer (Functions.more f′ fs′) outer′ h =
-        simp length-append (cc (preorder-length f outer f′ outer′ (h .0), preorder-all-length fs outer fs′ outer′ (h .1)))
+    preorder-all-same : (fs : Functions) (outer : List ℕ) (fs′ : Functions) (outer′ : List ℕ) → ByFunctions R fs outer fs′ outer′
+        → map (λ x. g (partsOf x)) (preorderAll fs) ≡ map (λ x. g (partsOf x)) (preorderAll fs′)
+    preorder-all-same Functions.none outer Functions.none outer′ h = refl
+    preorder-all-same Functions.none outer (Functions.more f′ fs′) outer′ h = absurd h
+    preorder-all-same (Functions.more f fs) outer Functions.none outer′ h = absurd h
+    preorder-all-same (Functions.more f fs) outer (Functions.more f′ fs′) outer′ h =
+        simp map-append (cc (preorder-same f outer f′ outer′ (h .0), preorder-all-same fs outer fs′ outer′ (h .1)))
+
+-- trees of one shape have as many functions
+preorder-length : (R : List ℕ → Parts → List ℕ → Parts → Type 0) (f : Function) (outer : List ℕ) (f′ : Function) (outer′ : List ℕ) → ByFunction R f outer f′ outer′
+    → length (preorder f′) ≡ length (preorder f)
+preorder-length R f outer f′ outer′ h =
+    let e = ap length (preorder-same {A = ℕ} R (λ p. 0) (λ outer p outer′ p′ k. refl) f outer f′ outer′ h) in
+    sym (simp length-map at e)
 
 pub fill-length : (f : Function) (outer : List ℕ) → length (preorder (fill f outer)) ≡ length (preorder f)
-fill-length f outer = sym (preorder-length SameParts f outer (fill f outer) [] (fill-agrees f outer []))
+fill-length f outer = preorder-length SameParts f outer (fill f outer) [] (fill-agrees f outer [])
 
 pub stripped-length : (f : Function) (strip : Bool) → length (preorder (stripped f strip)) ≡ length (preorder f)
-stripped-length f true = sym (preorder-length _ f [] (stripped f true) [] (stripped-parts f))
+stripped-length f true = preorder-length _ f [] (stripped f true) [] (stripped-under f [] [])
 stripped-length f false = rw stripped-not
 
 mutual

@@ -26,7 +26,7 @@ writeRefused n out = record { answer = record { refusal = n; len = 0 }; out = ou
 abbrev pub written : List ℕ → List ℕ → WriteLeft
 written bytes out = cond (leb (length bytes) (length out)) (record { answer = record { refusal = 0; len = length bytes }; out = over bytes out }) (writeRefused 11 out)
 
--- ---- calls on a store: refused by 1, 10, in this order
+-- ---- calls on a store: refused by 1, 10, 11, in this order
 
 -- a call that takes a chunk name
 abbrev pub underName : {A : Type 0} → (ℕ → A) → List ℕ → A → A
