@@ -307,3 +307,41 @@ demand3 =
       none-begins = none-begins-law;
       same-dumps = λ ds es h. same-law (dumpsOf ds) (dumpsOf es) (dumps-accepted ds) (dumps-accepted es) (dumps-bytes ds ∙ h ∙ sym (dumps-bytes es));
     }
+
+-- ---- the statement put to use
+
+module _ {slice : List ℕ} (place : ℕ) (c : UndumpCall (drop place slice)) (cs : Calls slice (place + c .answer .read)) (d : DumpCall) (ds : List DumpCall) where
+  -- behind a call that is not refused stands the next dump, behind one that is the same
+  pub session-next : c .answer .refusal ≡ 0 → Session (Calls.call {place = place} c cs) (d ∷ ds) → Session cs ds
+  unfolding Session
+  session-next h s = rw (eq-eqb _ _ h) at (s .1)
+
+  pub session-again : (c .answer .refusal ≡ 0 → ⊥) → Session (Calls.call {place = place} c cs) (d ∷ ds) → Session cs (d ∷ ds)
+  unfolding Session
+  session-again n s = rw (ne-eqb _ _ n) at (s .1)
+
+module _ (d e : DumpCall) (a : Accepted d) (b : Accepted e) (behind : List ℕ) where
+  abbrev slice : List ℕ
+  slice = endToEnd (d ∷ e ∷ []) ++ behind
+
+  both-kept : dumpsOf (d ∷ e ∷ []) ≡ d ∷ e ∷ []
+  unfolding dumpsOf
+  both-kept = dump-kept d (e ∷ []) a ∙ ap (λ (l : List DumpCall). d ∷ l) (dump-kept e [] b)
+
+  module _ (c₁ : UndumpCall (drop 0 slice)) (c₂ : UndumpCall (drop (0 + c₁ .answer .read) slice)) (c₃ : UndumpCall (drop (0 + c₁ .answer .read + c₂ .answer .read) slice)) where
+    abbrev third : Calls slice (0 + c₁ .answer .read + c₂ .answer .read)
+    third = Calls.call c₃ Calls.done
+
+    abbrev second : Calls slice (0 + c₁ .answer .read)
+    second = Calls.call c₂ third
+
+    abbrev first : Calls slice 0
+    first = Calls.call c₁ second
+
+    -- of two dumps, with a refused call between: the call after it finds the second
+    pub second-found : c₁ .answer .refusal ≡ 0 → (c₂ .answer .refusal ≡ 0 → ⊥) → c₃ .answer .refusal ≡ 0 → Takes e (c₃ .lent .name) (leftBy c₃)
+    unfolding Session
+    second-found h n k =
+        let all : Session first (d ∷ e ∷ []) = rw both-kept at (demand3 .session (d ∷ e ∷ []) behind first) in
+        let last : Session third (e ∷ []) = session-again _ c₂ third e [] n (session-next _ c₁ second d (e ∷ []) h all) in
+        last .0 .takes k
