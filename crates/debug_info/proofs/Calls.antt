@@ -10,7 +10,7 @@ use lib.Dec.{leb}
 use borrow.Author.Tests.{eq-eqb, ne-eqb, le-leb, lt-leb, leb-true}
 use Rattle.lent.specs.Memory.{Puts}
 use Rattle.lent.proofs.Writes.{sets-past}
-use Rattle.format.specs.Tree.{Parts, Function, Functions}
+use Rattle.format.specs.Tree.{Parts, Function, Functions, partsOf}
 use Rattle.format.specs.Store.{functionPiece}
 use Rattle.format.specs.Dump.{WriteLeft}
 use Rattle.format.specs.Valid.{depth, Valid, ValidAll, ValidParts}
@@ -19,7 +19,7 @@ use Rattle.proto.specs.Walk.{Stands, StandsAt, Past, toCode}
 use Rattle.proto.specs.Places.{Placed, onPlace, placeRefusal}
 use Rattle.proto.proofs.Items.{code-stands, ints-count}
 use Rattle.proto.proofs.Sources.{all-suc, function-stands, On, place-on, on-answer, on-refused}
-use Rattle.debug_info.specs.Calls.{partsOf, onRegister, registerRefusal, nameLeft, nameRefused, namedBy}
+use Rattle.debug_info.specs.Calls.{onRegister, registerRefusal, nameLeft, nameRefused, namedBy}
 
 -- ---- the function that stands at a place
 

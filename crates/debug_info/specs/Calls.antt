@@ -4,16 +4,13 @@ use mathlib.Core.List.{List}
 use mathlib.Core.Bool.{cond}
 use lib.ListN.{length}
 use lib.Dec.{eqb, leb}
-use Rattle.format.specs.Tree.{Parts, Function}
+use Rattle.format.specs.Tree.{Function, partsOf}
 use Rattle.format.specs.Dump.{WriteLeft, writeRefused, written}
 use Rattle.proto.specs.Places.{onPlace}
 use Rattle.symbexec.specs.SymbExec.{symbexec}
 use Rattle.debug_info.specs.Names.{Object, getLocalName, kname, getobjname}
 use Rattle.debug_info.specs.declared.answer.SymbExec.{SymbExec}
 use Rattle.debug_info.specs.declared.answer.Named.{Named}
-
-abbrev pub partsOf : Function → Parts
-partsOf (Function.function p fs) = p
 
 -- a call on a pc and a register of the function at a place: refused by 10, 12, 13, 14, in this order
 abbrev pub onRegister : {A : Type 0} → (ℕ → A) → (Function → A) → List ℕ → List ℕ → ℕ → ℕ → ℕ → A

@@ -23,7 +23,7 @@ ghost use Rattle.debug_info.specs.Known.{objectOf};
 ghost use Rattle.debug_info.specs.Calls.{registerRefusal, symbexecAnswer, nameLeft, named, localNamed, knamed, objectNamed};
 
 // How many values a pc of 32 bits has.
-const PCS: usize = 4294967296;
+pub const PCS: usize = 4294967296;
 
 // The refusal of a call on a pc and a register of the function at a place: 10, 12, 13, 14, or 0 for none.
 fn register_refusal(words: &[u32], text: &[u8], place: usize, pc: usize, reg: u32) -> u32

@@ -4,11 +4,11 @@ use mathlib.Core.List.{List}
 use mathlib.Core.Bool.{cond}
 use lib.ListN.{length}
 use lib.Dec.{eqb, leb}
-use Rattle.format.specs.Tree.{Local, Function}
+use Rattle.format.specs.Tree.{Local, Function, partsOf}
 use Rattle.proto.specs.Walk.{toLocals}
 use Rattle.proto.specs.Places.{Placed, onPlace}
 use Rattle.debug_info.specs.Names.{activeLocal, getLocalName}
-use Rattle.debug_info.specs.Calls.{partsOf, NameLeft, nameRefused, named}
+use Rattle.debug_info.specs.Calls.{NameLeft, nameRefused, named}
 use Rattle.debug_info.specs.declared.answer.Named.{Named}
 use Rattle.local_records.specs.Records.{filled}
 use Rattle.local_records.specs.declared.record.LocalRecord.{LocalRecord}

@@ -1,6 +1,7 @@
 // The name of an active local, looked up in a lent slice of records that is filled from the store (debug_info.rs, get_local_name).
 pub mod record;
 
+use debug_info::PCS;
 use debug_info::answer::Named;
 use debug_info::give;
 use debug_info::list::active_local;
@@ -22,9 +23,6 @@ ghost use lib.ListN.{length, take};
 ghost use Rattle.lent.specs.Memory.{far};
 ghost use Rattle.local_records.specs.Records.{filled, activeIn};
 ghost use Rattle.local_records.specs.Lookup.{noLocals, localsFor, lookupLeft, localNamedIn};
-
-// How many values a pc of 32 bits has.
-const PCS: usize = 4294967296;
 
 // The refusal of a lookup, 0 for none; then where the function's locals stand in the words, behind their count, and how many there are.
 struct Locals {

@@ -14,7 +14,7 @@ use Rattle.format.specs.Tree.{Constant as Value, Source, Parts, Function, Funct
 use Rattle.format.specs.Store.{Piece, word, _⊕_, string, pieces, list, ints, sourcePiece, constantPiece, localPiece, debugPiece, packed, functionPiece, functionPieces}
 use Rattle.format.specs.Stored.{part, Here}
 use Rattle.format.specs.Valid.{ValidParts, Valid, ValidAll}
-use Rattle.format.proofs.Stored.{here-left, here-right, here-part}
+use Rattle.format.proofs.Stored.{here-left, here-right, here-part, unpacked}
 use Rattle.proto.specs.declared.walk.Next.{Next}
 use Rattle.proto.specs.Walk.{Stands, StandsAt, item, Skips, Past, childrenPiece, toCode, toConstants, toFunctions, toLines, toLocals, toUpvalues}
 use Rattle.proto.specs.Head.{headOf}
@@ -233,7 +233,3 @@ head-here {words} {at} {a} {b} {c} {x} {y} {z} f i g j k l p fs t v stands =
     let o : z ≡ packed p = l ∙ rw d′ (here-item (p .lineDefined ∷ p .lastLineDefined ∷ packed p ∷ []) 2 (omega arith) t) in
     let u = unpacked p v in
     rw (e, e′, o, u .0, u .1, u .2, u .3)
-  where
-    unpacked : (p : Parts) → ValidParts p
-        → (packed p / 16777216 ≡ p .numUpvalues) × (packed p / 65536 % 256 ≡ p .numParams) × (packed p / 256 % 256 ≡ p .isVararg) × (packed p % 256 ≡ p .maxStackSize)
-    unpacked p v = omega arith

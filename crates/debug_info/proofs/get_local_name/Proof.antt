@@ -1,8 +1,9 @@
 -- Not refused, the function stands at its place, and so do its locals.
 use borrow.Author.Needs.{needs}
 use mathlib.Core.Path.{ap, _∙_}
+use Rattle.format.specs.Tree.{partsOf}
 use Rattle.debug_info.specs.Names.{getLocalName}
-use Rattle.debug_info.specs.Calls.{partsOf, nameRefused, named, localNamed}
+use Rattle.debug_info.specs.Calls.{nameRefused, named, localNamed}
 use Rattle.proto.proofs.ListPlaces.{lists-stand}
 use Rattle.debug_info.proofs.Calls.{place-refused, place-answered}
 use Rattle.debug_info.proofs.get_local_name.Statement.{statement}

@@ -1,10 +1,11 @@
 -- Not refused, the function stands at its place, and so do its constants.
 use borrow.Author.Needs.{needs}
 use mathlib.Core.Path.{ap, _∙_}
+use Rattle.format.specs.Tree.{partsOf}
 use Rattle.format.specs.Dump.{writeRefused, written}
 use Rattle.proto.proofs.Items.{somewhere, constants-stand}
 use Rattle.debug_info.specs.Names.{kname}
-use Rattle.debug_info.specs.Calls.{partsOf, knamed}
+use Rattle.debug_info.specs.Calls.{knamed}
 use Rattle.debug_info.proofs.Calls.{place-refused, place-answered}
 use Rattle.debug_info.proofs.kname.Statement.{statement}
 use Rattle.debug_info.proofs.kname.Tie as tie
