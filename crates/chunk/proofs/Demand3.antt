@@ -5,7 +5,7 @@ use mathlib.Core.Path.{_≡_, refl, sym, ap, _∙_}
 use mathlib.Core.Logic.{_⊎_, inl, inr}
 use mathlib.Core.Option.{Option, none, some}
 use mathlib.Core.List.{List, [], _∷_, _++_, map, append-assoc, append-nil, append-cancel-right}
-use mathlib.Core.Bool.{Bool, true, false, cond}
+use mathlib.Core.Bool.{Bool, true, false, cond, and-eq-true-iff}
 use native.Mathlib.Omega.{arith}
 use lib.ListN.{length, take, drop, length-append}
 use lib.Seq.{take-at, drop-at, drop-drop}
@@ -13,7 +13,6 @@ use lib.Dec.{leb, eqb}
 use borrow.Author.Tests.{leb-true, eq-eqb, ne-eqb, eqb-true, eqb-false}
 use Rattle.lent.specs.Memory.{Every}
 use Rattle.utf8.specs.Utf8.{isUtf8}
-use Rattle.utf8.specs.Rows.{both}
 use Rattle.format.specs.Tree.{Function, rootSource, stripped, fill}
 use Rattle.format.specs.Read.{got, refused}
 use Rattle.format.specs.Write.{dumpChunk}
@@ -68,7 +67,7 @@ dump-of d e = by (outcome-of d)
         absurd (omega arith)
     by (DumpOutcome.dumps s) =
         let h = tree-holds (d .words) (d .text) (s .tree) (s .held) in
-        let n = both (isUtf8 (d .name)) (leb (length (d .name)) most) (s .named) in
+        let n = and-eq-true-iff (isUtf8 (d .name)) (leb (length (d .name)) most) .0 (s .named) in
         let b : bytesOf d ≡ dumpChunk (d .strip) (d .name) (s .tree) = ap wrote (s .leaves) ∙ take-at (dumpChunk (d .strip) (d .name) (s .tree)) _ _ refl in
         record {
           tree = s .tree;

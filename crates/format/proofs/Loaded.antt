@@ -11,7 +11,7 @@ use borrow.Author.Tests.{leb-true}
 use Rattle.lent.specs.Memory.{Every, Byte, Word, Bytes}
 use Rattle.lent.proofs.Lists.{every-take, every-drop}
 use Rattle.utf8.specs.Utf8.{repair}
-use Rattle.utf8.specs.Laws.{utf8-repair}
+use Rattle.utf8.proofs.Laws.{utf8-repair}
 use Rattle.format.specs.Tree.{Constant, Source, Function, Functions, count, filled}
 use Rattle.format.specs.Read.{Read, Reader, got, refused, andThen, _>>=_, return, refuse, loadBlock, loadByte, littleEndian, loadNumber, loadInt, stringOf, loadString, loadText, limit, countOf, loadCount, many, loadList, constantOf, loadConstant, manyFunctions, Constants, loadConstants, loadLocal, loadDebug, loadFunction, same, signature, format, loadExactly, loadHeader}
 use Rattle.format.specs.Valid.{depth, Name, ValidSource, ValidConstant, ValidLocal, ValidList, ValidDebug, Valid, ValidAll}

@@ -2,7 +2,7 @@
 use Prim.Native.Nat.{ℕ, zero, suc, _+_, _/_, _≤_, _<_, _^_}
 use mathlib.Core.Path.{_≡_, refl, sym, ap}
 use mathlib.Core.List.{List, [], _∷_, _++_, map, append-assoc}
-use mathlib.Core.Bool.{Bool, true, false, cond, false≢true}
+use mathlib.Core.Bool.{Bool, true, false, cond, false≢true, and-eq-true-iff}
 use native.Mathlib.Omega.{arith}
 use native.Mathlib.Numerals.{add-one}
 use lib.ListN.{length, length-append}
@@ -10,8 +10,7 @@ use lib.Seq.{take-at, drop-at}
 use lib.Dec.{eqb}
 use borrow.Author.Tests.{le-leb, eq-eqb, eqb-true}
 use Rattle.utf8.specs.Utf8.{repair}
-use Rattle.utf8.specs.Laws.{repair-utf8}
-use Rattle.utf8.specs.Rows.{both}
+use Rattle.utf8.proofs.Laws.{repair-utf8}
 use Rattle.lent.specs.Memory.{Every, Word}
 use Rattle.format.specs.Tree.{Constant, Source, Local, Debug, Parts, Function, Functions, count, filled, kept, noDebug, with, rootSource, fill, fillAll, stripped, strippedAll}
 use Rattle.format.specs.Read.{Reader, got, _>>=_, return, loadBlock, loadByte, littleEndian, loadNumber, loadInt, stringOf, loadString, loadText, limit, countOf, loadCount, many, loadList, constantOf, loadConstant, manyFunctions, loadConstants, loadLocal, loadDebug, loadFunction, same, signature, format, loadHeader}
@@ -303,7 +302,7 @@ same-true [] [] e = refl
 same-true [] (b ∷ t) e = absurd (false≢true e)
 same-true (a ∷ s) [] e = absurd (false≢true e)
 same-true (a ∷ s) (b ∷ t) e =
-    let e′ = both (eqb a b) (same s t) e in
+    let e′ = and-eq-true-iff (eqb a b) (same s t) .0 e in
     cc (eqb-true a b (e′ .0), same-true s t (e′ .1))
 
 same-self : (s : List ℕ) → same s s ≡ true

@@ -10,7 +10,7 @@ use lib.ListN.{length, drop, getD, length-append, length-drop, length-take, List
 use lib.Seq.{getD-take, getD-drop, length-take-le}
 use Rattle.lent.specs.Memory.{Every, Word, Bytes}
 use Rattle.utf8.specs.Utf8.{isUtf8}
-use Rattle.utf8.specs.Laws.{utf8-bytes, utf8-ascii}
+use Rattle.utf8.proofs.Laws.{utf8-bytes, utf8-ascii}
 use Rattle.format.specs.Store.{Piece, word, _⊕_, string, pieces, list, ints}
 use Rattle.format.specs.Stored.{part, Here}
 use Rattle.format.specs.Valid.{Name, ValidList}

@@ -2,7 +2,7 @@
 use Prim.Native.Nat.{ℕ, zero, suc, _+_, _-_, _≤_, _<_}
 use mathlib.Core.Path.{_≡_, refl}
 use mathlib.Core.List.{List, [], _∷_}
-use mathlib.Core.Bool.{Bool, true, false, _&&_, false≢true}
+use mathlib.Core.Bool.{Bool, true, false, _&&_, false≢true, and-eq-true-iff}
 use native.Mathlib.Omega.{arith}
 use native.Mathlib.Decide.{decLe}
 use lib.ListN.{length, drop, getD, drop-of-length-le}
@@ -10,7 +10,8 @@ use lib.Dec.{eqb}
 use borrow.Author.Tests.{eqb-true}
 use Rattle.lent.proofs.Lists.{drop-more}
 use Rattle.utf8.specs.Utf8.{Range, _‥_, Row, table3-7, matched, whole, begun, firstStep}
-use Rattle.utf8.specs.Rows.{rowOf, secondRange, ranges, begunAt, both, row-step}
+use Rattle.utf8.specs.Rows.{rowOf, secondRange, ranges, begunAt}
+use Rattle.utf8.proofs.Rows.{row-step}
 
 -- ---- tests of rows
 
@@ -26,8 +27,8 @@ same-is [] [] e = refl
 same-is [] (s ∷ q) e = absurd (false≢true e)
 same-is (r ∷ p) [] e = absurd (false≢true e)
 same-is (r ∷ p) (s ∷ q) e =
-    let h = both (eqb (r .low) (s .low)) (eqb (r .high) (s .high) && same p q) e in
-    let k = both (eqb (r .high) (s .high)) (same p q) (h .1) in
+    let h = and-eq-true-iff (eqb (r .low) (s .low)) (eqb (r .high) (s .high) && same p q) .0 e in
+    let k = and-eq-true-iff (eqb (r .high) (s .high)) (same p q) .0 (h .1) in
     let low : r .low ≡ s .low = eqb-true (r .low) (s .low) (h .0) in
     let high : r .high ≡ s .high = eqb-true (r .high) (s .high) (k .0) in
     λ i. record { low = low i; high = high i } ∷ same-is p q (k .1) i
@@ -41,7 +42,7 @@ passes-at : (f : ℕ → Bool) (from n b : ℕ) → passes f from n ≡ true →
 unfolding passes
 passes-at f from zero b e h k = absurd (omega arith)
 passes-at f from (suc n) b e h k =
-    let t = both (f from) (passes f (suc from) n) e in
+    let t = and-eq-true-iff (f from) (passes f (suc from) n) .0 e in
     elim (decLe (suc from) b) [
       | yes l ↦ passes-at f (suc from) n b (t .1) l (omega arith)
       | no l ↦ let q : b ≡ from = omega arith in rw q (t .0)

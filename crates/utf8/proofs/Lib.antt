@@ -1,4 +1,7 @@
+pub mod Rows
+pub mod Laws
+pub mod Ascii
 mod Leads
 mod Ranges
 mod Texts
-mod Ascii
+mod Cases

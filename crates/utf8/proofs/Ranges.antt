@@ -10,7 +10,8 @@ use lib.ListN.{length, drop, getD, drop-of-length-le}
 use lib.Seq.{drop-drop}
 use Rattle.lent.proofs.Lists.{drop-more}
 use Rattle.utf8.specs.Utf8.{Range, Row, within, matched}
-use Rattle.utf8.specs.Rows.{begins, in-range}
+use Rattle.utf8.specs.Rows.{begins}
+use Rattle.utf8.proofs.Rows.{in-range}
 
 module _ (s : List ℕ) (at : ℕ) (r : Range) where
   pub begins-none : length s ≤ at → begins r (drop at s) ≡ false

@@ -11,10 +11,11 @@ use lib.Dec.{eqb}
 use borrow.Author.Tests.{eq-eqb, ne-eqb, not-true, not-false}
 use Rattle.lent.proofs.Lists.{drop-more}
 use Rattle.utf8.specs.declared.Step.{Step}
-use Rattle.utf8.specs.Utf8.{_‥_, table3-7, firstStep, isUtf8, replacement, repairUpTo, repair}
-use Rattle.utf8.specs.Laws.{step-bounds, utf8-nil, utf8-cons, repair-cons, ascii-sequence, front-sequence, sequence-text, utf8-append, utf8-both, repair-append}
+use Rattle.utf8.specs.Utf8.{_‥_, table3-7, firstStep, isUtf8, isAscii, replacement, repairUpTo, repair}
+use Rattle.utf8.proofs.Laws.{step-bounds, utf8-nil, utf8-cons, repair-cons, ascii-sequence, front-sequence, sequence-text, utf8-append, utf8-both, repair-append, utf8-ascii}
 use Rattle.utf8.specs.Rows.{rowOf, secondRange, ranges, begins}
 use Rattle.utf8.specs.Text.{Text, TextEnd}
+use Rattle.utf8.proofs.Ascii.{ascii-every}
 use Rattle.utf8.proofs.Leads.{passes, len-from, step-led}
 use Rattle.utf8.proofs.Ranges.{begins-byte, Left, left-done}
 
@@ -25,6 +26,10 @@ text-none s at h = record { from = omega arith; fits = h; text = let e : at - at
 
 text-some : (s : List ℕ) (at n : ℕ) → at + n ≤ length s → isUtf8 (take n (drop at s)) ≡ true → Text s at (at + n)
 text-some s at n h k = record { from = omega arith; fits = h; text = let e : at + n - at ≡ n = omega arith in rw e k }
+
+-- ASCII is text
+pub text-ascii : {s : List ℕ} {at : ℕ} (n : ℕ) {t : Bool} → at + n ≤ length s → t ≡ isAscii (take n (drop at s)) → not t ≡ false → Text s at (at + n)
+text-ascii {s} {at} n {t} h e k = text-some s at n h (utf8-ascii _ (ascii-every _ (sym e ∙ not-false t k)))
 
 -- from a to b, and from b to c
 joined : (s : List ℕ) (a b c : ℕ) → a ≤ b → b ≤ c → take (c - a) (drop a s) ≡ take (b - a) (drop a s) ++ take (c - b) (drop b s)

@@ -3,7 +3,7 @@ use Prim.Native.Nat.{ℕ, _-_, _≤_, _<_}
 use mathlib.Core.Path.{_≡_}
 use mathlib.Core.List.{List}
 use mathlib.Core.Bool.{true, false}
-use lib.ListN.{length, take, drop, getD}
+use lib.ListN.{length, take, drop}
 use Rattle.utf8.specs.Utf8.{firstStep, isUtf8}
 
 -- what stands from a place up to another is well-formed
@@ -16,7 +16,3 @@ pub record Text (s : List ℕ) (at to : ℕ) : Type 0 where
 pub record TextEnd (s : List ℕ) (at to : ℕ) : Type 0 where
   pub text : Text s at to
   pub stops : to < length s → firstStep (drop to s) .«well_formed» ≡ false
-
--- the bytes from a place up to another are ASCII
-pub record AsciiIn (s : List ℕ) (at to : ℕ) : Type 0 where
-  pub ascii : (k : ℕ) → at ≤ k → k < to → getD s k 0 < 0x80

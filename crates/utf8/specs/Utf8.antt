@@ -3,7 +3,7 @@ use Prim.Native.Nat.{ℕ, zero, suc, max, min}
 use mathlib.Core.List.{List, [], _∷_, _++_}
 use mathlib.Core.Bool.{Bool, true, false, cond, _&&_}
 use lib.ListN.{length, take, drop}
-use lib.Dec.{leb, eqb}
+use lib.Dec.{leb, ltb, eqb}
 use Rattle.utf8.specs.declared.Step.{Step}
 
 -- the range of a byte, both ends in it
@@ -87,3 +87,8 @@ utf8UpTo (suc n) (b ∷ bs) = firstStep (b ∷ bs) .«well_formed» && utf8UpTo 
 -- well-formed: a series of well-formed sequences
 abbrev pub isUtf8 : List ℕ → Bool
 isUtf8 bs = utf8UpTo (length bs) bs
+
+-- ASCII: each byte is below 0x80
+unfoldable pub isAscii : List ℕ → Bool
+isAscii [] = true
+isAscii (b ∷ bs) = ltb b 0x80 && isAscii bs

@@ -1,12 +1,12 @@
 // UTF-8: whether bytes are well-formed, and their repair.
-ghost use Prim.Native.Nat.{ℕ, _+_, _≤_, _<_};
+ghost use Prim.Native.Nat.{_+_, _≤_, _<_};
 ghost use mathlib.Core.Path.{_≡_};
 ghost use mathlib.Core.Bool.{true};
-ghost use lib.ListN.{length, drop, getD};
+ghost use lib.ListN.{length, take, drop, getD};
 ghost use Rattle.lent.specs.Memory.{Puts};
-ghost use Rattle.utf8.specs.Utf8.{_‥_, table3-7, firstStep, isUtf8, replacement, repair as repaired};
+ghost use Rattle.utf8.specs.Utf8.{_‥_, table3-7, firstStep, isUtf8, isAscii, replacement, repair as repaired};
 ghost use Rattle.utf8.specs.Rows.{rowOf, secondLow, secondHigh, secondRange, begunAt, begins};
-ghost use Rattle.utf8.specs.Text.{Text, TextEnd, AsciiIn};
+ghost use Rattle.utf8.specs.Text.{Text, TextEnd};
 
 // What stands first in some bytes: how many they are, and whether they are a well-formed sequence or a maximal subpart of an ill-formed one.
 pub struct Step {
@@ -142,7 +142,7 @@ fn three(bytes: &[u8], at: usize) -> bool
 // Whether the 32 bytes from a place on are ASCII. The loop has one way out, so that it becomes vector instructions.
 fn is_ascii_block(bytes: &[u8], at: usize) -> bool
     requires { ⌜ at + 32 ≤ length (now bytes) ⌝ }
-    ensures { λ r. ⌜ (r ≡ true → Text (now (bytes .entry)) at (at + 32)) ⌝ }
+    ensures { λ r. ⌜ r ≡ isAscii (take 32 (drop at (now (bytes .entry)))) ⌝ }
 {
     let mut top: u8 = 0;
     let mut i: usize = 0;
@@ -219,7 +219,7 @@ pub fn is_utf8(bytes: &[u8]) -> bool
 
 // Whether bytes are ASCII, one by one. The loop has one way out, so that it becomes vector instructions.
 fn is_ascii_each(bytes: &[u8]) -> bool
-    ensures { λ r. ⌜ (r ≡ true → (k : ℕ) → getD (now (bytes .entry)) k 0 < 0x80) ⌝ }
+    ensures { λ r. ⌜ r ≡ isAscii (now (bytes .entry)) ⌝ }
 {
     let mut top: u8 = 0;
     let mut i: usize = 0;
@@ -236,7 +236,7 @@ fn is_ascii_each(bytes: &[u8]) -> bool
 // Whether the four bytes from a place on are ASCII; all are read before one is tested, so that they are tested at once.
 fn is_ascii_four(bytes: &[u8], at: usize) -> bool
     requires { ⌜ at + 4 ≤ length (now bytes) ⌝ }
-    ensures { λ r. ⌜ (r ≡ true → AsciiIn (now (bytes .entry)) at (at + 4)) ⌝ }
+    ensures { λ r. ⌜ r ≡ isAscii (take 4 (drop at (now (bytes .entry)))) ⌝ }
 {
     let a = bytes[at];
     let b = bytes[at + 1];
@@ -256,7 +256,7 @@ fn is_ascii_four(bytes: &[u8], at: usize) -> bool
 
 // Whether bytes are ASCII. Few bytes are tested in fours, the last four of which may lie over those before them.
 pub fn is_ascii(bytes: &[u8]) -> bool
-    ensures { λ r. ⌜ (r ≡ true → (k : ℕ) → getD (now (bytes .entry)) k 0 < 0x80) ⌝ }
+    ensures { λ r. ⌜ r ≡ isAscii (now (bytes .entry)) ⌝ }
 {
     let n = bytes.len();
     if n < 4 {

@@ -2,9 +2,8 @@
 use Prim.Native.Nat.{_-_}
 use native.Mathlib.Omega.{arith}
 use lib.ListN.{length}
-use borrow.Author.Tests.{not-false}
 use Rattle.utf8.specs.Text.{Text}
-use Rattle.utf8.proofs.Texts.{text-none, text-join}
+use Rattle.utf8.proofs.Texts.{text-none, text-ascii, text-join}
 use Rattle.utf8.proofs.ascii_blocks.Statement.{statement}
 use Rattle.utf8.proofs.ascii_blocks.Tie as tie
 
@@ -33,7 +32,7 @@ loop-less : tie.Need-loop-less Inv-loop μ-loop
 loop-less c = omega arith
 
 loop-again : tie.Need-loop-again Inv-loop μ-loop
-loop-again c = text-join (c .before .before .before .loop .inv) (c .before .is-ascii-block .ensures (not-false _ (c .if1 .left)))
+loop-again c = text-join (c .before .before .before .loop .inv) (text-ascii 32 (omega arith) (c .before .is-ascii-block .ensures) (c .if1 .left))
 
 returns-2 : tie.Need-returns-2 Inv-loop μ-loop
 returns-2 c = c .before .loop .inv

@@ -1,22 +1,24 @@
--- While no byte so far is above top, those so far are ASCII if top is. Past the end there is no byte.
-use Prim.Native.Nat.{ℕ, _-_, _≤_, _<_}
+-- The greatest byte so far says whether those so far are ASCII.
+use Prim.Native.Nat.{_-_, _≤_}
 use mathlib.Core.Logic.{⊎-elim}
+use mathlib.Core.Path.{_≡_, sym, _∙_}
 use native.Mathlib.Omega.{arith}
-use native.Mathlib.Decide.{decLt}
-use lib.ListN.{length, getD, List·getD-eq-default}
-use borrow.Author.Count.{below-more}
-use borrow.Author.Tests.{leb-true}
+use native.Mathlib.Nat.{zero-add}
+use lib.ListN.{length}
+use lib.Seq.{take-length}
+use lib.Dec.{leb·suc-suc}
+use Rattle.utf8.proofs.Ascii.{Greatest, greatest-none, greatest-more}
 use Rattle.utf8.proofs.is_ascii_each.Statement.{statement}
 use Rattle.utf8.proofs.is_ascii_each.Tie as tie
 
 abbrev Inv-loop : tie.InvT-loop
-Inv-loop bytes top₀ i₀ top i = (i ≤ length bytes) × (top < 0x80 → (k : ℕ) → k < i → getD bytes k 0 < 0x80)
+Inv-loop bytes top₀ i₀ top i = (i ≤ length bytes) × Greatest bytes 0 i top
 
 abbrev μ-loop : tie.MeasureT-loop
 μ-loop bytes top₀ i₀ top i = length bytes - i
 
 loop-holds : tie.Need-loop-holds Inv-loop μ-loop
-loop-holds c = (omega arith, λ h k l. absurd (omega arith))
+loop-holds c = (omega arith, greatest-none)
 
 shared-slice-read-b : tie.Need-shared-slice-read-b Inv-loop μ-loop
 shared-slice-read-b c = omega arith
@@ -30,21 +32,14 @@ loop-less c = omega arith
 loop-again : tie.Need-loop-again Inv-loop μ-loop
 loop-again c =
     let l = c .before .before .before .loop in
-    let a = c .before .before .before .before .args in (
-      omega arith,
-      λ h.
-          let k : (l .top < 0x80) × (getD (a .bytes .now) (l .i) 0 < 0x80) = ⊎-elim (λ w. omega arith) (λ w. omega arith) (c .if1 .came) in
-          below-more _ _ (l .inv .1 (k .0)) (k .1),
-    )
+    (omega arith, greatest-more (omega arith) (rw zero-add (⊎-elim (λ w. omega arith) (λ w. omega arith) (c .if1 .came))) (l .inv .1))
 
 returns : tie.Need-returns Inv-loop μ-loop
-returns c h k =
+returns c =
     let l = c .before .loop in
     let s = c .before .before .args .bytes .now in
-    elim (decLt k (l .i)) [
-      | yes y ↦ l .inv .1 (omega (arith, leb-true (l .top) 0x7f h)) k y
-      | no n ↦ let e : length s ≤ k = omega arith in rw (List·getD-eq-default s 0 e) (omega arith)
-    ]
+    let e : l .i ≡ length s = omega arith in
+    sym (leb·suc-suc (l .top) _) ∙ l .inv .1 .ascii ∙ rw (e, take-length s)
 
 pub is-ascii-each-spec : {M : Type 1} → statement M
 is-ascii-each-spec =

@@ -1,13 +1,9 @@
+-- Each of the four is tested.
 use borrow.Author.Needs.{needs}
-use native.Mathlib.Omega.{arith}
-use mathlib.Core.Path.{_≡_}
-use borrow.Author.Tests.{ltb-true}
-use Prim.Native.Nat.{ℕ}
+use borrow.Author.Tests.{lt-ltb, le-ltb}
 use Rattle.utf8.proofs.Ascii.{ascii-four}
 use Rattle.utf8.proofs.is_ascii_four.Statement.{statement}
 use Rattle.utf8.proofs.is_ascii_four.Tie as tie
-
--- Each of the four is tested.
 
 shared-slice-read-a : tie.Need-shared-slice-read-a
 shared-slice-read-a c = search needs
@@ -31,20 +27,24 @@ shared-slice-read-d : tie.Need-shared-slice-read-d
 shared-slice-read-d c = search needs
 
 returns : tie.Need-returns
-returns c = λ h. let z : _≡_ {A = ℕ} 0 1 = cc in absurd (omega arith)
+returns c =
+    let a = c .before .before .before .before .before in
+    rw (ascii-four (a .args .bytes .now) (a .args .at) (a .pre), le-ltb _ _ (c .if1 .taken))
 
 returns-2 : tie.Need-returns-2
-returns-2 c = λ h. let z : _≡_ {A = ℕ} 0 1 = cc in absurd (omega arith)
+returns-2 c =
+    let a = c .before .before .before .before .before .before in
+    rw (ascii-four (a .args .bytes .now) (a .args .at) (a .pre), lt-ltb _ _ (c .before .if1 .left), le-ltb _ _ (c .if2 .taken))
 
 returns-3 : tie.Need-returns-3
-returns-3 c = λ h. let z : _≡_ {A = ℕ} 0 1 = cc in absurd (omega arith)
+returns-3 c =
+    let a = c .before .before .before .before .before .before .before in
+    rw (ascii-four (a .args .bytes .now) (a .args .at) (a .pre), lt-ltb _ _ (c .before .before .if1 .left), lt-ltb _ _ (c .before .if2 .left), le-ltb _ _ (c .if3 .taken))
 
 returns-4 : tie.Need-returns-4
 returns-4 c =
-    let c₁ = c .before in
-    let c₂ = c₁ .before in
-    let c₃ = c₂ .before .before .before .before .before in
-    λ h. ascii-four (c₃ .args .bytes .now) (c₃ .args .at) (c₂ .if1 .left) (c₁ .if2 .left) (c .if3 .left) (ltb-true _ _ h)
+    let a = c .before .before .before .before .before .before .before in
+    rw (ascii-four (a .args .bytes .now) (a .args .at) (a .pre), lt-ltb _ _ (c .before .before .if1 .left), lt-ltb _ _ (c .before .if2 .left), lt-ltb _ _ (c .if3 .left))
 
 pub is-ascii-four-spec : {M : Type 1} → statement M
 is-ascii-four-spec =

@@ -1,9 +1,9 @@
+-- ASCII is its own repair; else step by step.
 use borrow.Author.Needs.{needs}
+use mathlib.Core.Path.{sym, _∙_}
 use Rattle.utf8.proofs.Ascii.{repair-ascii}
 use Rattle.utf8.proofs.repair.Statement.{statement}
 use Rattle.utf8.proofs.repair.Tie as tie
-
--- ASCII is its own repair; else step by step.
 
 is-ascii-requires : tie.Need-is-ascii-requires
 is-ascii-requires c κs = search needs
@@ -20,7 +20,7 @@ returns c =
     let c₂ = c₁ .before .before in
     let c₃ = c₂ .before in
     let c₄ = c₃ .before .before .before in
-    rw (repair-ascii (c₄ .args .bytes .now) (c₃ .is-ascii .ensures (c₂ .if1 .taken))) (c₁ .put-bytes .ensures)
+    rw (repair-ascii (c₄ .args .bytes .now) (sym (c₃ .is-ascii .ensures) ∙ c₂ .if1 .taken)) (c₁ .put-bytes .ensures)
 
 repair-steps-requires : tie.Need-repair-steps-requires
 repair-steps-requires c κs = search needs

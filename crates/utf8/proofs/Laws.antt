@@ -2,7 +2,7 @@
 use Prim.Native.Nat.{ℕ, zero, suc, _≤_, _<_}
 use mathlib.Core.Path.{_≡_, refl, sym, ap, _∙_}
 use mathlib.Core.List.{List, [], _∷_, _++_, append-assoc, append-nil}
-use mathlib.Core.Bool.{Bool, true, false, cond, _&&_, false≢true}
+use mathlib.Core.Bool.{Bool, true, false, cond, _&&_, false≢true, and-eq-true-iff}
 use native.Mathlib.Omega.{arith}
 use native.Mathlib.Nat.{le-refl}
 use lib.ListN.{length, take, drop, length-drop, take-append-drop}
@@ -13,7 +13,8 @@ use Rattle.lent.specs.Memory.{Every, Byte, Bytes}
 use Rattle.lent.proofs.Lists.{every-append}
 use Rattle.utf8.specs.declared.Step.{Step}
 use Rattle.utf8.specs.Utf8.{Row, table3-7, within, matched, whole, firstStep, replacement, repairedStep, repairUpTo, repair, utf8UpTo, isUtf8}
-use Rattle.utf8.specs.Rows.{rowOf, rowStep, both, in-range, matched-le, row-step}
+use Rattle.utf8.specs.Rows.{rowOf}
+use Rattle.utf8.proofs.Rows.{rowStep, in-range, matched-le, row-step}
 
 -- ---- one step after the other
 
@@ -134,7 +135,7 @@ by-sequences P none more = by-steps (λ s. isUtf8 s ≡ true → P s) (λ e. non
   where
     go : (b : ℕ) (bs : List ℕ) → (isUtf8 (behind (b ∷ bs)) ≡ true → P (behind (b ∷ bs))) → isUtf8 (b ∷ bs) ≡ true → P (b ∷ bs)
     go b bs i e =
-        let h = both (firstStep (b ∷ bs) .«well_formed») (isUtf8 (behind (b ∷ bs))) (sym (utf8-cons b bs) ∙ e) in
+        let h = and-eq-true-iff (firstStep (b ∷ bs) .«well_formed») (isUtf8 (behind (b ∷ bs))) .0 (sym (utf8-cons b bs) ∙ e) in
         let n = firstStep (b ∷ bs) .len in
         rw take-append-drop at (more (take n (b ∷ bs)) (behind (b ∷ bs)) (front-sequence b bs (h .0)) (i (h .1)))
 
