@@ -11,11 +11,10 @@ use lib.Dec.{ltb, leb→le}
 use lib.Signed.{_≤ℤ_}
 use mir.Syntax.{w32}
 use mir.Val.{ofZ}
-use borrow.Author.Tests.{lt-ltb, le-ltb, ltb-true, ltb-false, eq-eqb}
+use borrow.Author.Tests.{lt-ltb, le-ltb, ltb-true, ltb-false}
 use Rattle.instructions.specs.Fields.{SIZE-OP, SIZE-A, SIZE-B, SIZE-C, SIZE-Bx, POS-OP, POS-A, POS-B, POS-C, POS-Bx, MAXARG-Bx, MAXARG-sBx}
 use Rattle.instructions.specs.Fields.{field, placed, GET-OPCODE, GETARG-A, GETARG-B, GETARG-C, GETARG-Bx, GETARG-sBx, CREATE-ABC, CREATE-ABx, CREATE-AsBx}
-use Rattle.instructions.specs.Fields.{mark, ISK, INDEXK, RKASK}
-use Rattle.instructions.specs.OpCodes.{NUM-OPCODES, orMove, opcode}
+use Rattle.instructions.specs.OpCodes.{NUM-OPCODES, orMove}
 
 -- ==== what an instruction is made of, it holds
 
@@ -112,14 +111,6 @@ excess bx h = by (ltb bx MAXARG-sBx) refl
 pub a-sbx-own : (i : ℕ) → i < 2 ^ 32 → CREATE-AsBx (GET-OPCODE i) (GETARG-A i) (GETARG-sBx i) ≡ i
 a-sbx-own i h = rw (excess (GETARG-Bx i) (mod-lt (i / 2 ^ POS-Bx) (pow-pos SIZE-Bx))) (a-bx-own i h)
 
--- ==== RK operands
-
-pub rk-is-k : (x : ℕ) → ISK (RKASK x) ≡ true
-rk-is-k x = eq-eqb (mark (RKASK x)) 1 (omega arith)
-
-pub rk-index : (x : ℕ) → INDEXK (RKASK x) ≡ INDEXK x
-rk-index x = omega arith
-
 -- ==== opcodes
 
 pub opcode-known : (n : ℕ) → orMove n < NUM-OPCODES
@@ -128,7 +119,3 @@ opcode-known n = by (ltb n NUM-OPCODES) refl
     by : (t : Bool) → ltb n NUM-OPCODES ≡ t → cond t n 0 < NUM-OPCODES
     by true e = omega (arith, ltb-true)
     by false e = omega arith
-
--- an opcode that an instruction was made of is its opcode
-pub opcode-own : (o i : ℕ) → o < NUM-OPCODES → GET-OPCODE i ≡ o % 2 ^ SIZE-OP → opcode i ≡ o
-opcode-own o i h e = rw (e, whole SIZE-OP {x = o} (omega arith), lt-ltb o NUM-OPCODES h)

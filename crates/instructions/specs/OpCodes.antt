@@ -3,7 +3,7 @@
 use Prim.Native.Nat.{ℕ, _-_}
 use Prim.Native.String.{String}
 use Prim.Native.Char.{code}
-use mathlib.Core.Bool.{cond}
+use mathlib.Core.Bool.{Bool, false, cond, _||_}
 use mathlib.Core.List.{List, [], _∷_, _++_}
 use lib.ListN.{length, getD, replicate}
 use lib.Dec.{eqb, ltb}
@@ -141,6 +141,18 @@ orMove n = cond (ltb n NUM-OPCODES) n OP-MOVE
 abbrev pub opcode : ℕ → ℕ
 opcode i = orMove (GET-OPCODE i)
 
+-- an opcode is one of these
+abbrev pub among : ℕ → List ℕ → Bool
+among op [] = false
+among op (o ∷ l) = eqb op o || among op l
+
+-- the opcodes that jump by sBx
+abbrev pub jumpOps : List ℕ
+jumpOps = OP-JMP ∷ OP-FORLOOP ∷ OP-FORPREP ∷ []
+
+unfoldable pub isJump : ℕ → Bool
+isJump op = among op jumpOps
+
 -- ==== lopcodes.c, luaP_opmodes and luaP_opnames
 
 -- the bytes of an ASCII text
@@ -235,8 +247,8 @@ abbrev pub argOf : ℕ → OpArgMask
 argOf n = getD (N ∷ U ∷ R ∷ []) n K
 
 -- getOpMode, getBMode, getCMode, testTMode, testAMode
-abbrev pub unpacked : ℕ → OpModes
-unpacked m =
+abbrev pub modesOfByte : ℕ → OpModes
+modesOfByte m =
     record {
       mode = modeOf (field 0 2 m);
       «b_mode» = argOf (field 4 2 m);

@@ -5,7 +5,7 @@ ghost use Prim.Native.Nat.{_+_, _≤_, _<_};
 ghost use Rattle.instructions.specs.Fields.{field, placed, GETARG-A, GETARG-B, GETARG-C, GETARG-Bx, GETARG-sBx};
 ghost use Rattle.instructions.specs.Fields.{CREATE-ABC, CREATE-ABx, CREATE-AsBx, ISK, INDEXK, RKASK};
 ghost use Rattle.instructions.specs.OpCodes.{Row, opcodes, opcode, orMove, opModes, opName, padded};
-ghost use Rattle.instructions.specs.OpCodes.{unpacked, modeOf, argOf};
+ghost use Rattle.instructions.specs.OpCodes.{isJump, modesOfByte, modeOf, argOf};
 
 // Size and position of opcode arguments. From the low bit: the opcode, A, C, B; Bx is C and B together.
 const SIZE_C: u32 = 9;
@@ -246,6 +246,18 @@ fn or_move(n: u8) -> u8
     if n < NUM_OPCODES { n } else { OP_MOVE }
 }
 
+// Whether an opcode jumps.
+pub fn is_jump(op: u8) -> bool
+    ensures { λ r. ⌜ r ≡ isJump op ⌝ }
+{
+    match op {
+        OP_JMP => true,
+        OP_FORLOOP => true,
+        OP_FORPREP => true,
+        _ => false,
+    }
+}
+
 // Basic instruction format.
 pub enum OpMode {
     IABC,
@@ -330,7 +342,7 @@ const OP_MODES: [u8; 38] = [
 
 // The table, with its rule.
 fn op_mode_bytes() -> [u8; 38]
-    ensures { λ r. ⌜ map unpacked r ≡ map (λ (o : Row). o .modes) opcodes ⌝ }
+    ensures { λ r. ⌜ map modesOfByte r ≡ map (λ (o : Row). o .modes) opcodes ⌝ }
 {
     OP_MODES
 }
@@ -359,8 +371,8 @@ fn arg_of(n: u8) -> OpArgMask
 }
 
 // A row of the table taken apart.
-fn unpacked(m: u8) -> OpModes
-    ensures { λ r. ⌜ r ≡ unpacked m ⌝ }
+fn modes_of_byte(m: u8) -> OpModes
+    ensures { λ r. ⌜ r ≡ modesOfByte m ⌝ }
 {
     let mode = mode_of(m % 4);
     let b_mode = arg_of(m / 16 % 4);
@@ -380,7 +392,7 @@ pub fn op_modes(op: u8) -> OpModes
 {
     let table = op_mode_bytes();
     let n = or_move(op) as usize;
-    unpacked(table[n])
+    modes_of_byte(table[n])
 }
 
 // The name of an opcode, padded with spaces, MOVE's for a number that is no opcode's.

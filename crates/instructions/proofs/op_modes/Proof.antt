@@ -1,6 +1,6 @@
 -- By the table's rule, the opcode's number being below the table's length.
 use borrow.Author.Needs.{needs}
-use Rattle.instructions.specs.OpCodes.{Row, unpacked}
+use Rattle.instructions.specs.OpCodes.{Row, modesOfByte}
 use Rattle.instructions.proofs.Laws.{opcode-known}
 use Rattle.instructions.proofs.Table.{looked-up}
 use Rattle.instructions.proofs.op_modes.Statement.{statement}
@@ -15,18 +15,18 @@ or-move-requires c κs = search needs
 cast-n : tie.Need-cast-n
 cast-n c = search needs
 
-array-read-unpacked : tie.Need-array-read-unpacked
-array-read-unpacked c = rw (c .or-move .ensures) (opcode-known (c .before .before .args .op))
+array-read-modes-of-byte : tie.Need-array-read-modes-of-byte
+array-read-modes-of-byte c = rw (c .or-move .ensures) (opcode-known (c .before .before .args .op))
 
-unpacked-requires : tie.Need-unpacked-requires
-unpacked-requires c κs = search needs
+modes-of-byte-requires : tie.Need-modes-of-byte-requires
+modes-of-byte-requires c κs = search needs
 
 returns : tie.Need-returns
 returns c =
     let table = c .before .before .op-mode-bytes in
     let op = c .before .before .before .args .op in
-    rw (c .unpacked .ensures, c .before .or-move .ensures)
-    (looked-up unpacked (λ (o : Row). o .modes) 0 (table .result) op (table .ensures))
+    rw (c .modes-of-byte .ensures, c .before .or-move .ensures)
+    (looked-up modesOfByte (λ (o : Row). o .modes) 0 (table .result) op (table .ensures))
 
 pub op-modes-spec : {M : Type 1} → statement M
 op-modes-spec =
@@ -35,6 +35,6 @@ op-modes-spec =
     op-mode-bytes-requires
     or-move-requires
     cast-n
-    array-read-unpacked
-    unpacked-requires
+    array-read-modes-of-byte
+    modes-of-byte-requires
     returns)
