@@ -8,24 +8,24 @@ use lib.Seq.{sets, sets-eq, take-at}
 use Rattle.lent.specs.Memory.{Puts, far}
 use Rattle.lent.proofs.Writes.{put-stored, put-none, put-then, put-fits}
 use Rattle.digits.specs.Digits.{digit, decimal}
-use Rattle.digits.specs.Room.{Fits, Width}
+use Rattle.digits.specs.Room.{PutsWithin, Width}
 use Rattle.digits.proofs.Numbers.{decimal-more}
 
-pub fit-none : {at : ℕ} {out : List ℕ} → Fits [] 0 at out at out
+pub fit-none : {at : ℕ} {out : List ℕ} → PutsWithin [] 0 at out at out
 fit-none = record { puts = put-none; upto = omega arith }
 
-pub fit-byte : {at b : ℕ} {out out′ : List ℕ} → at < length out → length out ≤ far → out′ ≡ set out at b → Fits (b ∷ []) 1 at out (at + 1) out′
+pub fit-byte : {at b : ℕ} {out out′ : List ℕ} → at < length out → length out ≤ far → out′ ≡ set out at b → PutsWithin (b ∷ []) 1 at out (at + 1) out′
 fit-byte h k e = record { puts = put-stored (omega arith) e; upto = omega arith }
 
-pub fit-then : {a b : List ℕ} {m n at mid end : ℕ} {out out′ out″ : List ℕ} → Fits a m at out mid out′ → Fits b n mid out′ end out″ → Fits (a ++ b) (m + n) at out end out″
+pub fit-then : {a b : List ℕ} {m n at mid end : ℕ} {out out′ out″ : List ℕ} → PutsWithin a m at out mid out′ → PutsWithin b n mid out′ end out″ → PutsWithin (a ++ b) (m + n) at out end out″
 fit-then p q = let x = p .upto in let y = q .upto in record { puts = put-then (p .puts) (q .puts); upto = omega arith }
 
 -- with more room than is needed
-pub fit-within : {items : List ℕ} {m at at′ : ℕ} (n : ℕ) {out out′ : List ℕ} → m ≤ n → Fits items m at out at′ out′ → Fits items n at out at′ out′
+pub fit-within : {items : List ℕ} {m at at′ : ℕ} (n : ℕ) {out out′ : List ℕ} → m ≤ n → PutsWithin items m at out at′ out′ → PutsWithin items n at out at′ out′
 fit-within n h p = let x = p .upto in record { puts = p .puts; upto = omega arith }
 
 -- a number but for its last digit, and that
-pub fit-last : (n : ℕ) {m at mid end : ℕ} {out out′ out″ : List ℕ} → 10 ≤ n → n < 2 ^ 64 → Fits (decimal (n / 10)) m at out mid out′ → Fits (digit (n % 10) ∷ []) 1 mid out′ end out″ → Fits (decimal n) (m + 1) at out end out″
+pub fit-last : (n : ℕ) {m at mid end : ℕ} {out out′ out″ : List ℕ} → 10 ≤ n → n < 2 ^ 64 → PutsWithin (decimal (n / 10)) m at out mid out′ → PutsWithin (digit (n % 10) ∷ []) 1 mid out′ end out″ → PutsWithin (decimal n) (m + 1) at out end out″
 fit-last n h k p q = rw (decimal-more n h k) (fit-then p q)
 
 -- what was written at the start of a buffer
@@ -37,7 +37,7 @@ written {items} {out} {out′} {r} p h k =
     (omega arith, rw (f .1) (take-at items (drop (0 + length items) out) r e))
 
 -- the same of what fits
-pub fit-written : {items out out′ : List ℕ} {m r : ℕ} → Fits items m 0 out r out′ → m ≤ length out → length out < far → take r out′ ≡ items
+pub fit-written : {items out out′ : List ℕ} {m r : ℕ} → PutsWithin items m 0 out r out′ → m ≤ length out → length out < far → take r out′ ≡ items
 fit-written p h k =
     let u = p .upto in
     let q = p .puts .puts (omega arith) (omega arith) in

@@ -1,7 +1,7 @@
 -- Laws of quoted strings: bytes that are written as themselves, one after the other.
 use Prim.Native.Nat.{ℕ, suc, _+_, _-_, _≤_, _<_}
 use mathlib.Core.Path.{_≡_, refl, _∙_}
-use mathlib.Core.Bool.{Bool, true, false, _&&_}
+use mathlib.Core.Bool.{true, false, and-eq-true-iff}
 use mathlib.Core.List.{List, [], _∷_, _++_, append-assoc}
 use native.Mathlib.Omega.{arith}
 use native.Mathlib.Nat.{sub-self}
@@ -12,10 +12,6 @@ use borrow.Author.Tests.{lt-ltb, leb-true, ne-eqb}
 use Rattle.lent.specs.Memory.{Every}
 use Rattle.lent.proofs.Lists.{drop-more}
 use Rattle.digits.specs.Digits.{digits, letters, letterIn, isPrint, escape, escaped, Plain}
-
-and-left : (a b : Bool) → (a && b) ≡ true → a ≡ true
-and-left true b h = refl
-and-left false b h = h
 
 -- ---- one byte
 
@@ -45,7 +41,7 @@ module _ (b : ℕ) (none : letterIn letters b ≡ 0) where
 -- a byte that has no letter because it is no quote, no backslash and no control byte
 pub escape-plain : (b : ℕ) → (b ≡ 34 → ⊥) → (b ≡ 92 → ⊥) → isPrint b ≡ true → escape b ≡ b ∷ []
 escape-plain b quote backslash h =
-    let l : 32 ≤ b = leb-true 32 b (and-left (leb 32 b) (leb b 126) h) in
+    let l : 32 ≤ b = leb-true 32 b (and-eq-true-iff (leb 32 b) (leb b 126) .0 h .0) in
     escape-print b (no-letter b quote backslash (λ e. omega arith) (λ e. omega arith) (λ e. omega arith) (λ e. omega arith) (λ e. omega arith) (λ e. omega arith) (λ e. omega arith)) h
 
 -- ---- bytes one after the other

@@ -6,7 +6,7 @@ use lib.ListN.{length}
 use Rattle.lent.specs.Memory.{Puts}
 
 -- items are written at a place, and the next place is at most so far on
-pub record Fits (items : List ℕ) (most at : ℕ) (out : List ℕ) (at′ : ℕ) (out′ : List ℕ) : Type 0 where
+pub record PutsWithin (items : List ℕ) (most at : ℕ) (out : List ℕ) (at′ : ℕ) (out′ : List ℕ) : Type 0 where
   pub puts : Puts items at out at′ out′
   pub upto : at′ ≤ at + most
 

@@ -8,7 +8,7 @@ ghost use lib.Dec.{ltb};
 ghost use lib.Seq.{sets};
 ghost use Rattle.lent.specs.Memory.{Puts};
 ghost use Rattle.digits.specs.Digits.{digit, digits, places, decimal, negative, number};
-ghost use Rattle.digits.specs.Room.{Fits, Width};
+ghost use Rattle.digits.specs.Room.{PutsWithin, Width};
 ghost use Rattle.digits.specs.Digits.{letters, letterIn, isPrint, escape, escaped, quoted, Plain};
 
 // The digit of d, which is below 16.
@@ -22,7 +22,7 @@ fn digit(d: u8) -> u8
 // A byte, which fits. Answers the next place.
 pub fn store_byte(out: &mut [u8], at: usize, b: u8) -> usize
     requires { ⌜ at < length (now out) ⌝ }
-    ensures { λ r. ⌜ Fits (b ∷ []) 1 at (now (out .entry)) r (now (out .exit)) ⌝ }
+    ensures { λ r. ⌜ PutsWithin (b ∷ []) 1 at (now (out .entry)) r (now (out .exit)) ⌝ }
 {
     out[at] = b;
     at + 1
@@ -123,7 +123,7 @@ pub fn width(n: u32) -> usize
 // The last digit of n in base 10.
 fn store_last(out: &mut [u8], at: usize, n: u32) -> usize
     requires { ⌜ at < length (now out) ⌝ }
-    ensures { λ r. ⌜ Fits (digit (n % 10) ∷ []) 1 at (now (out .entry)) r (now (out .exit)) ⌝ }
+    ensures { λ r. ⌜ PutsWithin (digit (n % 10) ∷ []) 1 at (now (out .entry)) r (now (out .exit)) ⌝ }
 {
     store_byte(out, at, 48 + (n % 10) as u8)
 }
@@ -131,7 +131,7 @@ fn store_last(out: &mut [u8], at: usize, n: u32) -> usize
 // A number of two digits.
 fn store_two(out: &mut [u8], at: usize, n: u32) -> usize
     requires { ⌜ (at + 2 ≤ length (now out)) × (10 ≤ n) × (n < 100) ⌝ }
-    ensures { λ r. ⌜ Fits (decimal n) 2 at (now (out .entry)) r (now (out .exit)) ⌝ }
+    ensures { λ r. ⌜ PutsWithin (decimal n) 2 at (now (out .entry)) r (now (out .exit)) ⌝ }
 {
     let a = store_last(out, at, n / 10);
     store_last(out, a, n)
@@ -140,7 +140,7 @@ fn store_two(out: &mut [u8], at: usize, n: u32) -> usize
 // A number of three digits.
 fn store_three(out: &mut [u8], at: usize, n: u32) -> usize
     requires { ⌜ (at + 3 ≤ length (now out)) × (100 ≤ n) × (n < 1000) ⌝ }
-    ensures { λ r. ⌜ Fits (decimal n) 3 at (now (out .entry)) r (now (out .exit)) ⌝ }
+    ensures { λ r. ⌜ PutsWithin (decimal n) 3 at (now (out .entry)) r (now (out .exit)) ⌝ }
 {
     let a = store_two(out, at, n / 10);
     store_last(out, a, n)
@@ -149,7 +149,7 @@ fn store_three(out: &mut [u8], at: usize, n: u32) -> usize
 // A number of four digits.
 fn store_four(out: &mut [u8], at: usize, n: u32) -> usize
     requires { ⌜ (at + 4 ≤ length (now out)) × (1000 ≤ n) × (n < 10000) ⌝ }
-    ensures { λ r. ⌜ Fits (decimal n) 4 at (now (out .entry)) r (now (out .exit)) ⌝ }
+    ensures { λ r. ⌜ PutsWithin (decimal n) 4 at (now (out .entry)) r (now (out .exit)) ⌝ }
 {
     let a = store_three(out, at, n / 10);
     store_last(out, a, n)
@@ -158,7 +158,7 @@ fn store_four(out: &mut [u8], at: usize, n: u32) -> usize
 // A number of any length.
 fn store_long(out: &mut [u8], at: usize, n: u32) -> usize
     requires { ⌜ at + 10 ≤ length (now out) ⌝ }
-    ensures { λ r. ⌜ Fits (decimal n) 10 at (now (out .entry)) r (now (out .exit)) ⌝ }
+    ensures { λ r. ⌜ PutsWithin (decimal n) 10 at (now (out .entry)) r (now (out .exit)) ⌝ }
 {
     let k = places(n as u64);
     store_digits(out, at, n as u64, k, 10);
@@ -168,7 +168,7 @@ fn store_long(out: &mut [u8], at: usize, n: u32) -> usize
 // n in base 10, which fits: it has at most 10 digits.
 pub fn store_decimal(out: &mut [u8], at: usize, n: u32) -> usize
     requires { ⌜ at + 10 ≤ length (now out) ⌝ }
-    ensures { λ r. ⌜ Fits (decimal n) 10 at (now (out .entry)) r (now (out .exit)) ⌝ }
+    ensures { λ r. ⌜ PutsWithin (decimal n) 10 at (now (out .entry)) r (now (out .exit)) ⌝ }
 {
     if n < 10 {
         return store_last(out, at, n);
@@ -188,7 +188,7 @@ pub fn store_decimal(out: &mut [u8], at: usize, n: u32) -> usize
 // - n in base 10, which fits.
 pub fn store_negative(out: &mut [u8], at: usize, n: u32) -> usize
     requires { ⌜ at + 11 ≤ length (now out) ⌝ }
-    ensures { λ r. ⌜ Fits (negative n) 11 at (now (out .entry)) r (now (out .exit)) ⌝ }
+    ensures { λ r. ⌜ PutsWithin (negative n) 11 at (now (out .entry)) r (now (out .exit)) ⌝ }
 {
     let next = store_byte(out, at, 45);
     store_decimal(out, next, n)

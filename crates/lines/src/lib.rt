@@ -18,7 +18,7 @@ ghost use Prim.Native.Nat.{ℕ, _+_, _-_, _^_, _≤_, _<_};
 ghost use mathlib.Core.List.{List};
 ghost use mathlib.Core.Path.{_≡_};
 ghost use lib.ListN.{length};
-ghost use Rattle.digits.specs.Room.{Fits, Width};
+ghost use Rattle.digits.specs.Room.{PutsWithin, Width};
 ghost use Rattle.lent.specs.Memory.{Puts};
 ghost use Rattle.format.specs.Tree.{Parts, Functions};
 ghost use Rattle.format.specs.Store.{ints};
@@ -63,7 +63,7 @@ fn line_at(words: &[u32], lines: usize, pc: u32) -> Line
 // A line, which fits.
 fn store_line(line: Line, out: &mut [u8], at: usize) -> usize
     requires { ⌜ at + 12 ≤ length (now out) ⌝ }
-    ensures { λ r. ⌜ Fits (formatLine (lineOf line)) 12 at (now (out .entry)) r (now (out .exit)) ⌝ }
+    ensures { λ r. ⌜ PutsWithin (formatLine (lineOf line)) 12 at (now (out .entry)) r (now (out .exit)) ⌝ }
 {
     let a = store_byte(out, at, b'[');
     if line.known {
@@ -87,7 +87,7 @@ fn line_width(line: Line) -> usize
 // An opcode's name, padded to 9, which fits.
 fn store_name(op: u8, out: &mut [u8], at: usize) -> usize
     requires { ⌜ at + 9 ≤ length (now out) ⌝ }
-    ensures { λ r. ⌜ Fits (padded (opName op)) 9 at (now (out .entry)) r (now (out .exit)) ⌝ }
+    ensures { λ r. ⌜ PutsWithin (padded (opName op)) 9 at (now (out .entry)) r (now (out .exit)) ⌝ }
 {
     let name = instructions::name(op);
     lent::copy(out, at, &name, 9);
@@ -97,7 +97,7 @@ fn store_name(op: u8, out: &mut [u8], at: usize) -> usize
 // What stands in front of the comment, which fits.
 fn store_start(line: Line, op: u8, pc: u32, i: u32, out: &mut [u8], at: usize) -> usize
     requires { ⌜ (at + 69 ≤ length (now out)) × (pc < 2 ^ 32 - 1) ⌝ }
-    ensures { λ r. ⌜ Fits (formatStart (lineOf line) op pc i) 69 at (now (out .entry)) r (now (out .exit)) ⌝ }
+    ensures { λ r. ⌜ PutsWithin (formatStart (lineOf line) op pc i) 69 at (now (out .entry)) r (now (out .exit)) ⌝ }
 {
     let a = store_byte(out, at, b'\t');
     let b = store_decimal(out, a, pc + 1);

@@ -14,13 +14,13 @@ ghost use Rattle.lent.specs.Memory.{Puts};
 ghost use mathlib.Core.Path.{_≡_};
 ghost use Prim.Native.Nat.{_+_, _≤_};
 ghost use lib.ListN.{length};
-ghost use Rattle.digits.specs.Room.{Fits, Width};
+ghost use Rattle.digits.specs.Room.{PutsWithin, Width};
 ghost use Rattle.instructions.specs.Fields.{GETARG-Bx};
 ghost use Rattle.operands.specs.Operands.{isN, isK, difference, formatRK, formatArg, formatBx};
 ghost use Rattle.operands.specs.Operands.{operandsABC, operandsABx, operandsAsBx, formatOperands};
 
 // sBx is Bx less this.
-pub const MAXARG_SBX: u64 = 131071;
+pub const MAXARG_SBX: u64 = instructions::MAXARG_SBX as u64;
 
 // a - b, which may be negative.
 pub fn put_difference(a: u64, b: u64, out: &mut [u8], at: usize) -> usize
@@ -35,7 +35,7 @@ pub fn put_difference(a: u64, b: u64, out: &mut [u8], at: usize) -> usize
 // a - b, which fits.
 fn store_difference(a: u32, b: u32, out: &mut [u8], at: usize) -> usize
     requires { ⌜ at + 11 ≤ length (now out) ⌝ }
-    ensures { λ r. ⌜ Fits (difference a b) 11 at (now (out .entry)) r (now (out .exit)) ⌝ }
+    ensures { λ r. ⌜ PutsWithin (difference a b) 11 at (now (out .entry)) r (now (out .exit)) ⌝ }
 {
     if a < b {
         return store_negative(out, at, b - a);
@@ -56,7 +56,7 @@ fn difference_width(a: u32, b: u32) -> usize
 // A register or a number; a constant is -1 - its index.
 fn store_rk(x: u32, out: &mut [u8], at: usize) -> usize
     requires { ⌜ at + 11 ≤ length (now out) ⌝ }
-    ensures { λ r. ⌜ Fits (formatRK x) 11 at (now (out .entry)) r (now (out .exit)) ⌝ }
+    ensures { λ r. ⌜ PutsWithin (formatRK x) 11 at (now (out .entry)) r (now (out .exit)) ⌝ }
 {
     if is_k(x) {
         return store_negative(out, at, 1 + index_k(x));
@@ -101,7 +101,7 @@ fn is_constant(mode: OpArgMask) -> bool
 // B or C of iABC, nothing where the opcode has none.
 fn store_arg(mode: OpArgMask, x: u32, out: &mut [u8], at: usize) -> usize
     requires { ⌜ at + 12 ≤ length (now out) ⌝ }
-    ensures { λ r. ⌜ Fits (formatArg mode x) 12 at (now (out .entry)) r (now (out .exit)) ⌝ }
+    ensures { λ r. ⌜ PutsWithin (formatArg mode x) 12 at (now (out .entry)) r (now (out .exit)) ⌝ }
 {
     if is_n(mode) {
         return at;
@@ -123,7 +123,7 @@ fn arg_width(mode: OpArgMask, x: u32) -> usize
 // Bx, a constant's index as -1 - index.
 fn store_bx(mode: OpArgMask, i: u32, out: &mut [u8], at: usize) -> usize
     requires { ⌜ at + 11 ≤ length (now out) ⌝ }
-    ensures { λ r. ⌜ Fits (formatBx mode (GETARG-Bx i)) 11 at (now (out .entry)) r (now (out .exit)) ⌝ }
+    ensures { λ r. ⌜ PutsWithin (formatBx mode (GETARG-Bx i)) 11 at (now (out .entry)) r (now (out .exit)) ⌝ }
 {
     let bx = Instruction(i).bx();
     if is_constant(mode) {
@@ -146,7 +146,7 @@ fn bx_width(mode: OpArgMask, i: u32) -> usize
 // A, B and C.
 fn store_abc(i: u32, b_mode: OpArgMask, c_mode: OpArgMask, out: &mut [u8], at: usize) -> usize
     requires { ⌜ at + 34 ≤ length (now out) ⌝ }
-    ensures { λ r. ⌜ Fits (operandsABC «b_mode» «c_mode» i) 34 at (now (out .entry)) r (now (out .exit)) ⌝ }
+    ensures { λ r. ⌜ PutsWithin (operandsABC «b_mode» «c_mode» i) 34 at (now (out .entry)) r (now (out .exit)) ⌝ }
 {
     let a = store_decimal(out, at, Instruction(i).a());
     let b = store_arg(b_mode, Instruction(i).b(), out, a);
@@ -165,7 +165,7 @@ fn abc_width(i: u32, b_mode: OpArgMask, c_mode: OpArgMask) -> usize
 // A and Bx.
 fn store_abx(i: u32, b_mode: OpArgMask, out: &mut [u8], at: usize) -> usize
     requires { ⌜ at + 22 ≤ length (now out) ⌝ }
-    ensures { λ r. ⌜ Fits (operandsABx «b_mode» i) 22 at (now (out .entry)) r (now (out .exit)) ⌝ }
+    ensures { λ r. ⌜ PutsWithin (operandsABx «b_mode» i) 22 at (now (out .entry)) r (now (out .exit)) ⌝ }
 {
     let a = store_decimal(out, at, Instruction(i).a());
     let b = store_byte(out, a, b' ');
@@ -182,7 +182,7 @@ fn abx_width(i: u32, b_mode: OpArgMask) -> usize
 // A, but for JMP, and sBx.
 fn store_asbx(op: u8, i: u32, out: &mut [u8], at: usize) -> usize
     requires { ⌜ at + 22 ≤ length (now out) ⌝ }
-    ensures { λ r. ⌜ Fits (operandsAsBx op i) 22 at (now (out .entry)) r (now (out .exit)) ⌝ }
+    ensures { λ r. ⌜ PutsWithin (operandsAsBx op i) 22 at (now (out .entry)) r (now (out .exit)) ⌝ }
 {
     if op == instructions::OP_JMP {
         return store_difference(Instruction(i).bx(), MAXARG_SBX as u32, out, at);
@@ -206,7 +206,7 @@ fn asbx_width(op: u8, i: u32) -> usize
 // The operands of an instruction, which fit.
 pub fn store_operands(op: u8, i: u32, out: &mut [u8], at: usize) -> usize
     requires { ⌜ at + 34 ≤ length (now out) ⌝ }
-    ensures { λ r. ⌜ Fits (formatOperands op i) 34 at (now (out .entry)) r (now (out .exit)) ⌝ }
+    ensures { λ r. ⌜ PutsWithin (formatOperands op i) 34 at (now (out .entry)) r (now (out .exit)) ⌝ }
 {
     let m = instructions::op_modes(op);
     let mode = m.mode;
