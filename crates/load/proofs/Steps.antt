@@ -7,7 +7,7 @@ use borrow.Author.Tests.{le-leb, lt-leb}
 use lib.ListN.{drop}
 use Rattle.format.specs.Read.{Read, Reader, got, refused, andThen, _>>=_, return, loadInt, limit, countOf, loadCount}
 use Rattle.load_state.specs.declared.cursor.Cursor.{Cursor}
-use Rattle.load_state.specs.ReadAt.{Stands, ReadAt}
+use Rattle.load_state.specs.ReadAt.{Ends, ReadAt}
 use Rattle.load.specs.Step.{Step}
 
 module _ {A : Type 0} {bs : List ℕ} {R : Reader A} {P : A → Type 0} {s r : Cursor} where
@@ -26,7 +26,7 @@ module _ {A : Type 0} {bs : List ℕ} {R : Reader A} {P : A → Type 0} {s r : C
   pub weaken : {Q : A → Type 0} → ((a : A) → P a → Q a) → Step bs R P s r → Step bs R Q s r
   weaken {Q} k h = record { stays = h .stays; goes = λ z. by (R (drop (s .next) bs)) (h .goes z) }
     where
-      by : (x : Read A) → Stands bs x P r → Stands bs x Q r
+      by : (x : Read A) → Ends bs x P r → Ends bs x Q r
       by (got a rest) t = (t .0, t .1, k a (t .2))
       by (refused n) t = t
 
@@ -36,7 +36,7 @@ pub bind : {A B : Type 0} {bs : List ℕ} {R : Reader A} {P : A → Type 0} {Q :
 bind {A} {B} {bs} {R} {P} {Q} {s} {m} {r} f h keep k =
     record { stays = λ z. keep (omega (arith, h .stays z)) ∙ h .stays z; goes = λ z. by (R (drop (s .next) bs)) (h .goes z) }
   where
-    by : (x : Read A) → Stands bs x P m → Stands bs (andThen x f) Q r
+    by : (x : Read A) → Ends bs x P m → Ends bs (andThen x f) Q r
     by (got a rest) t = rw (t .1) (k a (t .2) .goes (t .0))
     by (refused n) t = (keep (omega arith) ∙ t .0, t .1)
 
@@ -54,7 +54,7 @@ stays-then h k z = k (omega (arith, h z)) ∙ h z
 
 -- what was read at the cursor's place
 pub reads : {bs : List ℕ} {R : Reader ℕ} {v : ℕ} {s r : Cursor} → s .refusal ≤ 0 → ReadAt bs R (s .next) v r → Step bs R (λ a. a ≡ v) s r
-reads z h = record { stays = λ y. absurd (omega arith); goes = λ y. h .stands }
+reads z h = record { stays = λ y. absurd (omega arith); goes = λ y. h .ends }
 
 -- ---- a list's count
 

@@ -14,7 +14,7 @@ use Rattle.format.specs.Valid.{most}
 use Rattle.format.specs.Stored.{part}
 use Rattle.format.specs.Undump.{repairedSource}
 use Rattle.load_state.specs.declared.cursor.Cursor.{Cursor}
-use Rattle.load_state.specs.ReadAt.{Stands, fourAt}
+use Rattle.load_state.specs.ReadAt.{Ends, fourAt}
 use Rattle.load.specs.declared.cursor.Span.{Span}
 use Rattle.load.specs.declared.cursor.Constant.{Constant}
 use Rattle.load.specs.declared.cursor.Constant.the-variants.{Nil, Bool as Truth, Num, String}
@@ -25,7 +25,7 @@ use Rattle.load.specs.declared.Load.{Load}
 -- from the cursor s to r by the reader R, with P of what it gives; a refusal is passed on
 pub record Step {A : Type 0} (bs : List ℕ) (R : Reader A) (P : A → Type 0) (s r : Cursor) : Type 0 where
   pub stays : 0 < s .refusal → r .refusal ≡ s .refusal
-  pub goes : s .refusal ≡ 0 → Stands bs (R (drop (s .next) bs)) P r
+  pub goes : s .refusal ≡ 0 → Ends bs (R (drop (s .next) bs)) P r
 
 -- n numbers of four bytes each, one after the other
 unfoldable pub fours : List ℕ → ℕ → ℕ → List ℕ

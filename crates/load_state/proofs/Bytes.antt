@@ -58,10 +58,10 @@ size-none bs at h = rw (block-none 8 (drop at bs) (rw length-drop h))
 
 module _ {bs : List ℕ} {R : Reader ℕ} {at v : ℕ} {r : Cursor} where
   taken : {a : ℕ} {rest : List ℕ} → R (drop at bs) ≡ got a rest → r .refusal ≡ 0 → rest ≡ drop (r .next) bs → v ≡ a → ReadAt bs R at v r
-  taken e f g p = record { stands = rw e (f, g, sym p) }
+  taken e f g p = record { ends = rw e (f, g, sym p) }
 
   missing : {k : ℕ} → R (drop at bs) ≡ refused k → r .refusal ≡ k → 0 < k → ReadAt bs R at v r
-  missing e f h = record { stands = rw e (f, h) }
+  missing e f h = record { ends = rw e (f, h) }
 
 module _ {bs : List ℕ} {at v : ℕ} {r : Cursor} where
   pub byte-taken : at < length bs → v ≡ getD bs at 0 → r .refusal ≡ 0 → r .next ≡ at + 1 → ReadAt bs loadByte at v r

@@ -15,7 +15,7 @@ use Rattle.format.specs.Valid.{depth, most}
 use Rattle.format.specs.Undump.{repaired, loadChunk, undumpRefused, nameOk, over, undumpedBy, undumped}
 use Rattle.load_state.specs.declared.cursor.Cursor.{Cursor}
 use Rattle.load.specs.declared.Load.{Load}
-use Rattle.load_state.specs.ReadAt.{Stands}
+use Rattle.load_state.specs.ReadAt.{Ends}
 use Rattle.load.specs.Step.{Step, space, Does, world, Loads}
 use Rattle.load_function.specs.Repaired.{repairedFunction}
 use Rattle.undump.specs.Undump.{beginning}
@@ -28,7 +28,7 @@ fresh c = record { cursor = c; words = 0; text = 0 }
 -- the header, then the root function
 pub chunk-loaded : {bs : List ℕ} {c : Cursor} {r : Load} {ws ts ws′ ts′ : List ℕ} → Step bs loadHeader (λ v. Unit {0}) beginning c
     → Loads bs (loadFunction depth) repairedFunction (world (fresh c) ws ts) (world r ws′ ts′)
-    → Stands bs (loadChunk bs) (λ f. Does (functionPiece f) (space (fresh c) ws ts) (space r ws′ ts′)) (r .cursor)
+    → Ends bs (loadChunk bs) (λ f. Does (functionPiece f) (space (fresh c) ws ts) (space r ws′ ts′)) (r .cursor)
 unfolding loadChunk
 chunk-loaded {bs} {c} {r} {ws} {ts} {ws′} {ts′} h k =
     bind {Q = λ f. Does (functionPiece f) (space (fresh c) ws ts) (space r ws′ ts′)} _ h (k .stays) (λ v e. mapped repaired (λ f d. d) k) .goes refl
@@ -50,15 +50,15 @@ module _ (bs ws ts : List ℕ) (c : Cursor) (need : Load) (u v : List ℕ) where
       let a = d .does 0 (omega arith) (omega arith) in
       (omega (arith, a .many, a .words .puts (omega arith) (omega arith) .0), omega (arith, a .text .puts (omega arith) (omega arith) .0))
 
-  refused-by : (x : Read Function) → Stands bs x Counts (need .cursor) → 0 < need .cursor .refusal → undumpedBy bs x ws ts ≡ undumpRefused (need .cursor .refusal) ws ts
+  refused-by : (x : Read Function) → Ends bs x Counts (need .cursor) → 0 < need .cursor .refusal → undumpedBy bs x ws ts ≡ undumpRefused (need .cursor .refusal) ws ts
   refused-by (got f rest) t h = absurd (omega arith)
   refused-by (refused k) t h = ap (λ (n : ℕ). undumpRefused n ws ts) (sym (t .0))
 
-  few-words : (x : Read Function) → Stands bs x Counts (need .cursor) → need .cursor .refusal ≤ 0 → min (length ws) most < need .words → undumpedBy bs x ws ts ≡ undumpRefused 8 ws ts
+  few-words : (x : Read Function) → Ends bs x Counts (need .cursor) → need .cursor .refusal ≤ 0 → min (length ws) most < need .words → undumpedBy bs x ws ts ≡ undumpRefused 8 ws ts
   few-words (got f rest) t z h = let n = counted f (t .2) in rw (lt-leb (length (wordsOf f)) (min (length ws) most) (omega arith))
   few-words (refused k) t z h = absurd (omega arith)
 
-  few-text : (x : Read Function) → Stands bs x Counts (need .cursor) → need .cursor .refusal ≤ 0 → need .words ≤ min (length ws) most → min (length ts) most < need .text → undumpedBy bs x ws ts ≡ undumpRefused 9 ws ts
+  few-text : (x : Read Function) → Ends bs x Counts (need .cursor) → need .cursor .refusal ≤ 0 → need .words ≤ min (length ws) most → min (length ts) most < need .text → undumpedBy bs x ws ts ≡ undumpRefused 9 ws ts
   few-text (got f rest) t z h k =
       let n = counted f (t .2) in
       rw (le-leb (length (wordsOf f)) (min (length ws) most) (omega arith), lt-leb (length (textOf f)) (min (length ts) most) (omega arith))
@@ -66,8 +66,8 @@ module _ (bs ws ts : List ℕ) (c : Cursor) (need : Load) (u v : List ℕ) where
 
   -- what the run over the space left
   module _ (again : Load) (ws′ ts′ : List ℕ) (z : need .cursor .refusal ≤ 0) (hw : need .words ≤ min (length ws) most) (ht : need .text ≤ min (length ts) most) where
-    stored-by : (x : Read Function) → Stands bs x Counts (need .cursor)
-        → Stands bs x (λ f. Does (functionPiece f) (space (fresh c) (take (need .words) ws) (take (need .text) ts)) (space again ws′ ts′)) (again .cursor)
+    stored-by : (x : Read Function) → Ends bs x Counts (need .cursor)
+        → Ends bs x (λ f. Does (functionPiece f) (space (fresh c) (take (need .words) ws) (take (need .text) ts)) (space again ws′ ts′)) (again .cursor)
         → undumpedBy bs x ws ts
         ≡ record {
           answer = record { refusal = 0; words = need .words; text = need .text; read = length bs - (length bs - need .cursor .next) };
