@@ -150,6 +150,7 @@ among op (o ∷ l) = eqb op o || among op l
 abbrev pub jumpOps : List ℕ
 jumpOps = OP-JMP ∷ OP-FORLOOP ∷ OP-FORPREP ∷ []
 
+-- whether an opcode jumps
 unfoldable pub isJump : ℕ → Bool
 isJump op = among op jumpOps
 

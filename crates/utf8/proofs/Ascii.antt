@@ -41,7 +41,7 @@ ascii-append [] t = refl
 ascii-append (b ∷ s) t = rw (ascii-append s t, and-assoc)
 
 -- one byte more
-pub ascii-more : (s : List ℕ) (at k : ℕ) → at + k < length s → isAscii (take (k + 1) (drop at s)) ≡ (isAscii (take k (drop at s)) && ltb (getD s (at + k) 0) 0x80)
+ascii-more : (s : List ℕ) (at k : ℕ) → at + k < length s → isAscii (take (k + 1) (drop at s)) ≡ (isAscii (take k (drop at s)) && ltb (getD s (at + k) 0) 0x80)
 unfolding isAscii
 ascii-more s at k h =
     let l : k < length (drop at s) = rw length-drop (omega arith) in

@@ -21,6 +21,6 @@ cases =
     ∷ (0xe1 ∷ 0x80 ∷ 0xe2 ∷ 0xf0 ∷ 0x91 ∷ 0x92 ∷ 0xf1 ∷ 0xbf ∷ 0x41 ∷ [], fffd (fffd (fffd (fffd (0x41 ∷ [])))))
     ∷ []
 
-right : map (λ c. repair (c .0)) cases ≡ map (λ c. c .1) cases
+examples-hold : map (λ c. repair (c .0)) cases ≡ map (λ c. c .1) cases
 unfolding repairUpTo firstStep whole begun matched
-right = refl
+examples-hold = refl
