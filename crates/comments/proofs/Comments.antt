@@ -12,9 +12,9 @@ use Rattle.proto.proofs.Heres.{here-get}
 use Rattle.comments.specs.Shown.{ChildIs}
 use borrow.Author.Tests.{ltb-true}
 use Rattle.instructions.specs.Fields.{GETARG-Bx}
-use Rattle.instructions.specs.OpCodes.{OP-CLOSURE}
+use Rattle.instructions.specs.OpCodes.{OP-CLOSURE, among}
 use Rattle.proto.specs.Children.{childNumber}
-use Rattle.comments.specs.Comment.{address, comment, when, among}
+use Rattle.comments.specs.Comment.{address, comment, when}
 use Rattle.proto.proofs.constant.Constant as constant
 
 -- ---- which opcodes

@@ -1,6 +1,6 @@
 -- The comment of an instruction: that part of format_code in listing.rs. Where the scope decides: an address is # and the function's number.
 use Prim.Native.Nat.{ℕ, _+_}
-use mathlib.Core.Bool.{Bool, false, cond, _||_}
+use mathlib.Core.Bool.{Bool, cond, _||_}
 use mathlib.Core.List.{List, [], _∷_, _++_}
 use mathlib.Core.Option.{Option, none, some}
 use lib.Dec.{eqb, ltb}
@@ -10,8 +10,8 @@ use Rattle.operands.specs.Operands.{formatConstant, formatConstantRaw, differen
 use Rattle.proto.specs.Walk.{item}
 use Rattle.proto.specs.Children.{childNumber}
 use Rattle.instructions.specs.Fields.{MAXARG-sBx, GETARG-B, GETARG-C, GETARG-Bx, ISK, INDEXK}
-use Rattle.instructions.specs.OpCodes.{ascii}
-use Rattle.instructions.specs.OpCodes.{OP-LOADK, OP-GETUPVAL, OP-GETGLOBAL, OP-GETTABLE, OP-SETGLOBAL, OP-SETUPVAL, OP-SETTABLE, OP-SELF, OP-ADD, OP-SUB, OP-MUL, OP-DIV, OP-MOD, OP-POW, OP-JMP, OP-EQ, OP-LT, OP-LE, OP-FORLOOP, OP-FORPREP, OP-SETLIST, OP-CLOSURE, OP-VARARG}
+use Rattle.instructions.specs.OpCodes.{ascii, among, isJump}
+use Rattle.instructions.specs.OpCodes.{OP-LOADK, OP-GETUPVAL, OP-GETGLOBAL, OP-GETTABLE, OP-SETGLOBAL, OP-SETUPVAL, OP-SETTABLE, OP-SELF, OP-ADD, OP-SUB, OP-MUL, OP-DIV, OP-MOD, OP-POW, OP-EQ, OP-LT, OP-LE, OP-SETLIST, OP-CLOSURE, OP-VARARG}
 
 -- a function by its number in preorder, for its address
 abbrev pub address : ℕ → List ℕ
@@ -23,17 +23,9 @@ comment t = ascii "\t; " ++ t
 abbrev pub when : Bool → List ℕ → List ℕ
 when b t = cond b t []
 
--- an opcode is one of these
-abbrev pub among : ℕ → List ℕ → Bool
-among op [] = false
-among op (o ∷ l) = eqb op o || among op l
-
--- those with two operands that may be constants
+-- the opcodes with two operands that may be constants
 abbrev pub operandOps : List ℕ
 operandOps = OP-SETTABLE ∷ OP-ADD ∷ OP-SUB ∷ OP-MUL ∷ OP-DIV ∷ OP-MOD ∷ OP-POW ∷ OP-EQ ∷ OP-LT ∷ OP-LE ∷ []
-
-abbrev pub jumpOps : List ℕ
-jumpOps = OP-JMP ∷ OP-FORLOOP ∷ OP-FORPREP ∷ []
 
 abbrev pub upvalueText : Option (List ℕ) → List ℕ
 upvalueText none = ascii "-"
@@ -64,7 +56,7 @@ formatComment op p fs number pc i =
     (cond (among op (OP-GETTABLE ∷ OP-SELF ∷ [])) (when (ISK (GETARG-C i)) (comment (formatConstant (p .constants) (INDEXK (GETARG-C i)))))
     (cond (among op operandOps)
     (when (ISK (GETARG-B i) || ISK (GETARG-C i)) (comment (operandConstant (p .constants) (GETARG-B i) ++ ascii " " ++ operandConstant (p .constants) (GETARG-C i))))
-    (cond (among op jumpOps) (comment (ascii "to " ++ jumpTarget pc i))
+    (cond (isJump op) (comment (ascii "to " ++ jumpTarget pc i))
     (cond (eqb op OP-CLOSURE) (when (ltb (GETARG-Bx i) (count fs)) (comment (address (childNumber number fs (GETARG-Bx i)))))
     (cond (eqb op OP-SETLIST) (formatSetList (p .code) pc (GETARG-C i))
     (cond (eqb op OP-VARARG) (comment (ascii "is_vararg"))

@@ -6,12 +6,9 @@ use instructions::OP_ADD;
 use instructions::OP_CLOSURE;
 use instructions::OP_DIV;
 use instructions::OP_EQ;
-use instructions::OP_FORLOOP;
-use instructions::OP_FORPREP;
 use instructions::OP_GETGLOBAL;
 use instructions::OP_GETTABLE;
 use instructions::OP_GETUPVAL;
-use instructions::OP_JMP;
 use instructions::OP_LE;
 use instructions::OP_LOADK;
 use instructions::OP_LT;
@@ -26,6 +23,7 @@ use instructions::OP_SETUPVAL;
 use instructions::OP_SUB;
 use instructions::OP_VARARG;
 use instructions::index_k;
+use instructions::is_jump;
 use instructions::is_k;
 use lent::put_byte;
 use lent::put_bytes;
@@ -49,9 +47,9 @@ ghost use Rattle.format.specs.Tree.{Parts, Functions};
 ghost use Rattle.format.specs.Store.{list, ints, string, constantPiece};
 ghost use Rattle.proto.specs.Walk.{item};
 ghost use Rattle.instructions.specs.Fields.{ISK, INDEXK};
-ghost use Rattle.instructions.specs.OpCodes.{ascii};
+ghost use Rattle.instructions.specs.OpCodes.{ascii, among};
 ghost use Rattle.operands.specs.Operands.{formatConstant, formatConstantRaw};
-ghost use Rattle.comments.specs.Comment.{address, comment, when, upvalueText, operandConstant, jumpTarget, formatSetList, formatComment, among, operandOps, jumpOps};
+ghost use Rattle.comments.specs.Comment.{address, comment, when, upvalueText, operandConstant, jumpTarget, formatSetList, formatComment, operandOps};
 ghost use Rattle.operands.specs.Shown.{Shows};
 ghost use Rattle.proto.specs.Lists.{ListsAt};
 ghost use Rattle.comments.specs.Shown.{ChildIs};
@@ -284,16 +282,6 @@ fn has_operands(op: u8) -> bool
         return true;
     }
     either(op, OP_LT, OP_LE)
-}
-
-// Whether an opcode jumps.
-fn is_jump(op: u8) -> bool
-    ensures { λ r. ⌜ r ≡ among op jumpOps ⌝ }
-{
-    if op == OP_JMP {
-        return true;
-    }
-    either(op, OP_FORLOOP, OP_FORPREP)
 }
 
 // The comment of the instruction at pc. child is the number of the function that a CLOSURE makes.

@@ -12,7 +12,7 @@ use Rattle.format.specs.Tree.{Function, Functions}
 use Rattle.format.specs.Valid.{depth, ValidAll}
 use Rattle.format.specs.Store.{ints}
 use Rattle.instructions.specs.Fields.{MAXARG-sBx, GETARG-C, GETARG-Bx, NO-REG}
-use Rattle.instructions.specs.OpCodes.{opcode}
+use Rattle.instructions.specs.OpCodes.{isJump, opcode}
 use Rattle.proto.specs.Walk.{Skips, StandsAt, children, childrenPiece}
 use Rattle.proto.specs.Children.{ChildAt}
 use Rattle.proto.proofs.Items.{ints-count, ints-item}
@@ -20,24 +20,24 @@ use Rattle.proto.proofs.Heres.{here-front}
 use Rattle.proto.specs.declared.child.Child.{Child}
 use Rattle.symbexec.specs.declared.operands.Skipped.{Skipped}
 use Rattle.symbexec.specs.Operands.{Behind}
-use Rattle.symbexec.specs.SymbExec.{isJump, raised, followed, operands, nextPc, after, writes, lastWrite}
+use Rattle.symbexec.specs.SymbExec.{biased, followed, operands, nextPc, after, writes, lastWrite}
 
 -- ---- one instruction
 
 module _ (op bx lastpc reg pc : ℕ) where
   -- a followed jump goes forward
-  pub goes-forward : followed op bx lastpc reg pc ≡ true → pc + MAXARG-sBx < raised pc bx
+  pub goes-forward : followed op bx lastpc reg pc ≡ true → pc + MAXARG-sBx < biased pc bx
   unfolding followed
-  goes-forward h = by (isJump op) (eqb reg NO-REG) (ltb (pc + MAXARG-sBx) (raised pc bx)) refl h
+  goes-forward h = by (isJump op) (eqb reg NO-REG) (ltb (pc + MAXARG-sBx) (biased pc bx)) refl h
     where
-      by : (a b t : Bool) → ltb (pc + MAXARG-sBx) (raised pc bx) ≡ t → (a && (not b && (t && leb (raised pc bx) (lastpc + MAXARG-sBx)))) ≡ true → pc + MAXARG-sBx < raised pc bx
+      by : (a b t : Bool) → ltb (pc + MAXARG-sBx) (biased pc bx) ≡ t → (a && (not b && (t && leb (biased pc bx) (lastpc + MAXARG-sBx)))) ≡ true → pc + MAXARG-sBx < biased pc bx
       by a b true e h = ltb-true _ _ e
       by true true false e h = let z : _≡_ {A = ℕ} 0 1 = cc in absurd (omega arith)
       by true false false e h = let z : _≡_ {A = ℕ} 0 1 = cc in absurd (omega arith)
       by false b false e h = let z : _≡_ {A = ℕ} 0 1 = cc in absurd (omega arith)
 
   module _ (skipped : ℕ) {r : ℕ} where
-    pub next-jump : followed op bx lastpc reg pc ≡ true → r ≡ raised pc bx - MAXARG-sBx → (r ≡ nextPc op bx skipped lastpc reg pc) × (pc < r)
+    pub next-jump : followed op bx lastpc reg pc ≡ true → r ≡ biased pc bx - MAXARG-sBx → (r ≡ nextPc op bx skipped lastpc reg pc) × (pc < r)
     unfolding nextPc
     next-jump h e = (rw h e, omega (arith, goes-forward h))
 

@@ -7,7 +7,7 @@ use lib.ListN.{length, getD}
 use lib.Dec.{eqb, leb, ltb}
 use Rattle.format.specs.Tree.{Function}
 use Rattle.instructions.specs.Fields.{GETARG-A, GETARG-B, GETARG-C, GETARG-Bx, MAXARG-sBx, NO-REG}
-use Rattle.instructions.specs.OpCodes.{OP-LOADNIL, OP-SELF, OP-JMP, OP-CALL, OP-TAILCALL, OP-FORLOOP, OP-FORPREP, OP-TFORLOOP, OP-SETLIST, OP-CLOSURE, opcode, opModes}
+use Rattle.instructions.specs.OpCodes.{OP-LOADNIL, OP-SELF, OP-CALL, OP-TAILCALL, OP-TFORLOOP, OP-SETLIST, OP-CLOSURE, isJump, opcode, opModes}
 use Rattle.proto.specs.Walk.{item, children}
 
 -- ---- what an instruction writes
@@ -30,17 +30,14 @@ writes i reg = setsA (opcode i) (GETARG-A i) reg || alsoWrites (opcode i) (GETAR
 
 -- ---- which instruction is next
 
-unfoldable pub isJump : ℕ → Bool
-isJump op = eqb op OP-JMP || (eqb op OP-FORLOOP || eqb op OP-FORPREP)
-
--- a jump's destination, pc + 1 + sBx, raised by MAXARG_sBx
-abbrev pub raised : ℕ → ℕ → ℕ
-raised pc bx = pc + 1 + bx
+-- a jump's destination, pc + 1 + sBx, with MAXARG_sBx added
+abbrev pub biased : ℕ → ℕ → ℕ
+biased pc bx = pc + 1 + bx
 
 -- a jump is followed where reg != NO_REG and pc < dest and dest <= lastpc
 unfoldable pub followed : ℕ → ℕ → ℕ → ℕ → ℕ → Bool
 followed op bx lastpc reg pc =
-    isJump op && (not (eqb reg NO-REG) && (ltb (pc + MAXARG-sBx) (raised pc bx) && leb (raised pc bx) (lastpc + MAXARG-sBx)))
+    isJump op && (not (eqb reg NO-REG) && (ltb (pc + MAXARG-sBx) (biased pc bx) && leb (biased pc bx) (lastpc + MAXARG-sBx)))
 
 abbrev pub upvaluesOf : Option Function → ℕ
 upvaluesOf none = 0
@@ -52,7 +49,7 @@ operands fs op bx c = cond (eqb op OP-CLOSURE) (upvaluesOf (item fs bx)) (cond (
 
 -- the next pc, where so many words are none
 unfoldable pub nextPc : ℕ → ℕ → ℕ → ℕ → ℕ → ℕ → ℕ
-nextPc op bx skipped lastpc reg pc = cond (followed op bx lastpc reg pc) (raised pc bx - MAXARG-sBx) (pc + 1 + skipped)
+nextPc op bx skipped lastpc reg pc = cond (followed op bx lastpc reg pc) (biased pc bx - MAXARG-sBx) (pc + 1 + skipped)
 
 abbrev pub after : List Function → ℕ → ℕ → ℕ → ℕ → ℕ
 after fs lastpc reg pc i = nextPc (opcode i) (GETARG-Bx i) (operands fs (opcode i) (GETARG-Bx i) (GETARG-C i)) lastpc reg pc

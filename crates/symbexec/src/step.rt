@@ -3,13 +3,11 @@ use instructions::Instruction;
 use instructions::MAXARG_SBX;
 use instructions::NO_REG;
 use instructions::OP_CALL;
-use instructions::OP_FORLOOP;
-use instructions::OP_FORPREP;
-use instructions::OP_JMP;
 use instructions::OP_LOADNIL;
 use instructions::OP_SELF;
 use instructions::OP_TAILCALL;
 use instructions::OP_TFORLOOP;
+use instructions::is_jump;
 use instructions::op_modes;
 ghost use mathlib.Core.Path.{_≡_};
 ghost use mathlib.Core.Bool.{cond, _&&_};
@@ -17,7 +15,7 @@ ghost use Prim.Native.Nat.{_<_};
 ghost use lib.Dec.{leb};
 ghost use Rattle.instructions.specs.Fields.{GETARG-A, GETARG-B, GETARG-Bx};
 ghost use Rattle.instructions.specs.OpCodes.{opcode};
-ghost use Rattle.symbexec.specs.SymbExec.{alsoWrites, setsA, writes, isJump, followed, nextPc};
+ghost use Rattle.symbexec.specs.SymbExec.{alsoWrites, setsA, writes, followed, nextPc};
 
 // What is added to sBx in an instruction.
 const SBX: usize = MAXARG_SBX as usize;
@@ -74,33 +72,21 @@ pub fn latest(i: Instruction, reg: u32, pc: u32, last: u32) -> u32
     if writes(i, reg) { pc } else { last }
 }
 
-fn is_jump(i: Instruction) -> bool
-    ensures { λ r. ⌜ r ≡ isJump (opcode (i .0)) ⌝ }
-{
-    let op = i.opcode();
-    match op {
-        OP_JMP => true,
-        OP_FORLOOP => true,
-        OP_FORPREP => true,
-        _ => false,
-    }
-}
-
 // Whether an instruction is a jump that is followed: not for NO_REG, only forward, to lastpc at most.
 fn followed(i: Instruction, lastpc: u32, reg: u32, pc: u32) -> bool
     ensures { λ r. ⌜ r ≡ followed (opcode (i .0)) (GETARG-Bx (i .0)) lastpc reg pc ⌝ }
 {
-    if !is_jump(i) {
+    if !is_jump(i.opcode()) {
         return false;
     }
     if reg == NO_REG {
         return false;
     }
-    let raised = pc as usize + 1 + i.bx() as usize;
-    if raised <= pc as usize + SBX {
+    let biased = pc as usize + 1 + i.bx() as usize;
+    if biased <= pc as usize + SBX {
         return false;
     }
-    raised <= lastpc as usize + SBX
+    biased <= lastpc as usize + SBX
 }
 
 // The next pc, where so many words behind the instruction are none.
