@@ -15,7 +15,6 @@ use Rattle.instructions.specs.Fields.{GETARG-Bx}
 use Rattle.instructions.specs.OpCodes.{OP-CLOSURE, among}
 use Rattle.proto.specs.Children.{childNumber}
 use Rattle.comments.specs.Comment.{address, comment, when}
-use Rattle.proto.proofs.constant.Constant as constant
 
 -- ---- which opcodes
 

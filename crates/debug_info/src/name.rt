@@ -1,7 +1,7 @@
 // Names, and writing them.
+use format::Constant;
 use format::Written;
 use lent::put_bytes;
-use proto::constant::Constant;
 use proto::walk::part;
 use proto::walk::skip;
 use proto::walk::word_at;
@@ -12,8 +12,8 @@ ghost use Prim.Native.Nat.{ℕ};
 ghost use Rattle.lent.specs.Memory.{Puts};
 ghost use Rattle.format.specs.Dump.{writeLeft, written};
 ghost use Rattle.format.specs.Store.{string};
+ghost use Rattle.format.specs.Constants.{valueOf};
 ghost use Rattle.proto.specs.Walk.{StandsAt};
-ghost use Rattle.proto.specs.Constants.{valueOf};
 ghost use Rattle.debug_info.specs.Names.{constantName, globalOf};
 ghost use Rattle.debug_info.specs.Known.{nameOf, objectOf};
 

@@ -5,12 +5,12 @@ pub mod function;
 pub mod list;
 
 use count::count_function;
+use format::DEPTH;
 use format::Written;
 use format::name_ok;
 use function::dump_function;
 use lent::copy;
 use list::DumpState;
-use proto::formed::DEPTH;
 use proto::formed::check_store;
 ghost use Prim.Native.Nat.{_+_, _*_, _≤_};
 ghost use mathlib.Core.Path.{_≡_};

@@ -2,7 +2,7 @@
 use crate::block::dump_int;
 use crate::block::dump_ints;
 use crate::block::dump_string;
-use proto::constant::Constant;
+use format::Constant;
 use proto::constant::constant_at;
 use proto::walk::after_debug;
 use proto::walk::part;
@@ -16,7 +16,7 @@ ghost use Rattle.format.specs.Store.{word as wordPiece};
 ghost use Rattle.format.specs.Valid.{ValidParts};
 ghost use Rattle.format.specs.Write.{dumpInt, dumpText, dumpList, dumpCode, dumpConstant, dumpLocal, dumpDebug};
 ghost use Rattle.lent.specs.Memory.{Puts};
-ghost use Rattle.proto.specs.Constants.{valueOf};
+ghost use Rattle.format.specs.Constants.{valueOf};
 ghost use Rattle.dump.specs.Step.{Dumps, reached, Any, Ready};
 
 // Where the writer stands: a place in the words, and the bytes written so far.

@@ -5,3 +5,5 @@ pub mod Calls
 pub mod Samples
 pub mod Writing
 pub mod Filled
+pub mod Loops
+pub mod Constants

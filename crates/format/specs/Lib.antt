@@ -7,3 +7,4 @@ pub mod Agree
 pub mod Stored
 pub mod Undump
 pub mod Dump
+pub mod Constants

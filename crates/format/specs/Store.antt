@@ -73,6 +73,10 @@ unfoldable mutual
   functionPieces Functions.none = plain []
   functionPieces (Functions.more f fs) = functionPiece f ⊕ functionPieces fs
 
+-- the functions in a function, after their count
+abbrev pub childrenPiece : Functions → Piece
+childrenPiece fs = word (count fs) ⊕ functionPieces fs
+
 -- the store of a tree
 abbrev pub wordsOf : Function → List ℕ
 wordsOf f = functionPiece f .words 0

@@ -1,6 +1,8 @@
 // The answers of the calls that read and write chunks: the refusal, 0 where there is none, then numbers, all 0 on refusal.
-// What the calls answer and leave in lent memory is defined in specs/. Code here is the test of a chunk name alone, which the calls share.
+// What the calls answer and leave in lent memory is defined in specs/. Beside the answers stand the limits and the test of a chunk name, which the calls share.
 ghost use mathlib.Core.Path.{_≡_};
+ghost use Rattle.format.specs.Read.{limit};
+ghost use Rattle.format.specs.Valid.{depth, most};
 ghost use Rattle.format.specs.Undump.{nameOk};
 
 // The words and the text bytes that a tree takes, and the bytes of the chunk that were read.
@@ -19,8 +21,27 @@ pub struct Written {
     pub len: usize,
 }
 
+// A constant: a number by its halves, a string by its place and length in the bytes that hold it.
+pub enum Constant {
+    Nil,
+    Bool(bool),
+    Num(u32, u32),
+    String(usize, usize),
+}
+
+// The most functions nested, the root being 1.
+pub const DEPTH: u32 = 200;
+
+// The most items of a list.
+pub const LIMIT: u32 = 65535;
+
 // The most words, the most text bytes, and the most bytes of a chunk name.
 pub const MOST: usize = 16777216;
+
+// The limits are the definitions'.
+fn limits()
+    ensures { λ r. do ⌜ ((← ⟦DEPTH⟧ .entry) ≡ depth) × ((← ⟦LIMIT⟧ .entry) ≡ limit) × ((← ⟦MOST⟧ .entry) ≡ most) ⌝ }
+{}
 
 // Whether a chunk name is UTF-8 and not too long: refusal 1 where it is not.
 pub fn name_ok(name: &[u8]) -> bool

@@ -2,11 +2,11 @@
 pub mod code;
 pub mod function;
 
+use format::DEPTH;
 use format::Written;
 use format::name_ok;
 use function::ListState;
 use function::list_function_recursive;
-use proto::formed::DEPTH;
 use proto::formed::check_store;
 ghost use mathlib.Core.Path.{_≡_};
 ghost use mathlib.Core.List.{[]};

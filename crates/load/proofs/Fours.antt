@@ -12,7 +12,7 @@ use Rattle.format.specs.Read.{got, refused, loadInt, many, loadCount, loadList}
 use Rattle.format.specs.Store.{plain, word, ints}
 use Rattle.load.specs.declared.Load.{Load}
 use Rattle.load_state.specs.ReadAt.{fourAt}
-use Rattle.load.specs.Step.{Step, fours, space, Does, world, Loads}
+use Rattle.load.specs.Loads.{ReadsBy, fours, space, Does, world, Loads}
 use Rattle.load_state.proofs.Bytes.{int-got, int-none}
 use Rattle.load.proofs.Steps.{passed, takes, stops, bind}
 use Rattle.load.proofs.Stores.{join}
@@ -72,7 +72,7 @@ many-none bs at (suc n) h = elim (decLe 4 (length bs - at)) [
 -- ---- a list of integers, after its count
 
 module _ {bs : List ℕ} {s p : Load} {n : ℕ} {ws ws₁ t : List ℕ}
-    (h : Step bs loadCount (λ a. (a ≡ n) × Does (word a) (space s ws t) (space p ws₁ t)) (s .cursor) (p .cursor)) where
+    (h : ReadsBy bs loadCount (λ a. (a ≡ n) × Does (word a) (space s ws t) (space p ws₁ t)) (s .cursor) (p .cursor)) where
   pub ints-refused : 0 < p .cursor .refusal → Loads bs (loadList loadInt) ints (world s ws t) (world p ws₁ t)
   ints-refused z = bind (many loadInt) h (λ y. refl) (λ a e. passed z refl)
 

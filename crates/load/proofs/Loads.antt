@@ -14,19 +14,19 @@ use Rattle.format.specs.Stored.{part}
 use Rattle.load_state.specs.declared.cursor.Cursor.{Cursor}
 use Rattle.load.specs.declared.cursor.Span.{Span}
 use Rattle.load.specs.declared.Load.{Load}
-use Rattle.load.specs.Step.{Step, Strings, space, Does, world, moved, Loads, repairedName, repairedSourcePiece}
+use Rattle.load.specs.Loads.{ReadsBy, Strings, space, Does, world, moved, Loads, repairedName, repairedSourcePiece}
 use Rattle.load.proofs.Steps.{weaken}
 use Rattle.load.proofs.Strings.{text-of}
 
 -- a step that does something with its value, and ends at the cursor of r
 pub stores : {A : Type 0} {bs : List ℕ} {R : Reader A} {P : A → Type 0} {piece : A → Piece} {s r : Load} {m : Cursor} {ws ts ws′ ts′ : List ℕ}
-    → Step bs R P (s .cursor) m → r .cursor ≡ m → ((a : A) → P a → Does (piece a) (space s ws ts) (space r ws′ ts′)) → Loads bs R piece (world s ws ts) (world r ws′ ts′)
+    → ReadsBy bs R P (s .cursor) m → r .cursor ≡ m → ((a : A) → P a → Does (piece a) (space s ws ts) (space r ws′ ts′)) → Loads bs R piece (world s ws ts) (world r ws′ ts′)
 stores h e k = rw e (weaken k h)
 
 -- a number goes to the words
 pub copied : {bs : List ℕ} {R : Reader ℕ} {s p r : Load} {m : Cursor} {v : ℕ} {ws ws′ t : List ℕ}
-    → Step bs R (λ a. a ≡ v) (s .cursor) m → p ≡ moved s m → r .cursor ≡ p .cursor → Does (word v) (space p ws t) (space r ws′ t)
-    → Step bs R (λ a. (a ≡ v) × Does (word a) (space s ws t) (space r ws′ t)) (s .cursor) (r .cursor)
+    → ReadsBy bs R (λ a. a ≡ v) (s .cursor) m → p ≡ moved s m → r .cursor ≡ p .cursor → Does (word v) (space p ws t) (space r ws′ t)
+    → ReadsBy bs R (λ a. (a ≡ v) × Does (word a) (space s ws t) (space r ws′ t)) (s .cursor) (r .cursor)
 copied {s = s} {m = m} h e f d = rw (f, e) (weaken (λ a q. (q, rw q (rw e at d))) h)
 
 -- ---- strings
@@ -64,6 +64,6 @@ source-none h e o f d = stores (h .reads) (f ∙ rw e) (λ a q. rw (q, o) (rw e 
 
 -- ---- constants
 
-pub constant-loaded : {bs : List ℕ} {s p r : Load} {m : Cursor} {v : Value} {ws ws′ ts ts′ : List ℕ} → Step bs loadConstant (λ a. a ≡ v) (s .cursor) m → p ≡ moved s m → r .cursor ≡ p .cursor
+pub constant-loaded : {bs : List ℕ} {s p r : Load} {m : Cursor} {v : Value} {ws ws′ ts ts′ : List ℕ} → ReadsBy bs loadConstant (λ a. a ≡ v) (s .cursor) m → p ≡ moved s m → r .cursor ≡ p .cursor
     → Does (constantPiece v) (space p ws ts) (space r ws′ ts′) → Loads bs loadConstant constantPiece (world s ws ts) (world r ws′ ts′)
 constant-loaded h e f d = stores h (f ∙ rw e) (λ a q. rw q (rw e at d))

@@ -7,7 +7,7 @@ use lib.ListN.{length, length-append}
 use Rattle.lent.specs.Memory.{far, Puts}
 use Rattle.lent.proofs.Writes.{put-none, put-then, put-length}
 use Rattle.format.specs.Store.{Piece, plain, word, _⊕_, string}
-use Rattle.load.specs.Step.{Space, Wrote, Does}
+use Rattle.load.specs.Loads.{Space, Wrote, Does}
 
 pub nothing : {σ : Space} → Does (plain []) σ σ
 nothing = record { does = λ τ e h. record { stored = []; many = refl; exact = λ k. refl; words = put-none; text = put-none } }

@@ -4,8 +4,8 @@ use mathlib.Core.Path.{_≡_, refl, sym, ap, _∙_}
 use mathlib.Core.List.{List, []}
 use mathlib.Core.Bool.{Bool, true, false, cond, not}
 use native.Mathlib.Omega.{arith}
-use native.Mathlib.Decide.{decLe}
-use lib.ListN.{length, drop, length-drop}
+use native.Mathlib.Decide.{decLe, decLt}
+use lib.ListN.{length, drop, getD, length-drop}
 use lib.Seq.{drop-drop}
 use lib.Dec.{eqb}
 use borrow.Author.Tests.{ne-eqb}
@@ -13,9 +13,12 @@ use Rattle.format.specs.Tree.{Source, filled}
 use Rattle.format.specs.Tree.{Constant as Value}
 use Rattle.format.specs.Read.{got, refused, loadByte, loadInt, loadSize, stringOf, loadText, constantOf, loadConstant}
 use Rattle.format.specs.Stored.{part}
+use Rattle.format.specs.Constants.{caseOf, valueOf, LiesIn}
+use Rattle.format.specs.declared.Constant.{Constant}
+use Rattle.format.specs.declared.Constant.the-variants.{Nil, Bool as Truth, Num, String}
 use Rattle.load_state.specs.declared.cursor.Cursor.{Cursor}
 use Rattle.load.specs.declared.cursor.Span.{Span}
-use Rattle.load.specs.Step.{Step, spanned, NoString, Strings}
+use Rattle.load.specs.Loads.{ReadsBy, spanned, NoString, Strings, ReadsConstant}
 use Rattle.load_state.proofs.Bytes.{byte-got, byte-none, block-got, block-none}
 use Rattle.load.proofs.Steps.{passed, takes, stops, bind, mapped, stays-then}
 
@@ -37,7 +40,7 @@ none-within bs n = omega (arith, n .start, n .len)
 none-spanned : {m : Cursor} {z : Span} (bs : List ℕ) → NoString m z → spanned bs z ≡ Source.inherited
 none-spanned bs n = rw (n .own)
 
-module _ {bs : List ℕ} {s m : Cursor} {size : ℕ} {z : Span} (h : Step bs loadSize (λ a. a ≡ size) s m) where
+module _ {bs : List ℕ} {s m : Cursor} {size : ℕ} {z : Span} (h : ReadsBy bs loadSize (λ a. a ≡ size) s m) where
   pub string-refused : 0 < m .refusal → NoString m z → Strings bs s z
   string-refused y n = record { reads = rw (n .cursor) (bind stringOf h (λ x. refl) (λ a e. passed y refl)); within = none-within bs n; empty = λ e. n .len }
 
@@ -76,7 +79,7 @@ module _ {bs : List ℕ} {s m : Cursor} {size : ℕ} {z : Span} (h : Step bs loa
       clash q = let w : _≡_ {A = ℕ} 0 1 = cc in omega arith
 
 -- a name or a string constant: empty where there is no string
-pub text-of : {bs : List ℕ} {s : Cursor} {z : Span} → Strings bs s z → Step bs loadText (λ a. a ≡ part bs (z .start) (z .len)) s (z .cursor)
+pub text-of : {bs : List ℕ} {s : Cursor} {z : Span} → Strings bs s z → ReadsBy bs loadText (λ a. a ≡ part bs (z .start) (z .len)) s (z .cursor)
 text-of {bs} {s} {z} k = mapped (filled []) (λ x p. rw p (by (z .own) refl)) (k .reads)
   where
     by : (own : Bool) → z .own ≡ own → filled [] (cond own (Source.own (part bs (z .start) (z .len))) Source.inherited) ≡ part bs (z .start) (z .len)
@@ -85,23 +88,37 @@ text-of {bs} {s} {z} k = mapped (filled []) (λ x p. rw p (by (z .own) refl)) (k
 
 -- ---- constants
 
-module _ {bs : List ℕ} {s m : Cursor} {tag : ℕ} (h : Step bs loadByte (λ a. a ≡ tag) s m) where
-  pub constant-refused : {P : Value → Type 0} → 0 < m .refusal → Step bs loadConstant P s m
-  constant-refused z = bind constantOf h (λ y. refl) (λ a e. passed z refl)
+module _ {bs : List ℕ} {s m : Cursor} {tag : ℕ} (h : ReadsBy bs loadByte (λ a. a ≡ tag) s m) where
+  -- the tag, where the reading that begins with it is not refused
+  tag-is : {n : ℕ} → (0 < m .refusal → n ≡ m .refusal) → s .refusal ≡ 0 → n ≡ 0 → getD bs (s .next) 0 ≡ tag
+  tag-is keep z y = elim (decLt (s .next) (length bs)) [
+    | yes k ↦ (rw (byte-got bs (s .next) k) at (h .goes z)) .2
+    | no k ↦ let e = rw (byte-none bs (s .next) (omega arith)) at (h .goes z) in absurd (omega (arith, e .0, keep (omega (arith, e .0))))
+  ]
 
-  pub constant-nil : m .refusal ≤ 0 → tag ≡ 0 → Step bs loadConstant (λ v. v ≡ Value.nil) s m
-  constant-nil z t = bind constantOf h (λ y. refl) (λ a e. takes z (rw (e, t)) (omega arith) refl refl)
+  constant-read : {k : Constant} {r : Cursor} → tag ≡ caseOf k .number → (0 < m .refusal → r .refusal ≡ m .refusal) → LiesIn bs k → ReadsBy bs loadConstant (λ a. a ≡ valueOf bs k) s r → ReadsConstant bs s k r
+  constant-read t keep l c = record { reads = c; lies = l; numbered = λ z y. tag-is keep z y ∙ t }
 
-  pub constant-bool : {r : Cursor} {v : ℕ} → tag ≡ 1 → Step bs loadByte (λ b. b ≡ v) m r → Step bs loadConstant (λ w. w ≡ Value.bool (not (eqb v 0))) s r
-  constant-bool t k = bind constantOf h (k .stays) (λ a e. rw (e, t) (mapped _ (λ b q. rw q) k))
+  pub constant-refused : 0 < m .refusal → ReadsConstant bs s Nil m
+  constant-refused z = record { reads = bind constantOf h (λ y. refl) (λ a e. passed z refl); lies = tt; numbered = λ x y. absurd (omega arith) }
 
-  pub constant-num : {l r : Cursor} {low high : ℕ} → tag ≡ 3 → Step bs loadInt (λ a. a ≡ low) m l → Step bs loadInt (λ a. a ≡ high) l r
-      → Step bs loadConstant (λ w. w ≡ Value.num high low) s r
-  constant-num {l} {r} t k j = bind constantOf h (stays-then (k .stays) (j .stays)) (λ a e. rw (e, t) (bind _ k (j .stays) (λ x p. mapped _ (λ y q. rw (p, q)) j)))
+  pub constant-nil : m .refusal ≤ 0 → tag ≡ 0 → ReadsConstant bs s Nil m
+  constant-nil z t = constant-read t (λ y. refl) tt (bind constantOf h (λ y. refl) (λ a e. takes z (rw (e, t)) (omega arith) refl refl))
 
-  pub constant-str : {z : Span} → tag ≡ 4 → Strings bs m z → Step bs loadConstant (λ w. w ≡ Value.str (part bs (z .start) (z .len))) s (z .cursor)
-  constant-str t k = bind constantOf h (k .reads .stays) (λ a e. rw (e, t) (mapped _ (λ x p. ap Value.str p) (text-of k)))
+  pub constant-bool : {r : Cursor} {v : ℕ} → tag ≡ 1 → ReadsBy bs loadByte (λ b. b ≡ v) m r → ReadsConstant bs s (Truth (not (eqb v 0))) r
+  constant-bool t k = constant-read t (k .stays) tt (bind constantOf h (k .stays) (λ a e. rw (e, t) (mapped _ (λ b q. rw q) k)))
 
-  pub constant-bad : {P : Value → Type 0} {r : Cursor} → m .refusal ≤ 0 → (tag ≡ 0 → ⊥) → (tag ≡ 1 → ⊥) → (tag ≡ 3 → ⊥) → (tag ≡ 4 → ⊥) → r .refusal ≡ 5 → Step bs loadConstant P s r
+  pub constant-num : {l r : Cursor} {low high : ℕ} → tag ≡ 3 → ReadsBy bs loadInt (λ a. a ≡ low) m l → ReadsBy bs loadInt (λ a. a ≡ high) l r → ReadsConstant bs s (Num high low) r
+  constant-num t k j =
+      let keep = stays-then (k .stays) (j .stays) in constant-read t keep tt (bind constantOf h keep (λ a e. rw (e, t) (bind _ k (j .stays) (λ x p. mapped _ (λ y q. rw (p, q)) j))))
+
+  pub constant-str : {z : Span} → tag ≡ 4 → Strings bs m z → ReadsConstant bs s (String (z .start) (z .len)) (z .cursor)
+  constant-str t k = constant-read t (k .reads .stays) (k .within) (bind constantOf h (k .reads .stays) (λ a e. rw (e, t) (mapped _ (λ x p. ap Value.str p) (text-of k))))
+
+  pub constant-bad : {r : Cursor} → m .refusal ≤ 0 → (tag ≡ 0 → ⊥) → (tag ≡ 1 → ⊥) → (tag ≡ 3 → ⊥) → (tag ≡ 4 → ⊥) → r .refusal ≡ 5 → ReadsConstant bs s Nil r
   constant-bad z a b c d f =
-      bind constantOf h (λ y. absurd (omega arith)) (λ x e. stops z (rw (e, ne-eqb tag 0 a, ne-eqb tag 1 b, ne-eqb tag 3 c, ne-eqb tag 4 d)) f (omega arith))
+      record {
+        reads = bind constantOf h (λ y. absurd (omega arith)) (λ x e. stops z (rw (e, ne-eqb tag 0 a, ne-eqb tag 1 b, ne-eqb tag 3 c, ne-eqb tag 4 d)) f (omega arith));
+        lies = tt;
+        numbered = λ x y. absurd (omega arith);
+      }

@@ -1,4 +1,6 @@
 // Numbers, strings and constants of a chunk, a refusal passed on: a cursor that holds one reads nothing.
+use format::Constant;
+use format::LIMIT;
 use load_state::cursor::Byte;
 use load_state::cursor::Cursor;
 use load_state::cursor::Int;
@@ -9,8 +11,8 @@ use load_state::read_byte;
 use load_state::read_int;
 use load_state::read_size;
 ghost use mathlib.Core.Path.{_≡_};
-ghost use Rattle.format.specs.Read.{loadByte, loadInt, loadSize, loadCount, loadConstant};
-ghost use Rattle.load.specs.Step.{Step, NoString, Strings, valueOf, Within};
+ghost use Rattle.format.specs.Read.{loadByte, loadInt, loadSize, loadCount};
+ghost use Rattle.load.specs.Loads.{ReadsBy, NoString, Strings, ReadsConstant};
 
 // Where a string stands in the chunk; own is false where there is none.
 pub struct Span {
@@ -20,22 +22,14 @@ pub struct Span {
     pub cursor: Cursor,
 }
 
-// A constant: a number by its halves, a string by its place and length in the chunk.
-pub enum Constant {
-    Nil,
-    Bool(bool),
-    Num(u32, u32),
-    String(usize, usize),
-}
-
-// A constant that was read, and the next cursor.
+// A constant that was read, a string by its place and length in the chunk, and the next cursor.
 pub struct Loaded {
     pub constant: Constant,
     pub cursor: Cursor,
 }
 
 pub fn load_byte(chunk: &[u8], s: Cursor) -> Byte
-    ensures { λ r. ⌜ Step (now (chunk .entry)) loadByte (λ a. a ≡ r .value) s (r .cursor) ⌝ }
+    ensures { λ r. ⌜ ReadsBy (now (chunk .entry)) loadByte (λ a. a ≡ r .value) s (r .cursor) ⌝ }
 {
     if 0 < s.refusal {
         return Byte {
@@ -47,7 +41,7 @@ pub fn load_byte(chunk: &[u8], s: Cursor) -> Byte
 }
 
 pub fn load_int(chunk: &[u8], s: Cursor) -> Int
-    ensures { λ r. ⌜ Step (now (chunk .entry)) loadInt (λ a. a ≡ r .value) s (r .cursor) ⌝ }
+    ensures { λ r. ⌜ ReadsBy (now (chunk .entry)) loadInt (λ a. a ≡ r .value) s (r .cursor) ⌝ }
 {
     if 0 < s.refusal {
         return Int {
@@ -59,7 +53,7 @@ pub fn load_int(chunk: &[u8], s: Cursor) -> Int
 }
 
 pub fn load_size(chunk: &[u8], s: Cursor) -> Size
-    ensures { λ r. ⌜ Step (now (chunk .entry)) loadSize (λ a. a ≡ r .value) s (r .cursor) ⌝ }
+    ensures { λ r. ⌜ ReadsBy (now (chunk .entry)) loadSize (λ a. a ≡ r .value) s (r .cursor) ⌝ }
 {
     if 0 < s.refusal {
         return Size {
@@ -72,13 +66,13 @@ pub fn load_size(chunk: &[u8], s: Cursor) -> Size
 
 // A list's count.
 pub fn load_count(chunk: &[u8], s: Cursor) -> Int
-    ensures { λ r. ⌜ Step (now (chunk .entry)) loadCount (λ a. a ≡ r .value) s (r .cursor) ⌝ }
+    ensures { λ r. ⌜ ReadsBy (now (chunk .entry)) loadCount (λ a. a ≡ r .value) s (r .cursor) ⌝ }
 {
     let n = load_int(chunk, s);
     if 0 < n.cursor.refusal {
         return n;
     }
-    if 65535 < n.value {
+    if LIMIT < n.value {
         return Int {
             value: 0,
             cursor: refused(6),
@@ -129,7 +123,7 @@ pub fn load_string(chunk: &[u8], s: Cursor) -> Span
 
 // A constant, by its tag.
 pub fn load_constant(chunk: &[u8], s: Cursor) -> Loaded
-    ensures { λ r. ⌜ Step (now (chunk .entry)) loadConstant (λ a. a ≡ valueOf (now (chunk .entry)) (r .constant)) s (r .cursor) × Within (now (chunk .entry)) (r .constant) ⌝ }
+    ensures { λ r. ⌜ ReadsConstant (now (chunk .entry)) s (r .constant) (r .cursor) ⌝ }
 {
     let t = load_byte(chunk, s);
     let c = t.cursor;

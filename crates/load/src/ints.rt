@@ -15,7 +15,7 @@ ghost use lib.Seq.{sets};
 ghost use Rattle.lent.specs.Memory.{Puts};
 ghost use Rattle.format.specs.Read.{loadInt, loadList};
 ghost use Rattle.format.specs.Store.{ints};
-ghost use Rattle.load.specs.Step.{fours, world, Loads};
+ghost use Rattle.load.specs.Loads.{fours, world, Loads};
 
 // n integers, which fit, go from the chunk to the words.
 fn fill(chunk: &[u8], from: usize, n: usize, words: &mut [u32], at: usize)

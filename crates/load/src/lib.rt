@@ -13,7 +13,7 @@ ghost use Rattle.lent.specs.Memory.{Puts};
 ghost use Rattle.format.specs.Read.{loadInt, loadCount, loadString, loadText};
 ghost use Rattle.format.specs.Store.{plain, string, _⊕_};
 ghost use Rattle.format.specs.Store.{word as wordPiece};
-ghost use Rattle.load.specs.Step.{Step, space, world, moved, Does, Loads, repairedName, repairedSourcePiece};
+ghost use Rattle.load.specs.Loads.{ReadsBy, space, world, moved, Does, Loads, repairedName, repairedSourcePiece};
 
 // The state of the reader: the cursor, and the words and text bytes so far.
 pub struct Load {
@@ -141,7 +141,7 @@ pub fn copy_int(chunk: &[u8], words: &mut [u32], s: Load) -> Load
 
 // So does a count, which is answered too.
 pub fn copy_count(chunk: &[u8], words: &mut [u32], s: Load) -> Counted
-    ensures { λ r. ⌜ ((t : List ℕ) → Step (now (chunk .entry)) loadCount (λ a. (a ≡ r .n) × Does (wordPiece a) (space s (now (words .entry)) t) (space (r .load) (now (words .exit)) t)) (s .cursor) (r .load .cursor)) ⌝ }
+    ensures { λ r. ⌜ ((t : List ℕ) → ReadsBy (now (chunk .entry)) loadCount (λ a. (a ≡ r .n) × Does (wordPiece a) (space s (now (words .entry)) t) (space (r .load) (now (words .exit)) t)) (s .cursor) (r .load .cursor)) ⌝ }
 {
     let v = load_count(chunk, s.cursor);
     let load = put(words, at(s, v.cursor), v.value);

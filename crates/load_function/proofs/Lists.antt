@@ -1,14 +1,13 @@
 -- Lists read item by item.
-use Prim.Native.Nat.{ℕ, suc, _+_, _-_, _≤_, _<_}
+use Prim.Native.Nat.{ℕ, suc}
 use mathlib.Core.Path.{_≡_, refl, ap, _∙_}
 use mathlib.Core.List.{List, [], _∷_, map}
-use native.Mathlib.Omega.{arith}
 use lib.ListN.{length}
 use Rattle.format.specs.Tree.{Functions, count}
 use Rattle.format.specs.Read.{Reader, _>>=_, return, many, manyFunctions, loadFunction, loadText, loadInt, loadLocal}
 use Rattle.format.specs.Store.{Piece, plain, word, _⊕_, pieces, functionPieces}
 use Rattle.format.specs.Undump.{repairedAll}
-use Rattle.load.specs.Step.{Step, spaceOf, Does, World, Loads, repairedName}
+use Rattle.load.specs.Loads.{ReadsBy, spaceOf, Does, World, Loads, repairedName}
 use Rattle.load_function.specs.Repaired.{repairedLocalPiece, repairedFunction}
 use Rattle.load.proofs.Steps.{weaken, bind, done, stays-then}
 use Rattle.load.proofs.Stores.{nothing, join}
@@ -70,38 +69,20 @@ function-items allowance =
 
 -- n items are read from σ to ρ
 abbrev pub LoadsAll : {L : Type 0} → List ℕ → (ℕ → Reader L) → (L → ℕ) → (L → Piece) → ℕ → World → World → Type 0
-LoadsAll bs Many size all n σ ρ = Step bs (Many n) (λ l. (size l ≡ n) × Does (all l) (spaceOf σ) (spaceOf ρ)) (σ .load .cursor) (ρ .load .cursor)
-
--- a loop over n items that began at σ₀ and stands at σ before item i: reading the others from here ends the whole
-pub record Loop {L : Type 0} (bs : List ℕ) (Many : ℕ → Reader L) (size : L → ℕ) (all : L → Piece) (n : ℕ) (σ₀ : World) (i : ℕ) (σ : World) : Type 0 where
-  pub rest : (ρ : World) → LoadsAll bs Many size all (n - i) σ ρ → LoadsAll bs Many size all n σ₀ ρ
-
-module _ {L : Type 0} {bs : List ℕ} {Many : ℕ → Reader L} {size : L → ℕ} {all : L → Piece} {n : ℕ} where
-  pub loop-start : {σ : World} → Loop bs Many size all n σ 0 σ
-  loop-start = record { rest = λ ρ h. let e : n - 0 ≡ n = omega arith in rw e at h }
-
-  -- where a refusal stands, the others are not read
-  pub loop-stop : {σ₀ σ : World} {i : ℕ} → 0 < σ .load .cursor .refusal → Loop bs Many size all n σ₀ i σ → LoadsAll bs Many size all n σ₀ σ
-  loop-stop {σ = σ} z l = l .rest σ (record { stays = λ y. refl; goes = λ y. absurd (omega arith) })
+LoadsAll bs Many size all n σ ρ = ReadsBy bs (Many n) (λ l. (size l ≡ n) × Does (all l) (spaceOf σ) (spaceOf ρ)) (σ .load .cursor) (ρ .load .cursor)
 
 module _ {A L : Type 0} {bs : List ℕ} {R : Reader A} {Many : ℕ → Reader L} {size : L → ℕ} {piece : A → Piece} {all : L → Piece} (laws : Listing R Many size piece all) where
-  loads-none : {σ : World} → LoadsAll bs Many size all 0 σ σ
+  pub loads-none : {σ : World} → LoadsAll bs Many size all 0 σ σ
   loads-none = rw (laws .many-none) (done (laws .nil) (laws .size-none, rw (laws .all-none) nothing))
 
-  loads-more : {n : ℕ} {σ m ρ : World} → Loads bs R piece σ m → LoadsAll bs Many size all n m ρ → LoadsAll bs Many size all (suc n) σ ρ
-  loads-more {n} h t =
+  pub loads-more : {σ m : World} → Loads bs R piece σ m → (n : ℕ) (ρ : World) → LoadsAll bs Many size all n m ρ → LoadsAll bs Many size all (suc n) σ ρ
+  loads-more h n ρ t =
       rw (laws .many-more n)
       (bind _ h (t .stays) (λ a d. bind _ t (λ z. refl) (λ l e. done (laws .cons a l) (laws .size-more a l ∙ ap suc (e .0), rw (laws .all-more a l) (join d (e .1))))))
 
-  pub loop-turn : {n i : ℕ} {σ₀ σ m : World} → i < n → Loop bs Many size all n σ₀ i σ → Loads bs R piece σ m → Loop bs Many size all n σ₀ (i + 1) m
-  loop-turn {n} {i} lt l h = record { rest = λ ρ t. let e : n - i ≡ suc (n - (i + 1)) = omega arith in l .rest ρ (rw e (loads-more h t)) }
-
-  pub loop-end : {n i : ℕ} {σ₀ σ : World} → n ≤ i → Loop bs Many size all n σ₀ i σ → LoadsAll bs Many size all n σ₀ σ
-  loop-end {n} {i} {σ = σ} h l = let e : n - i ≡ 0 = omega arith in l .rest σ (rw e loads-none)
-
 -- a count, and as many items
 pub listed : {L : Type 0} {bs : List ℕ} {C : Reader ℕ} {size : L → ℕ} {all : L → Piece} {n : ℕ} {σ m ρ : World}
-    (Many : ℕ → Reader L) → Step bs C (λ a. (a ≡ n) × Does (word a) (spaceOf σ) (spaceOf m)) (σ .load .cursor) (m .load .cursor) → LoadsAll bs Many size all n m ρ
+    (Many : ℕ → Reader L) → ReadsBy bs C (λ a. (a ≡ n) × Does (word a) (spaceOf σ) (spaceOf m)) (σ .load .cursor) (m .load .cursor) → LoadsAll bs Many size all n m ρ
     → Loads bs (C >>= Many) (λ l. word (size l) ⊕ all l) σ ρ
 listed Many h t = bind Many h (t .stays) (λ a e. rw (e .0) (weaken (λ l d. rw (d .0) (join (rw (e .0) at (e .1)) (d .1))) t))
 

@@ -5,12 +5,12 @@ use mathlib.Core.List.{List}
 use native.Mathlib.Omega.{arith}
 use Rattle.format.specs.Tree.{count}
 use Rattle.format.specs.Read.{loadByte, loadInt, loadString, loadText, loadList, loadLocal, loadCount, loadConstant, manyFunctions, loadCode, loadConstants, loadDebug, loadFunction}
-use Rattle.format.specs.Store.{word, list, ints, constantPiece, functionPiece, functionPieces}
+use Rattle.format.specs.Store.{word, list, ints, constantPiece, functionPiece, functionPieces, childrenPiece}
 use Rattle.format.specs.Undump.{repaired, repairedAll}
 use Rattle.load_state.specs.declared.cursor.Cursor.{Cursor}
 use Rattle.load.specs.declared.Load.{Load}
-use Rattle.load.specs.Step.{Step, space, Does, World, spaceOf, moved, Loads, repairedSourcePiece}
-use Rattle.load_function.specs.Repaired.{functionsPiece, repairedLocals, repairedNames, repairedDebugPiece, repairedConstants, repairedFunction}
+use Rattle.load.specs.Loads.{ReadsBy, space, Does, World, spaceOf, moved, Loads, repairedSourcePiece}
+use Rattle.load_function.specs.Repaired.{repairedLocals, repairedNames, repairedDebugPiece, repairedConstants, repairedFunction}
 use Rattle.load.proofs.Steps.{stops, bind, done, stays-then}
 use Rattle.load.proofs.Stores.{join, regroup}
 use Rattle.load_function.proofs.Lists.{LoadsAll, listed}
@@ -22,7 +22,7 @@ debug-loaded h k l = bind _ h (stays-then (k .stays) (l .stays)) (λ li d. bind 
 
 -- the constants, a count, and as many functions
 pub constants-loaded : {bs : List ℕ} {σ a m ρ : World} {k : ℕ} (allowance : ℕ) → Loads bs (loadList loadConstant) (list constantPiece) σ a
-    → Step bs loadCount (λ v. (v ≡ k) × Does (word v) (spaceOf a) (spaceOf m)) (a .load .cursor) (m .load .cursor)
+    → ReadsBy bs loadCount (λ v. (v ≡ k) × Does (word v) (spaceOf a) (spaceOf m)) (a .load .cursor) (m .load .cursor)
     → LoadsAll bs (manyFunctions (loadFunction allowance)) (λ fs. count (repairedAll fs)) (λ fs. functionPieces (repairedAll fs)) k m ρ
     → Loads bs (loadConstants (loadFunction allowance)) repairedConstants σ ρ
 unfolding loadConstants
@@ -37,7 +37,7 @@ function-too-deep e z f = rw e (stops z refl f (omega arith))
 
 pub function-loaded : {bs : List ℕ} {σ a b c d e f ρ : World} {m₁ m₂ m₃ m₄ : Cursor} {nu np va ms v : ℕ} {p : Load} (allowance : ℕ)
     → Loads bs loadString repairedSourcePiece σ a → Loads bs loadInt word a b → Loads bs loadInt word b c
-    → Step bs loadByte (λ x. x ≡ nu) (c .load .cursor) m₁ → Step bs loadByte (λ x. x ≡ np) m₁ m₂ → Step bs loadByte (λ x. x ≡ va) m₂ m₃ → Step bs loadByte (λ x. x ≡ ms) m₃ m₄
+    → ReadsBy bs loadByte (λ x. x ≡ nu) (c .load .cursor) m₁ → ReadsBy bs loadByte (λ x. x ≡ np) m₁ m₂ → ReadsBy bs loadByte (λ x. x ≡ va) m₂ m₃ → ReadsBy bs loadByte (λ x. x ≡ ms) m₃ m₄
     → p ≡ moved (c .load) m₄ → v ≡ ms + 256 * (va + 256 * (np + 256 * nu)) → d .load .cursor ≡ p .cursor → Does (word v) (space p (c .words) (c .text)) (spaceOf d)
     → Loads bs loadCode ints d e → Loads bs (loadConstants (loadFunction allowance)) repairedConstants e f → Loads bs loadDebug repairedDebugPiece f ρ
     → Loads bs (loadFunction (suc allowance)) repairedFunction σ ρ
@@ -65,4 +65,4 @@ function-loaded {c = c} {d = d} {m₄ = m₄} {nu = nu} {np = np} {va = va} {ms 
     bind _ (rw q at h₄) k₄ (λ code d₅.
     bind _ h₅ k₅ (λ ks d₆.
     bind _ h₆ (λ z. refl) (λ de d₇.
-    done _ (rw (e₁, e₂, e₃, e₄, ← p) (join d₁ (join d₂ (join d₃ (join w (join d₅ (regroup (list constantPiece (ks .constants)) (functionsPiece (repairedAll (ks .functions))) (repairedDebugPiece de) (join d₆ d₇))))))))))))))))))
+    done _ (rw (e₁, e₂, e₃, e₄, ← p) (join d₁ (join d₂ (join d₃ (join w (join d₅ (regroup (list constantPiece (ks .constants)) (childrenPiece (repairedAll (ks .functions))) (repairedDebugPiece de) (join d₆ d₇))))))))))))))))))

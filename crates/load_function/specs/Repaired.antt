@@ -2,9 +2,9 @@
 use Prim.Native.Nat.{ℕ}
 use mathlib.Core.List.{List, map}
 use Rattle.utf8.specs.Utf8.{repair}
-use Rattle.format.specs.Tree.{Local, Debug, Function, Functions, count}
+use Rattle.format.specs.Tree.{Local, Debug, Function}
 use Rattle.format.specs.Read.{Constants}
-use Rattle.format.specs.Store.{Piece, word, _⊕_, string, list, constantPiece, localPiece, debugPiece, functionPiece, functionPieces}
+use Rattle.format.specs.Store.{Piece, _⊕_, string, list, constantPiece, localPiece, debugPiece, functionPiece, childrenPiece}
 use Rattle.format.specs.Undump.{repairedLocal, repairedDebug, repaired, repairedAll}
 
 abbrev pub repairedLocalPiece : Local → Piece
@@ -19,11 +19,8 @@ repairedNames l = list string (map repair l)
 abbrev pub repairedDebugPiece : Debug → Piece
 repairedDebugPiece d = debugPiece (repairedDebug d)
 
-abbrev pub functionsPiece : Functions → Piece
-functionsPiece fs = word (count fs) ⊕ functionPieces fs
-
 abbrev pub repairedConstants : Constants → Piece
-repairedConstants c = list constantPiece (c .constants) ⊕ functionsPiece (repairedAll (c .functions))
+repairedConstants c = list constantPiece (c .constants) ⊕ childrenPiece (repairedAll (c .functions))
 
 abbrev pub repairedFunction : Function → Piece
 repairedFunction f = functionPiece (repaired f)

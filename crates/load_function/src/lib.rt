@@ -18,7 +18,7 @@ ghost use mathlib.Core.List.{List};
 ghost use Prim.Native.Nat.{ℕ};
 ghost use Rattle.format.specs.Read.{loadCode, loadConstants, loadDebug, loadFunction};
 ghost use Rattle.format.specs.Store.{ints};
-ghost use Rattle.load.specs.Step.{world, Loads};
+ghost use Rattle.load.specs.Loads.{world, Loads};
 ghost use Rattle.load_function.specs.Repaired.{repairedConstants, repairedDebugPiece, repairedFunction};
 
 pub fn load_code(chunk: &[u8], words: &mut [u32], s: Load) -> Load

@@ -1,21 +1,20 @@
 // The lists of a function whose items are read one by one, each after its count.
+use format::Constant;
 use load::Load;
 use load::at;
 use load::copy_count;
 use load::copy_int;
-use load::cursor::Constant;
 use load::cursor::load_constant;
 use load::load_name;
 use load::put_tagged;
 use load::put3;
 ghost use mathlib.Core.Path.{_≡_};
 ghost use mathlib.Core.Bool.{cond};
-ghost use mathlib.Core.List.{List};
-ghost use Prim.Native.Nat.{ℕ};
 ghost use Rattle.format.specs.Read.{loadList, loadText, loadLocal, loadConstant};
 ghost use Rattle.format.specs.Store.{constantPiece};
 ghost use Rattle.format.specs.Store.{list as listPiece};
-ghost use Rattle.load.specs.Step.{valueOf, Within, space, world, Does, Loads};
+ghost use Rattle.format.specs.Constants.{valueOf, LiesIn};
+ghost use Rattle.load.specs.Loads.{space, world, Does, Loads};
 ghost use Rattle.load_function.specs.Repaired.{repairedLocalPiece, repairedLocals, repairedNames};
 
 fn bit(b: bool) -> u32
@@ -26,7 +25,7 @@ fn bit(b: bool) -> u32
 
 // A constant that was read goes to the store.
 fn put_constant(chunk: &[u8], words: &mut [u32], text: &mut [u8], s: Load, k: Constant) -> Load
-    requires { ⌜ Within (now chunk) k ⌝ }
+    requires { ⌜ LiesIn (now chunk) k ⌝ }
     ensures { λ r. ⌜ (r .cursor ≡ s .cursor) × Does (constantPiece (valueOf (now (chunk .entry)) k)) (space s (now (words .entry)) (now (text .entry))) (space r (now (words .exit)) (now (text .exit))) ⌝ }
 {
     match k {

@@ -9,9 +9,11 @@ use Rattle.lent.specs.Memory.{Puts}
 use Rattle.lent.proofs.Writes.{put-then}
 use Rattle.format.specs.Tree.{Constant as Value}
 use Rattle.format.specs.Store.{Piece, word, string, pieces, list, ints, constantPiece}
-use Rattle.proto.specs.declared.constant.Constant.{Constant}
+use Rattle.format.specs.declared.Constant.{Constant}
+use Rattle.format.specs.Constants.{valueOf}
+use Rattle.format.proofs.Constant as constant
+use Rattle.format.specs.declared.Constant.the-variants.{Nil, Bool as Truth, Num, String}
 use Rattle.proto.specs.Walk.{Stands, item, Skips, StandsAt}
-use Rattle.proto.specs.Constants.{valueOf}
 use Rattle.proto.proofs.Heres.{here-get}
 use Rattle.proto.proofs.Pieces.{Same, stands-same}
 use Rattle.proto.proofs.Items.{item-past, item-there, ints-list, list-count, list-item}
@@ -19,8 +21,6 @@ use Rattle.operands.specs.Shown.{Shows}
 use Rattle.instructions.specs.OpCodes.{opModes}
 use Rattle.instructions.specs.declared.OpModes.{OpModes}
 use Rattle.operands.specs.Operands.{constantText, rawText, operandsOf, formatOperands}
-use Rattle.proto.proofs.constant.Constant as constant
-use Rattle.proto.specs.declared.constant.Constant.the-variants.{Nil, Bool as Truth, Num, String}
 use mathlib.Core.Logic.{⊎-elim}
 use types.Run.{OneOf}
 use denote.Enum.Declared.{tagOf}

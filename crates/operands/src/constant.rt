@@ -1,8 +1,8 @@
 // Constants (listing.rs: format_constant, format_constant_raw).
 use digits::put_number;
 use digits::put_quoted;
+use format::Constant;
 use lent::put_bytes;
-use proto::constant::Constant;
 use proto::constant::constant_at;
 use proto::walk::item_at;
 use proto::walk::part;
@@ -10,7 +10,7 @@ use proto::walk::word_at;
 ghost use mathlib.Core.Option.{some};
 ghost use Rattle.lent.specs.Memory.{Puts};
 ghost use Rattle.format.specs.Store.{list, constantPiece};
-ghost use Rattle.proto.specs.Constants.{valueOf};
+ghost use Rattle.format.specs.Constants.{valueOf};
 ghost use Rattle.operands.specs.Operands.{constantText, rawText, formatConstant, formatConstantRaw};
 ghost use Rattle.operands.specs.Shown.{Shows};
 

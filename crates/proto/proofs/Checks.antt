@@ -11,6 +11,7 @@ use lib.Seq.{getD-take, getD-drop, length-take-le}
 use Rattle.lent.specs.Memory.{Every, Word, Bytes}
 use Rattle.utf8.specs.Utf8.{isUtf8}
 use Rattle.utf8.proofs.Laws.{utf8-bytes, utf8-ascii}
+use Rattle.format.specs.Read.{limit}
 use Rattle.format.specs.Store.{Piece, word, _⊕_, string, pieces, list, ints}
 use Rattle.format.specs.Stored.{part, Here}
 use Rattle.format.specs.Valid.{Name, ValidList}
@@ -194,7 +195,7 @@ module _ {A : Type 0} {words text : List ℕ} {P : A → Type 0} {piece : A → 
   all-stopped e n = record { all = check-stopped e }
 
   -- a count, and as many items
-  pub counted : {n : ℕ} {s m r : Checked} → n ≡ getD words (s .at) 0 → Check words text (Within 0 65535) word s m → CheckAll words text P piece n m r → Check words text (ValidList P) (list piece) s r
+  pub counted : {n : ℕ} {s m r : Checked} → n ≡ getD words (s .at) 0 → Check words text (Within 0 limit) word s m → CheckAll words text P piece n m r → Check words text (ValidList P) (list piece) s r
   counted {n} {s} {m} {r} e c d =
       let w = check-then c (d .all) in
       record {
@@ -228,8 +229,8 @@ part-below b xs place n f = every-below b (part xs place n) go
     ]
 
 -- words after their count
-module _ {words : List ℕ} (text : List ℕ) {s m : Checked} {n : ℕ} (e : n ≡ getD words (s .at) 0) (c : (t : List ℕ) → Check words t (Within 0 65535) word s m) where
-  counted-at : m .ok ≡ true → (m .at ≡ s .at + 1) × (m .to ≡ s .to) × (s .at < length words) × (n ≤ 65535)
+module _ {words : List ℕ} (text : List ℕ) {s m : Checked} {n : ℕ} (e : n ≡ getD words (s .at) 0) (c : (t : List ℕ) → Check words t (Within 0 limit) word s m) where
+  counted-at : m .ok ≡ true → (m .at ≡ s .at + 1) × (m .to ≡ s .to) × (s .at < length words) × (n ≤ limit)
   counted-at o =
       let p = check-passed (c text) o in
       let x = c text .sound o .1 in

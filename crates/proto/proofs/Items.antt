@@ -2,21 +2,26 @@
 use Prim.Native.Nat.{ℕ, zero, suc, _+_, _-_, _*_, _/_, _%_, _≤_, _<_, min}
 use mathlib.Core.Path.{_≡_, refl, sym, ap, _∙_}
 use mathlib.Core.List.{List, [], _∷_}
-use mathlib.Core.Bool.{true, false, not}
+use mathlib.Core.Bool.{true, false, cond, not}
 use mathlib.Core.Option.{none, some}
 use native.Mathlib.Omega.{arith}
 use native.Mathlib.Nat.{add-zero, mul-suc, mul-zero}
 use lib.ListN.{length, take, drop, getD, length-append}
 use lib.Seq.{length-take-le}
 use lib.Dec.{eqb}
+use borrow.Author.Tests.{ne-eqb}
 use Rattle.lent.specs.Memory.{far}
 use Rattle.format.specs.Tree.{Constant as Value, Source, Parts, Function, Functions, count, filled}
 use Rattle.format.specs.Store.{Piece, word, _⊕_, string, pieces, list, ints, sourcePiece, constantPiece, localPiece, debugPiece, packed, functionPiece, functionPieces}
 use Rattle.format.specs.Stored.{part, Here}
+use Rattle.format.specs.Constants.{valueOf, constantWords}
+use Rattle.format.specs.declared.Constant.{Constant}
+use Rattle.format.specs.declared.Constant.the-variants.{Nil, Bool as Truth, Num, String}
 use Rattle.format.specs.Valid.{ValidParts, Valid, ValidAll}
 use Rattle.format.proofs.Stored.{here-left, here-right, here-part, unpacked}
 use Rattle.proto.specs.declared.walk.Next.{Next}
 use Rattle.proto.specs.Walk.{Stands, StandsAt, item, Skips, Past, childrenPiece, toCode, toConstants, toFunctions, toLines, toLocals, toUpvalues}
+use Rattle.proto.specs.Constants.{ConstantAt}
 use Rattle.proto.specs.Head.{headOf}
 use Rattle.proto.proofs.Heres.{here-length, here-get, here-item, here-front, part-clamped}
 use Rattle.proto.proofs.Pieces.{Same, same-sym, same-trans, same-behind, same-assoc, function-debug, stands-same, stands-left, stands-right, source-words, constant-words, pieces-words}
@@ -170,12 +175,19 @@ module _ {words text : List ℕ} where
 -- ---- constants
 
 -- where there is no room for three words, none stands there
-pub constant-none : {words text : List ℕ} {at to : ℕ} (k : Value) → (3 ≤ length words - at → ⊥) → Stands words text at to (constantPiece k) → ⊥
-constant-none {to = to} k n h = n (omega (arith, here-length (constantPiece k .words to) (h .in-words), constant-words k to))
+pub constant-none : {words : List ℕ} {at : ℕ} {r : Constant} → (3 ≤ length words - at → ⊥) → ConstantAt words at r
+constant-none {words} {at} n = record { value = λ k text to h. absurd (none k to (h .in-words)); numbered = λ k text to h. absurd (none k to (h .in-words)) }
+  where
+    none : (k : Value) (to : ℕ) → Here words at (constantPiece k .words to) → ⊥
+    none k to h = n (omega (arith, here-length (constantPiece k .words to) h, constant-words k to))
 
 -- the place n words on
 pub skips-on : {words : List ℕ} {n at : ℕ} → Skips words n at (at + n)
 skips-on = record { skips = λ l e h. refl }
+
+-- the constant that three words say
+abbrev constantFrom : ℕ → ℕ → ℕ → Constant
+constantFrom kind a b = cond (eqb kind 0) Nil (cond (eqb kind 1) (Truth (not (eqb a 0))) (cond (eqb kind 3) (Num a b) (String a b)))
 
 module _ {words : List ℕ} {at x a y b z : ℕ} (e : x ≡ getD words at 0) (f : Skips words 1 at a) (g : y ≡ getD words a 0) (f′ : Skips words 2 at b) (g′ : z ≡ getD words b 0) where
   three-words : {u v w : ℕ} → Here words at (u ∷ v ∷ w ∷ []) → (x ≡ u) × (y ≡ v) × (z ≡ w)
@@ -185,30 +197,27 @@ module _ {words : List ℕ} {at x a y b z : ℕ} (e : x ≡ getD words at 0) (f 
     g′ ∙ rw (f′ .skips (u ∷ v ∷ []) refl (here-left (u ∷ v ∷ []) _ i)) (here-get w _ (here-right (u ∷ v ∷ []) (w ∷ []) i)),
   )
 
-  pub constant-nil : x ≡ 0 → (k : Value) (text : List ℕ) (to : ℕ) → Stands words text at to (constantPiece k) → Value.nil ≡ k
-  constant-nil n Value.nil text to h = refl
-  constant-nil n (Value.bool b) text to h = absurd (omega (arith, three-words (h .in-words) .0))
-  constant-nil n (Value.num high low) text to h = absurd (omega (arith, three-words (h .in-words) .0))
-  constant-nil n (Value.str s) text to h = absurd (omega (arith, three-words (h .in-words) .0))
+  constant-from : (k : Value) (text : List ℕ) (to : ℕ) → Stands words text at to (constantPiece k) → (valueOf text (constantFrom x y z) ≡ k) × Here words at (constantWords (constantFrom x y z))
+  constant-from Value.nil text to h = let t = three-words (h .in-words) in rw (t .0) (refl, h .in-words)
+  constant-from (Value.bool true) text to h = let t = three-words (h .in-words) in rw (t .0, t .1) (refl, h .in-words)
+  constant-from (Value.bool false) text to h = let t = three-words (h .in-words) in rw (t .0, t .1) (refl, h .in-words)
+  constant-from (Value.num high low) text to h = let t = three-words (h .in-words) in rw (t .0, t .1, t .2) (refl, h .in-words)
+  constant-from (Value.str s) text to h = let t = three-words (h .in-words) in rw (t .0, t .1, t .2) (rw (add-zero to) (ap Value.str (here-part s (h .in-text))), h .in-words)
 
-  pub constant-bool : x ≡ 1 → (k : Value) (text : List ℕ) (to : ℕ) → Stands words text at to (constantPiece k) → Value.bool (not (eqb y 0)) ≡ k
-  constant-bool n Value.nil text to h = absurd (omega (arith, three-words (h .in-words) .0))
-  constant-bool n (Value.bool true) text to h = rw (three-words (h .in-words) .1)
-  constant-bool n (Value.bool false) text to h = rw (three-words (h .in-words) .1)
-  constant-bool n (Value.num high low) text to h = absurd (omega (arith, three-words (h .in-words) .0))
-  constant-bool n (Value.str s) text to h = absurd (omega (arith, three-words (h .in-words) .0))
+  constant-is : {r : Constant} → constantFrom x y z ≡ r → ConstantAt words at r
+  constant-is q = record { value = λ k text to h. rw q at (constant-from k text to h .0); numbered = λ k text to h. rw q at (constant-from k text to h .1) }
 
-  pub constant-num : x ≡ 3 → (k : Value) (text : List ℕ) (to : ℕ) → Stands words text at to (constantPiece k) → Value.num y z ≡ k
-  constant-num n Value.nil text to h = absurd (omega (arith, three-words (h .in-words) .0))
-  constant-num n (Value.bool b) text to h = absurd (omega (arith, three-words (h .in-words) .0))
-  constant-num n (Value.num high low) text to h = let t = three-words (h .in-words) in rw (t .1, t .2)
-  constant-num n (Value.str s) text to h = absurd (omega (arith, three-words (h .in-words) .0))
+  pub constant-nil : x ≡ 0 → ConstantAt words at Nil
+  constant-nil n = constant-is (rw n)
 
-  pub constant-str : (x ≡ 0 → ⊥) → (x ≡ 1 → ⊥) → (x ≡ 3 → ⊥) → (k : Value) (text : List ℕ) (to : ℕ) → Stands words text at to (constantPiece k) → Value.str (part text y z) ≡ k
-  constant-str n₀ n₁ n₃ Value.nil text to h = absurd (n₀ (three-words (h .in-words) .0))
-  constant-str n₀ n₁ n₃ (Value.bool b) text to h = absurd (n₁ (three-words (h .in-words) .0))
-  constant-str n₀ n₁ n₃ (Value.num high low) text to h = absurd (n₃ (three-words (h .in-words) .0))
-  constant-str n₀ n₁ n₃ (Value.str s) text to h = let t = three-words (h .in-words) in rw (t .1, t .2, add-zero to) (ap Value.str (here-part s (h .in-text)))
+  pub constant-bool : x ≡ 1 → ConstantAt words at (Truth (not (eqb y 0)))
+  constant-bool n = constant-is (rw n)
+
+  pub constant-num : x ≡ 3 → ConstantAt words at (Num y z)
+  constant-num n = constant-is (rw n)
+
+  pub constant-str : (x ≡ 0 → ⊥) → (x ≡ 1 → ⊥) → (x ≡ 3 → ⊥) → ConstantAt words at (String y z)
+  constant-str n₀ n₁ n₃ = constant-is (rw (ne-eqb x 0 n₀, ne-eqb x 1 n₁, ne-eqb x 3 n₃))
 
 -- ---- the head of a function
 

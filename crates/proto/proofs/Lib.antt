@@ -1,4 +1,3 @@
-pub mod Loops
 pub mod Heres
 pub mod Pieces
 pub mod Walks

@@ -1,24 +1,11 @@
 // The constants of a store.
 use crate::formed::is_within;
-ghost use mathlib.Core.List.{List};
-ghost use mathlib.Core.Path.{_≡_};
-ghost use Prim.Native.Nat.{ℕ};
-ghost use Rattle.format.specs.Store.{constantPiece};
-ghost use Rattle.format.specs.Tree.{Constant as Value};
-ghost use Rattle.proto.specs.Walk.{Stands};
-ghost use Rattle.proto.specs.Constants.{valueOf};
+use format::Constant;
+ghost use Rattle.proto.specs.Constants.{ConstantAt};
 
-// A constant: a number by its halves, a string by its place and length in the text.
-pub enum Constant {
-    Nil,
-    Bool(bool),
-    Num(u32, u32),
-    String(usize, usize),
-}
-
-// The constant at a place.
+// The constant at a place, a string by its place and length in the text.
 pub fn constant_at(words: &[u32], at: usize) -> Constant
-    ensures { λ r. ⌜ ((k : Value) (t : List ℕ) (to : ℕ) → Stands (now (words .entry)) t at to (constantPiece k) → valueOf t r ≡ k) ⌝ }
+    ensures { λ r. ⌜ ConstantAt (now (words .entry)) at r ⌝ }
 {
     if !is_within(words.len(), at, 3) {
         return Constant::Nil;

@@ -1,6 +1,8 @@
 // Whether a store is well formed: one walk over its words, and over its text beside them.
 use crate::walk::part;
 use crate::walk::word_at;
+use format::DEPTH;
+use format::LIMIT;
 use format::MOST;
 pub use format::name_ok;
 ghost use mathlib.Core.Path.{_≡_};
@@ -17,12 +19,6 @@ ghost use Rattle.proto.specs.Formed.{isHeld, Check, Room, Within, Three,
 
 // The greatest word.
 const ANY: u32 = 4294967295;
-
-// The most items of a list.
-const LIMIT: u32 = 65535;
-
-// The most functions nested, the root being 1.
-pub const DEPTH: u32 = 200;
 
 // Whether a store is well formed so far, and the places reached in the words and in the text.
 pub struct Checked {

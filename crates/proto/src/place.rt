@@ -1,5 +1,4 @@
 // The function that begins at a place of a store, and its source.
-use crate::formed::DEPTH;
 use crate::formed::check_store;
 use crate::formed::name_ok;
 use crate::walk::after_debug;
@@ -7,6 +6,7 @@ use crate::walk::functions_at;
 use crate::walk::part;
 use crate::walk::skip;
 use crate::walk::word_at;
+use format::DEPTH;
 ghost use mathlib.Core.Path.{_≡_};
 ghost use Prim.Native.Nat.{ℕ};
 ghost use Rattle.format.specs.Tree.{Source, Function};

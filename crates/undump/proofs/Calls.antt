@@ -16,7 +16,7 @@ use Rattle.format.specs.Undump.{repaired, loadChunk, undumpRefused, nameOk, ove
 use Rattle.load_state.specs.declared.cursor.Cursor.{Cursor}
 use Rattle.load.specs.declared.Load.{Load}
 use Rattle.load_state.specs.ReadAt.{Ends}
-use Rattle.load.specs.Step.{Step, space, Does, world, Loads}
+use Rattle.load.specs.Loads.{ReadsBy, space, Does, world, Loads}
 use Rattle.load_function.specs.Repaired.{repairedFunction}
 use Rattle.undump.specs.Undump.{beginning}
 use Rattle.load.proofs.Steps.{bind, mapped}
@@ -26,7 +26,7 @@ abbrev pub fresh : Cursor → Load
 fresh c = record { cursor = c; words = 0; text = 0 }
 
 -- the header, then the root function
-pub chunk-loaded : {bs : List ℕ} {c : Cursor} {r : Load} {ws ts ws′ ts′ : List ℕ} → Step bs loadHeader (λ v. Unit {0}) beginning c
+pub chunk-loaded : {bs : List ℕ} {c : Cursor} {r : Load} {ws ts ws′ ts′ : List ℕ} → ReadsBy bs loadHeader (λ v. Unit {0}) beginning c
     → Loads bs (loadFunction depth) repairedFunction (world (fresh c) ws ts) (world r ws′ ts′)
     → Ends bs (loadChunk bs) (λ f. Does (functionPiece f) (space (fresh c) ws ts) (space r ws′ ts′)) (r .cursor)
 unfolding loadChunk
@@ -101,7 +101,7 @@ pub unnamed : (bs name ws ts : List ℕ) → nameOk name ≡ false → undumpRef
 unfolding undumped
 unnamed bs name ws ts e = rw e
 
-module _ (name ws ts : List ℕ) {bs u v : List ℕ} {c : Cursor} {need : Load} (e : nameOk name ≡ true) (h : Step bs loadHeader (λ v. Unit {0}) beginning c)
+module _ (name ws ts : List ℕ) {bs u v : List ℕ} {c : Cursor} {need : Load} (e : nameOk name ≡ true) (h : ReadsBy bs loadHeader (λ v. Unit {0}) beginning c)
     (k : Loads bs (loadFunction depth) repairedFunction (world (fresh c) [] []) (world need u v)) where
   pub refused-reading : 0 < need .cursor .refusal → undumpRefused (need .cursor .refusal) ws ts ≡ undumped bs name ws ts
   unfolding undumped

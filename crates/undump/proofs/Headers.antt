@@ -9,12 +9,12 @@ use lib.Seq.{drop-drop}
 use Rattle.format.specs.Read.{loadExactly, same, signature, format, loadHeader}
 use Rattle.format.proofs.RoundTrip.{same-is}
 use Rattle.load_state.specs.declared.cursor.Cursor.{Cursor}
-use Rattle.load.specs.Step.{Step}
+use Rattle.load.specs.Loads.{ReadsBy}
 use Rattle.load_state.proofs.Bytes.{block-got, block-none}
 use Rattle.load.proofs.Steps.{takes, stops, bind}
 
 module _ (bs bytes : List ℕ) (n : ℕ) (s r : Cursor) (z : s .refusal ≤ 0) where
-  pub exactly-short : length bs - s .next < length bytes → r .refusal ≡ 2 → Step bs (loadExactly bytes n) (λ v. Unit {0}) s r
+  pub exactly-short : length bs - s .next < length bytes → r .refusal ≡ 2 → ReadsBy bs (loadExactly bytes n) (λ v. Unit {0}) s r
   exactly-short h f = let k : length (drop (s .next) bs) < length bytes = rw length-drop h in stops z (rw (block-none (length bytes) (drop (s .next) bs) k)) f (omega arith)
 
   module _ (t : Bool) (h : length bytes ≤ length bs - s .next)
@@ -25,12 +25,12 @@ module _ (bs bytes : List ℕ) (n : ℕ) (s r : Cursor) (z : s .refusal ≤ 0) w
     test : same (take (length bytes) (drop (s .next) bs)) bytes ≡ t
     test = let e : s .next + length bytes - s .next ≡ length bytes = omega arith in rw e at (same-is t _ bytes tells)
 
-    pub exactly-others : t ≡ false → r .refusal ≡ n → 0 < n → Step bs (loadExactly bytes n) (λ v. Unit {0}) s r
+    pub exactly-others : t ≡ false → r .refusal ≡ n → 0 < n → ReadsBy bs (loadExactly bytes n) (λ v. Unit {0}) s r
     exactly-others e f k = stops z (rw (block-got (length bytes) (drop (s .next) bs) enough, test, e)) f k
 
-    pub exactly-these : t ≡ true → r .refusal ≡ 0 → r .next ≡ s .next + length bytes → Step bs (loadExactly bytes n) (λ v. Unit {0}) s r
+    pub exactly-these : t ≡ true → r .refusal ≡ 0 → r .next ≡ s .next + length bytes → ReadsBy bs (loadExactly bytes n) (λ v. Unit {0}) s r
     exactly-these e f g = takes {a = take (length bytes) (drop (s .next) bs)} {rest = drop (length bytes) (drop (s .next) bs)} z (rw (block-got (length bytes) (drop (s .next) bs) enough, test, e)) f (rw (drop-drop (length bytes) (s .next) bs, g)) tt
 
-pub header-loaded : {bs : List ℕ} {s m r : Cursor} → Step bs (loadExactly signature 3) (λ v. Unit {0}) s m → Step bs (loadExactly format 4) (λ v. Unit {0}) m r → Step bs loadHeader (λ v. Unit {0}) s r
+pub header-loaded : {bs : List ℕ} {s m r : Cursor} → ReadsBy bs (loadExactly signature 3) (λ v. Unit {0}) s m → ReadsBy bs (loadExactly format 4) (λ v. Unit {0}) m r → ReadsBy bs loadHeader (λ v. Unit {0}) s r
 unfolding loadHeader
 header-loaded h k = bind _ h (k .stays) (λ v e. k)

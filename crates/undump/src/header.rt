@@ -5,13 +5,13 @@ use load_state::cursor::remaining;
 ghost use Prim.Native.Nat.{_<_};
 ghost use lib.ListN.{length};
 ghost use Rattle.format.specs.Read.{loadExactly, loadHeader};
-ghost use Rattle.load.specs.Step.{Step};
+ghost use Rattle.load.specs.Loads.{ReadsBy};
 ghost use Rattle.undump.specs.Undump.{beginning};
 
 // These bytes, else refusal n.
 fn load_exactly(chunk: &[u8], s: Cursor, bytes: &[u8], n: u32) -> Cursor
     requires { ⌜ (0 < n) × (0 < length (now bytes)) ⌝ }
-    ensures { λ r. ⌜ Step (now (chunk .entry)) (loadExactly (now (bytes .entry)) n) (λ v. Unit {0}) s r ⌝ }
+    ensures { λ r. ⌜ ReadsBy (now (chunk .entry)) (loadExactly (now (bytes .entry)) n) (λ v. Unit {0}) s r ⌝ }
 {
     if 0 < s.refusal {
         return s;
@@ -32,7 +32,7 @@ fn load_exactly(chunk: &[u8], s: Cursor, bytes: &[u8], n: u32) -> Cursor
 
 // The signature, then the version, the format and the sizes: 12 bytes.
 pub fn load_header(chunk: &[u8]) -> Cursor
-    ensures { λ r. ⌜ Step (now (chunk .entry)) loadHeader (λ v. Unit {0}) beginning r ⌝ }
+    ensures { λ r. ⌜ ReadsBy (now (chunk .entry)) loadHeader (λ v. Unit {0}) beginning r ⌝ }
 {
     let start = Cursor {
         refusal: 0,

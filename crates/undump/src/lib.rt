@@ -1,6 +1,7 @@
 // Reading a chunk into lent memory (lundump.c; in the Rust, undump.rs).
 pub mod header;
 
+use format::DEPTH;
 use format::MOST;
 use format::Undumped;
 use format::name_ok;
@@ -13,9 +14,6 @@ ghost use mathlib.Core.Path.{_≡_};
 ghost use mathlib.Core.List.{[]};
 ghost use Rattle.format.specs.Undump.{undumped, undumpRefused};
 ghost use Rattle.undump.specs.Undump.{undumpLeft};
-
-// The most functions nested.
-const DEPTH: u32 = 200;
 
 fn refused(n: u32) -> Undumped
     ensures { λ r. ⌜ r ≡ undumpRefused n [] [] .answer ⌝ }

@@ -9,10 +9,11 @@ use Rattle.format.specs.Tree.{count}
 use Rattle.format.specs.Read.{manyFunctions, loadFunction}
 use Rattle.format.specs.Store.{functionPieces}
 use Rattle.format.specs.Undump.{repairedAll}
+use Rattle.format.proofs.Loops.{Loop, loop-start, loop-turn, loop-stop, loop-end}
 use Rattle.load.specs.declared.Load.{Load}
-use Rattle.load.specs.Step.{world}
+use Rattle.load.specs.Loads.{world}
 use Rattle.load.proofs.Steps.{passed}
-use Rattle.load_function.proofs.Lists.{Loop, function-items, loop-start, loop-stop, loop-turn, loop-end}
+use Rattle.load_function.proofs.Lists.{LoadsAll, function-items, loads-none, loads-more}
 use Rattle.load_function.proofs.Trees.{constants-loaded, function-too-deep, function-loaded}
 use borrow.Fn.Kinds.{In}
 use borrow.Fn.PlainCycle.{Measures, is, falls, and}
@@ -79,7 +80,7 @@ load-function-calls t = (refused-reads.Asked, refused-reads.Learnt, at-reads.Ask
 abbrev load-constants-Inv-loop : load-constants-lts.InvT-loop
 load-constants-Inv-loop chunk words₀ text₀ allowance n p₀ i₀ words text p i =
     (i ≤ n) × (length words ≡ length words₀) × (length text ≡ length text₀)
-    × Loop chunk (manyFunctions (loadFunction allowance)) (λ fs. count (repairedAll fs)) (λ fs. functionPieces (repairedAll fs)) n (world p₀ words₀ text₀) i (world p words text)
+    × Loop (LoadsAll chunk (manyFunctions (loadFunction allowance)) (λ fs. count (repairedAll fs)) (λ fs. functionPieces (repairedAll fs))) n (world p₀ words₀ text₀) i (world p words text)
 
 abbrev load-constants-μ-loop : load-constants-lts.MeasureT-loop
 load-constants-μ-loop chunk words₀ text₀ allowance n p₀ i₀ words text p i = n - i
@@ -112,7 +113,7 @@ load-constants-returns t c =
     let c₂ = c₁ .before .before .before .before in
     let c₃ = c₂ .before .before .before .before .before .before in
     let c₄ = c₃ .before .before .before .before .before .before in
-    constants-loaded (c₄ .args .allowance) (c₃ .load-pool .ensures) (c₂ .copy-count .ensures _) (loop-stop (omega arith) (c₁ .loop .inv .3))
+    constants-loaded (c₄ .args .allowance) (c₃ .load-pool .ensures) (c₂ .copy-count .ensures _) (loop-stop (omega arith) (c₁ .loop .inv .3) (λ k. passed (omega arith) refl))
 
 load-constants-load-function-requires : (t : ℕ) → load-constants-lts.Need-load-function-requires (load-constants-calls t) (load-constants-at t) load-constants.Post load-constants-Inv-loop load-constants-μ-loop
 load-constants-load-function-requires t c κs =
@@ -130,7 +131,7 @@ load-constants-loop-again t c =
     let c₁ = c .before .before .before .before in
     let c₂ = c₁ .before .before .before .before .before .before in
     let c₃ = c₂ .before .before .before .before .before .before .before .before .before .before .before .before .before .before .before .before in
-    (omega arith, c₁ .load-function .kept .1 .0 ∙ c₂ .loop .inv .1, c₁ .load-function .kept .1 .1 .0 ∙ c₂ .loop .inv .2, loop-turn (function-items (c₃ .args .allowance)) (omega arith) (c₂ .loop .inv .3) (c₁ .load-function .ensures))
+    (omega arith, c₁ .load-function .kept .1 .0 ∙ c₂ .loop .inv .1, c₁ .load-function .kept .1 .1 .0 ∙ c₂ .loop .inv .2, loop-turn (omega arith) (c₂ .loop .inv .3) (loads-more (function-items (c₃ .args .allowance)) (c₁ .load-function .ensures)))
 
 load-constants-same-length-3 : (t : ℕ) → load-constants-lts.Need-same-length-3 (load-constants-calls t) (load-constants-at t) load-constants.Post load-constants-Inv-loop load-constants-μ-loop
 load-constants-same-length-3 t c =
@@ -151,7 +152,7 @@ load-constants-returns-2 t c =
     let c₂ = c₁ .before .before .before .before in
     let c₃ = c₂ .before .before .before .before .before .before in
     let c₄ = c₃ .before .before .before .before .before .before in
-    constants-loaded (c₄ .args .allowance) (c₃ .load-pool .ensures) (c₂ .copy-count .ensures _) (loop-end (function-items (c₄ .args .allowance)) (omega arith) (c₁ .loop .inv .3))
+    constants-loaded (c₄ .args .allowance) (c₃ .load-pool .ensures) (c₂ .copy-count .ensures _) (loop-end (omega arith) (c₁ .loop .inv .3) (loads-none (function-items (c₄ .args .allowance))))
 
 load-function-returns : (t : ℕ) → load-function-lts.Need-returns (load-function-calls t) (load-function-at t) load-function.Post
 load-function-returns t c = passed (omega arith) refl

@@ -3,7 +3,7 @@ use borrow.Author.Needs.{needs}
 use native.Mathlib.Omega.{arith}
 use Prim.Native.Nat.{_-_}
 use mathlib.Core.Path.{sym, _∙_}
-use Rattle.proto.proofs.Loops.{Loop, loop-start, loop-turn, loop-end, loop-stop}
+use Rattle.format.proofs.Loops.{Loop, loop-start, loop-turn, loop-end, loop-stop}
 use Rattle.debug_info.proofs.Lists.{Active, active-none, active-late, active-found, active-more, active-all}
 use Rattle.debug_info.proofs.list.active_local.Statement.{statement}
 use Rattle.debug_info.proofs.list.active_local.Tie as tie

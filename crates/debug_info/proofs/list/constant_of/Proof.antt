@@ -21,7 +21,7 @@ constant-at-requires c κs = search needs
 returns-2 : tie.Need-returns-2
 returns-2 c = λ text l h.
     let x = looked-up constantPiece l h (c .before .before .before .word-at .ensures) 3 constant-words (c .before .before .if1 .left) (c .before .item-at .ensures) in
-    rw (x .is) (c .constant-at .ensures (x .value) text (x .stands .to) (x .stands .stands))
+    rw (x .is) (c .constant-at .ensures .value (x .value) text (x .stands .to) (x .stands .stands))
 
 pub constant-of-spec : {M : Type 1} → statement M
 constant-of-spec =

@@ -14,7 +14,7 @@ put-constant-requires : tie.Need-put-constant-requires
 put-constant-requires c κs =
     let c₁ = c .before in
     let c₂ = c₁ .before .before .before .before in
-    rw (c₁ .constant-at .ensures (c₂ .pre .value) _ (c₂ .pre .fits .to) (c₂ .pre .fits .stands)) (c₂ .pre .fits .room)
+    rw (c₁ .constant-at .ensures .value (c₂ .pre .value) _ (c₂ .pre .fits .to) (c₂ .pre .fits .stands)) (c₂ .pre .fits .room)
 
 add-t10 : tie.Need-add-t10
 add-t10 c =
@@ -25,7 +25,7 @@ same-length : tie.Need-same-length
 same-length c = search needs
 
 returns : tie.Need-returns
-returns c = constant-dumped _ skips-on (λ k to h. c .before .before .before .before .constant-at .ensures k _ to h) (c .before .before .put-constant .ensures)
+returns c = constant-dumped _ skips-on (λ k to h. c .before .before .before .before .constant-at .ensures .value k _ to h) (c .before .before .put-constant .ensures)
 
 pub dump-constant-spec : {M : Type 1} → statement M
 dump-constant-spec =

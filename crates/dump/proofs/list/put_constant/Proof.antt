@@ -4,7 +4,7 @@ use native.Mathlib.Omega.{arith}
 use mathlib.Core.Path.{refl, ap, _∙_}
 use lib.ListN.{length, length-set}
 use Rattle.lent.proofs.Writes.{put-stored}
-use Rattle.proto.specs.Constants.{valueOf}
+use Rattle.format.specs.Constants.{valueOf}
 use Rattle.dump.proofs.Blocks.{int-fits, string-fits}
 use Rattle.dump.proofs.Steps.{bool-puts, num-puts, str-puts, room-nil, room-bool, room-num, room-str}
 use Rattle.dump.proofs.list.put_constant.Statement.{statement}

@@ -30,7 +30,7 @@ returns c =
     let c₂ = c₁ .before .before .before .before in
     let c₃ = c₂ .before .before in
     let c₄ = c₃ .before .before .before in
-    shows-then (shows-then (shows-put (c₄ .put-index .ensures)) (record { shows = constant-shown (c₃ .constant-at .result) (λ k. constantText (some k)) (c₃ .constant-at .ensures) (c₂ .put-constant .ensures) })) (shows-put (c₁ .put-byte .ensures))
+    shows-then (shows-then (shows-put (c₄ .put-index .ensures)) (record { shows = constant-shown (c₃ .constant-at .result) (λ k. constantText (some k)) (c₃ .constant-at .ensures .value) (c₂ .put-constant .ensures) })) (shows-put (c₁ .put-byte .ensures))
 
 pub format-constant-at-spec : {M : Type 1} → statement M
 format-constant-at-spec =

@@ -4,7 +4,7 @@ use native.Mathlib.Omega.{arith}
 use Prim.Native.Nat.{ℕ, suc, _-_, _<_}
 use mathlib.Core.Path.{_≡_, refl, _∙_}
 use lib.ListN.{length}
-use Rattle.proto.proofs.Loops.{Loop, loop-start, loop-turn, loop-end}
+use Rattle.format.proofs.Loops.{Loop, loop-start, loop-turn, loop-end}
 use Rattle.proto.proofs.Walks.{none-deep}
 use Rattle.proto.specs.Lists.{LinesKept}
 use Rattle.listing.specs.Lister.{reached}

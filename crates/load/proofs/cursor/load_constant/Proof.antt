@@ -9,7 +9,7 @@ load-byte-requires : tie.Need-load-byte-requires
 load-byte-requires c κs = search needs
 
 returns : tie.Need-returns
-returns c = (constant-refused (c .before .before .before .load-byte .ensures) (omega arith), tt)
+returns c = constant-refused (c .before .before .before .load-byte .ensures) (omega arith)
 
 load-byte-requires-2 : tie.Need-load-byte-requires-2
 load-byte-requires-2 c κs = search needs
@@ -27,19 +27,19 @@ refused-requires : tie.Need-refused-requires
 refused-requires c κs = search needs
 
 returns-2 : tie.Need-returns-2
-returns-2 c = (constant-nil (c .before .before .before .before .load-byte .ensures) (omega arith) (omega arith), tt)
+returns-2 c = constant-nil (c .before .before .before .before .load-byte .ensures) (omega arith) (omega arith)
 
 returns-3 : tie.Need-returns-3
-returns-3 c = (constant-bool (c .before .before .before .before .before .before .before .load-byte .ensures) (omega arith) (c .before .before .load-byte2 .ensures), tt)
+returns-3 c = constant-bool (c .before .before .before .before .before .before .before .load-byte .ensures) (omega arith) (c .before .before .load-byte2 .ensures)
 
 returns-4 : tie.Need-returns-4
-returns-4 c = (constant-num (c .before .before .before .before .before .before .before .load-byte .ensures) (omega arith) (c .before .before .load-int .ensures) (c .before .load-int2 .ensures), tt)
+returns-4 c = constant-num (c .before .before .before .before .before .before .before .load-byte .ensures) (omega arith) (c .before .before .load-int .ensures) (c .before .load-int2 .ensures)
 
 returns-5 : tie.Need-returns-5
-returns-5 c = (constant-str (c .before .before .before .before .before .before .load-byte .ensures) (omega arith) (c .before .load-string .ensures), c .before .load-string .ensures .within)
+returns-5 c = constant-str (c .before .before .before .before .before .before .load-byte .ensures) (omega arith) (c .before .load-string .ensures)
 
 returns-6 : tie.Need-returns-6
-returns-6 c = (constant-bad (c .before .before .before .before .before .load-byte .ensures) (omega arith) (λ e. omega arith) (λ e. omega arith) (λ e. omega arith) (λ e. omega arith) (c .refused .ensures), tt)
+returns-6 c = constant-bad (c .before .before .before .before .before .load-byte .ensures) (omega arith) (λ e. omega arith) (λ e. omega arith) (λ e. omega arith) (λ e. omega arith) (c .refused .ensures)
 
 pub load-constant-spec : {M : Type 1} → statement M
 load-constant-spec =

@@ -5,7 +5,7 @@ use Prim.Native.Nat.{_-_, _≤_}
 use mathlib.Core.Path.{_≡_, refl}
 use lib.ListN.{length, length-set}
 use lib.Seq.{sets}
-use Rattle.load.specs.Step.{fours}
+use Rattle.load.specs.Loads.{fours}
 use Rattle.load.proofs.Fours.{fill-more}
 use Rattle.load.proofs.ints.fill.Statement.{statement}
 use Rattle.load.proofs.ints.fill.Tie as tie

@@ -24,7 +24,7 @@ returns c =
     let c₁ = c .before .before .before .before in
     let c₂ = c₁ .before in
     let c₃ = c₂ .before .before .before in
-    constant-loaded (c₃ .load-constant .ensures .0) (c₂ .at .ensures) (c₁ .put-constant .ensures .0) (c₁ .put-constant .ensures .1)
+    constant-loaded (c₃ .load-constant .ensures .reads) (c₂ .at .ensures) (c₁ .put-constant .ensures .0) (c₁ .put-constant .ensures .1)
 
 pub copy-constant-spec : {M : Type 1} → statement M
 copy-constant-spec =

@@ -8,15 +8,17 @@ use lib.ListN.{length}
 use Rattle.format.specs.Read.{many, loadLocal}
 use Rattle.format.specs.Store.{pieces, localPiece}
 use Rattle.format.specs.Undump.{repairedLocal}
-use Rattle.load.specs.Step.{world}
-use Rattle.load_function.proofs.Lists.{Loop, items, loop-start, loop-stop, loop-turn, loop-end, listed}
+use Rattle.format.proofs.Loops.{Loop, loop-start, loop-turn, loop-stop, loop-end}
+use Rattle.load.specs.Loads.{world}
+use Rattle.load.proofs.Steps.{passed}
+use Rattle.load_function.proofs.Lists.{LoadsAll, items, loads-none, loads-more, listed}
 use Rattle.load_function.proofs.list.load_locals.Statement.{statement}
 use Rattle.load_function.proofs.list.load_locals.Tie as tie
 
 abbrev Inv-loop : tie.InvT-loop
 Inv-loop chunk words₀ text₀ n p₀ i₀ words text p i =
     (i ≤ n) × (length words ≡ length words₀) × (length text ≡ length text₀)
-    × Loop chunk (many loadLocal) (λ l. length (map repairedLocal l)) ((λ l. pieces localPiece (map repairedLocal l))) n (world p₀ words₀ text₀) i (world p words text)
+    × Loop (LoadsAll chunk (many loadLocal) (λ l. length (map repairedLocal l)) (λ l. pieces localPiece (map repairedLocal l))) n (world p₀ words₀ text₀) i (world p words text)
 
 abbrev μ-loop : tie.MeasureT-loop
 μ-loop chunk words₀ text₀ n p₀ i₀ words text p i = n - i
@@ -34,7 +36,7 @@ same-length-2 : tie.Need-same-length-2 Inv-loop μ-loop
 same-length-2 c = c .before .before .before .loop .inv .2
 
 returns : tie.Need-returns Inv-loop μ-loop
-returns c = listed (many loadLocal) (c .before .before .before .before .before .before .before .copy-count .ensures _) (loop-stop (omega arith) (c .before .before .before .loop .inv .3))
+returns c = listed (many loadLocal) (c .before .before .before .before .before .before .before .copy-count .ensures _) (loop-stop (omega arith) (c .before .before .before .loop .inv .3) (λ k. passed (omega arith) refl))
 
 load-local-requires : tie.Need-load-local-requires Inv-loop μ-loop
 load-local-requires c κs = search needs
@@ -49,7 +51,7 @@ loop-again : tie.Need-loop-again Inv-loop μ-loop
 loop-again c =
     let c₁ = c .before .before .before .before in
     let c₂ = c₁ .before .before .before .before .before .before in
-    (omega arith, c₁ .load-local .kept .1 .0 ∙ c₂ .loop .inv .1, c₁ .load-local .kept .1 .1 .0 ∙ c₂ .loop .inv .2, loop-turn (items loadLocal repairedLocal localPiece) (omega arith) (c₂ .loop .inv .3) (c₁ .load-local .ensures))
+    (omega arith, c₁ .load-local .kept .1 .0 ∙ c₂ .loop .inv .1, c₁ .load-local .kept .1 .1 .0 ∙ c₂ .loop .inv .2, loop-turn (omega arith) (c₂ .loop .inv .3) (loads-more (items loadLocal repairedLocal localPiece) (c₁ .load-local .ensures)))
 
 same-length-3 : tie.Need-same-length-3 Inv-loop μ-loop
 same-length-3 c = c .before .loop .inv .1 ∙ c .before .before .before .before .before .copy-count .kept .1 .0
@@ -58,7 +60,7 @@ same-length-4 : tie.Need-same-length-4 Inv-loop μ-loop
 same-length-4 c = c .before .loop .inv .2
 
 returns-2 : tie.Need-returns-2 Inv-loop μ-loop
-returns-2 c = listed (many loadLocal) (c .before .before .before .before .before .copy-count .ensures _) (loop-end (items loadLocal repairedLocal localPiece) (omega arith) (c .before .loop .inv .3))
+returns-2 c = listed (many loadLocal) (c .before .before .before .before .before .copy-count .ensures _) (loop-end (omega arith) (c .before .loop .inv .3) (loads-none (items loadLocal repairedLocal localPiece)))
 
 pub load-locals-spec : {M : Type 1} → statement M
 load-locals-spec =

@@ -7,16 +7,18 @@ use mathlib.Core.List.{map}
 use lib.ListN.{length}
 use Rattle.format.specs.Read.{many, loadText}
 use Rattle.format.specs.Store.{pieces, string}
+use Rattle.format.proofs.Loops.{Loop, loop-start, loop-turn, loop-stop, loop-end}
 use Rattle.utf8.specs.Utf8.{repair}
-use Rattle.load.specs.Step.{world}
-use Rattle.load_function.proofs.Lists.{Loop, items, loop-start, loop-stop, loop-turn, loop-end, listed}
+use Rattle.load.specs.Loads.{world}
+use Rattle.load.proofs.Steps.{passed}
+use Rattle.load_function.proofs.Lists.{LoadsAll, items, loads-none, loads-more, listed}
 use Rattle.load_function.proofs.list.load_names.Statement.{statement}
 use Rattle.load_function.proofs.list.load_names.Tie as tie
 
 abbrev Inv-loop : tie.InvT-loop
 Inv-loop chunk words₀ text₀ n p₀ i₀ words text p i =
     (i ≤ n) × (length words ≡ length words₀) × (length text ≡ length text₀)
-    × Loop chunk (many loadText) (λ l. length (map repair l)) ((λ l. pieces string (map repair l))) n (world p₀ words₀ text₀) i (world p words text)
+    × Loop (LoadsAll chunk (many loadText) (λ l. length (map repair l)) (λ l. pieces string (map repair l))) n (world p₀ words₀ text₀) i (world p words text)
 
 abbrev μ-loop : tie.MeasureT-loop
 μ-loop chunk words₀ text₀ n p₀ i₀ words text p i = n - i
@@ -34,7 +36,7 @@ same-length-2 : tie.Need-same-length-2 Inv-loop μ-loop
 same-length-2 c = c .before .before .before .loop .inv .2
 
 returns : tie.Need-returns Inv-loop μ-loop
-returns c = listed (many loadText) (c .before .before .before .before .before .before .before .copy-count .ensures _) (loop-stop (omega arith) (c .before .before .before .loop .inv .3))
+returns c = listed (many loadText) (c .before .before .before .before .before .before .before .copy-count .ensures _) (loop-stop (omega arith) (c .before .before .before .loop .inv .3) (λ k. passed (omega arith) refl))
 
 load-name-requires : tie.Need-load-name-requires Inv-loop μ-loop
 load-name-requires c κs = search needs
@@ -49,7 +51,7 @@ loop-again : tie.Need-loop-again Inv-loop μ-loop
 loop-again c =
     let c₁ = c .before .before .before .before in
     let c₂ = c₁ .before .before .before .before .before .before in
-    (omega arith, c₁ .load-name .kept .1 .0 ∙ c₂ .loop .inv .1, c₁ .load-name .kept .1 .1 .0 ∙ c₂ .loop .inv .2, loop-turn (items loadText repair string) (omega arith) (c₂ .loop .inv .3) (c₁ .load-name .ensures))
+    (omega arith, c₁ .load-name .kept .1 .0 ∙ c₂ .loop .inv .1, c₁ .load-name .kept .1 .1 .0 ∙ c₂ .loop .inv .2, loop-turn (omega arith) (c₂ .loop .inv .3) (loads-more (items loadText repair string) (c₁ .load-name .ensures)))
 
 same-length-3 : tie.Need-same-length-3 Inv-loop μ-loop
 same-length-3 c = c .before .loop .inv .1 ∙ c .before .before .before .before .before .copy-count .kept .1 .0
@@ -58,7 +60,7 @@ same-length-4 : tie.Need-same-length-4 Inv-loop μ-loop
 same-length-4 c = c .before .loop .inv .2
 
 returns-2 : tie.Need-returns-2 Inv-loop μ-loop
-returns-2 c = listed (many loadText) (c .before .before .before .before .before .copy-count .ensures _) (loop-end (items loadText repair string) (omega arith) (c .before .loop .inv .3))
+returns-2 c = listed (many loadText) (c .before .before .before .before .before .copy-count .ensures _) (loop-end (omega arith) (c .before .loop .inv .3) (loads-none (items loadText repair string)))
 
 pub load-names-spec : {M : Type 1} → statement M
 load-names-spec =

@@ -12,7 +12,7 @@ is-within-requires : tie.Need-is-within-requires
 is-within-requires c κs = search needs
 
 returns : tie.Need-returns
-returns c = λ k t to h. absurd (constant-none k (c .before .is-within .ensures .not (not-true _ (c .if1 .taken))) h)
+returns c = constant-none (c .before .is-within .ensures .not (not-true _ (c .if1 .taken)))
 
 mul-kind : tie.Need-mul-kind
 mul-kind c = omega (arith, c .before .is-within .ensures .is (not-false _ (c .if1 .left)))
@@ -51,16 +51,16 @@ cast-t17 c =
     omega (arith, c₁ .shared-slice-known .given (c₂ .args .at + 2))
 
 returns-2 : tie.Need-returns-2
-returns-2 c = λ k t to h. constant-nil refl skips-on refl skips-on refl (c .match .keys1) k t to h
+returns-2 c = constant-nil refl skips-on refl skips-on refl (c .match .keys1)
 
 returns-3 : tie.Need-returns-3
-returns-3 c = λ k t to h. constant-bool refl skips-on refl skips-on refl (c .match .keys2) k t to h
+returns-3 c = constant-bool refl skips-on refl skips-on refl (c .match .keys2)
 
 returns-4 : tie.Need-returns-4
-returns-4 c = λ k t to h. constant-num refl skips-on refl skips-on refl (c .match .keys3) k t to h
+returns-4 c = constant-num refl skips-on refl skips-on refl (c .match .keys3)
 
 returns-5 : tie.Need-returns-5
-returns-5 c = λ k t to h. constant-str refl skips-on refl skips-on refl (c .match .rest .0 .0 .1) (c .match .rest .0 .1) (c .match .rest .1) k t to h
+returns-5 c = constant-str refl skips-on refl skips-on refl (c .match .rest .0 .0 .1) (c .match .rest .0 .1) (c .match .rest .1)
 
 pub constant-at-spec : {M : Type 1} → statement M
 constant-at-spec =

@@ -7,7 +7,7 @@ use mathlib.Core.Path.{_≡_}
 use borrow.Author.Tests.{not-true}
 use Rattle.format.specs.Store.{functionPiece}
 use Rattle.format.specs.Valid.{Valid}
-use Rattle.proto.proofs.Loops.{Loop, loop-start, loop-turn, loop-stop, loop-end}
+use Rattle.format.proofs.Loops.{Loop, loop-start, loop-turn, loop-stop, loop-end}
 use Rattle.proto.proofs.Checks.{CheckAll, all-none, all-more, all-stopped, counted}
 use Rattle.proto.proofs.Stores.{children-checked, function-checked, function-deep}
 use borrow.Fn.Kinds.{In}

@@ -5,7 +5,7 @@ use Prim.Native.Nat.{_-_}
 use borrow.Author.Tests.{not-true}
 use Rattle.format.specs.Store.{constantPiece}
 use Rattle.format.specs.Valid.{ValidConstant}
-use Rattle.proto.proofs.Loops.{Loop, loop-start, loop-turn, loop-stop, loop-end}
+use Rattle.format.proofs.Loops.{Loop, loop-start, loop-turn, loop-stop, loop-end}
 use Rattle.proto.proofs.Checks.{CheckAll, all-none, all-more, all-stopped, counted}
 use Rattle.proto.proofs.formed.check_constants.Statement.{statement}
 use Rattle.proto.proofs.formed.check_constants.Tie as tie

@@ -4,7 +4,7 @@ use native.Mathlib.Omega.{arith}
 use Prim.Native.Nat.{ℕ, suc, _-_, _<_}
 use mathlib.Core.Path.{_≡_, refl}
 use mathlib.Core.Bool.{false}
-use Rattle.proto.proofs.Loops.{Loop, loop-start, loop-turn, loop-stop, loop-end}
+use Rattle.format.proofs.Loops.{Loop, loop-start, loop-turn, loop-stop, loop-end}
 use Rattle.proto.proofs.Walks.{none-deep}
 use Rattle.proto.proofs.Places.{SearchAll, search-none, search-found, search-more, search-here, search-inside, search-outside}
 use borrow.Fn.Kinds.{In}

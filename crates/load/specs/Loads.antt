@@ -1,5 +1,5 @@
 -- What a step of the reader does, against what reading gives (Read) and what a store holds (Store).
-use Prim.Native.Nat.{ℕ, zero, suc, _+_, _*_, _≤_, _<_, min}
+use Prim.Native.Nat.{ℕ, zero, suc, _+_, _≤_, _<_, min}
 use mathlib.Core.Path.{_≡_}
 use mathlib.Core.Bool.{false, cond}
 use mathlib.Core.List.{List, [], _∷_}
@@ -7,23 +7,22 @@ use lib.ListN.{length, drop, getD}
 use Rattle.lent.specs.Memory.{far, Puts}
 use Rattle.utf8.specs.Utf8.{repair}
 use Rattle.format.specs.Tree.{Source}
-use Rattle.format.specs.Tree.{Constant as Value}
-use Rattle.format.specs.Read.{Read, Reader, got, refused, loadString}
+use Rattle.format.specs.Read.{Reader, loadString, loadConstant}
 use Rattle.format.specs.Store.{Piece, string, sourcePiece}
 use Rattle.format.specs.Valid.{most}
 use Rattle.format.specs.Stored.{part}
 use Rattle.format.specs.Undump.{repairedSource}
+use Rattle.format.specs.Constants.{caseOf, valueOf, LiesIn}
+use Rattle.format.specs.declared.Constant.{Constant}
 use Rattle.load_state.specs.declared.cursor.Cursor.{Cursor}
 use Rattle.load_state.specs.ReadAt.{Ends, fourAt}
 use Rattle.load.specs.declared.cursor.Span.{Span}
-use Rattle.load.specs.declared.cursor.Constant.{Constant}
-use Rattle.load.specs.declared.cursor.Constant.the-variants.{Nil, Bool as Truth, Num, String}
 use Rattle.load.specs.declared.Load.{Load}
 
 -- ---- reading
 
 -- from the cursor s to r by the reader R, with P of what it gives; a refusal is passed on
-pub record Step {A : Type 0} (bs : List ℕ) (R : Reader A) (P : A → Type 0) (s r : Cursor) : Type 0 where
+pub record ReadsBy {A : Type 0} (bs : List ℕ) (R : Reader A) (P : A → Type 0) (s r : Cursor) : Type 0 where
   pub stays : 0 < s .refusal → r .refusal ≡ s .refusal
   pub goes : s .refusal ≡ 0 → Ends bs (R (drop (s .next) bs)) P r
 
@@ -45,23 +44,15 @@ pub record NoString (m : Cursor) (z : Span) : Type 0 where
 
 -- a string: the span lies in the chunk, also where there is none
 pub record Strings (bs : List ℕ) (s : Cursor) (z : Span) : Type 0 where
-  pub reads : Step bs loadString (λ v. v ≡ spanned bs z) s (z .cursor)
+  pub reads : ReadsBy bs loadString (λ v. v ≡ spanned bs z) s (z .cursor)
   pub within : z .start + z .len ≤ length bs
   pub empty : z .own ≡ false → z .len ≡ 0
 
--- the constant that the reader's enum stands for: Nil, Bool, Num by its halves, String by its bytes
-abbrev pub valueOf : List ℕ → Constant → Value
-valueOf bs Nil = Value.nil
-valueOf bs (Truth b) = Value.bool b
-valueOf bs (Num high low) = Value.num high low
-valueOf bs (String start len) = Value.str (part bs start len)
-
--- a string lies in the chunk
-abbrev pub Within : List ℕ → Constant → Type 0
-Within bs Nil = Unit {0}
-Within bs (Truth b) = Unit {0}
-Within bs (Num high low) = Unit {0}
-Within bs (String start len) = start + len ≤ length bs
+-- a constant: k stands for it, its string lies in the chunk, and its tag is k's number
+pub record ReadsConstant (bs : List ℕ) (s : Cursor) (k : Constant) (r : Cursor) : Type 0 where
+  pub reads : ReadsBy bs loadConstant (λ a. a ≡ valueOf bs k) s r
+  pub lies : LiesIn bs k
+  pub numbered : s .refusal ≡ 0 → r .refusal ≡ 0 → getD bs (s .next) 0 ≡ caseOf k .number
 
 -- ---- storing
 
@@ -105,7 +96,7 @@ moved s c = record { cursor = c; words = s .words; text = s .text }
 
 -- from σ to σ′ by the reader R, what it gives being stored as a piece
 abbrev pub Loads : {A : Type 0} → List ℕ → Reader A → (A → Piece) → World → World → Type 0
-Loads bs R piece σ σ′ = Step bs R (λ a. Does (piece a) (spaceOf σ) (spaceOf σ′)) (σ .load .cursor) (σ′ .load .cursor)
+Loads bs R piece σ σ′ = ReadsBy bs R (λ a. Does (piece a) (spaceOf σ) (spaceOf σ′)) (σ .load .cursor) (σ′ .load .cursor)
 
 -- ---- what is stored, names repaired
 
