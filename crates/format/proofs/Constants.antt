@@ -7,11 +7,11 @@ use native.Mathlib.Nat.{add-zero}
 use lib.ListN.{length, length-take, length-drop}
 use Rattle.format.specs.Store.{constantPiece}
 use Rattle.format.specs.Stored.{part}
-use Rattle.format.specs.Constants.{caseOf, valueOf, constantWords, LiesIn}
+use Rattle.format.specs.Constants.{meaningOf, valueOf, constantWords, LiesIn}
 use Rattle.format.specs.declared.Constant.{Constant}
 use Rattle.format.specs.declared.Constant.the-variants.{Nil, Bool as Truth, Num, String}
 
-pub constant-numbered : (bytes : List ℕ) (k : Constant) → LiesIn bytes k → constantPiece (valueOf bytes k) .words (caseOf k .first) ≡ constantWords k
+pub constant-numbered : (bytes : List ℕ) (k : Constant) → LiesIn bytes k → constantPiece (valueOf bytes k) .words (meaningOf k .first) ≡ constantWords k
 constant-numbered bytes Nil h = refl
 constant-numbered bytes (Truth b) h = refl
 constant-numbered bytes (Num high low) h = refl

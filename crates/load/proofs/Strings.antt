@@ -13,7 +13,7 @@ use Rattle.format.specs.Tree.{Source, filled}
 use Rattle.format.specs.Tree.{Constant as Value}
 use Rattle.format.specs.Read.{got, refused, loadByte, loadInt, loadSize, stringOf, loadText, constantOf, loadConstant}
 use Rattle.format.specs.Stored.{part}
-use Rattle.format.specs.Constants.{caseOf, valueOf, LiesIn}
+use Rattle.format.specs.Constants.{meaningOf, valueOf, LiesIn}
 use Rattle.format.specs.declared.Constant.{Constant}
 use Rattle.format.specs.declared.Constant.the-variants.{Nil, Bool as Truth, Num, String}
 use Rattle.load_state.specs.declared.cursor.Cursor.{Cursor}
@@ -96,7 +96,7 @@ module _ {bs : List ℕ} {s m : Cursor} {tag : ℕ} (h : ReadsBy bs loadByte (λ
     | no k ↦ let e = rw (byte-none bs (s .next) (omega arith)) at (h .goes z) in absurd (omega (arith, e .0, keep (omega (arith, e .0))))
   ]
 
-  constant-read : {k : Constant} {r : Cursor} → tag ≡ caseOf k .number → (0 < m .refusal → r .refusal ≡ m .refusal) → LiesIn bs k → ReadsBy bs loadConstant (λ a. a ≡ valueOf bs k) s r → ReadsConstant bs s k r
+  constant-read : {k : Constant} {r : Cursor} → tag ≡ meaningOf k .number → (0 < m .refusal → r .refusal ≡ m .refusal) → LiesIn bs k → ReadsBy bs loadConstant (λ a. a ≡ valueOf bs k) s r → ReadsConstant bs s k r
   constant-read t keep l c = record { reads = c; lies = l; numbered = λ z y. tag-is keep z y ∙ t }
 
   pub constant-refused : 0 < m .refusal → ReadsConstant bs s Nil m

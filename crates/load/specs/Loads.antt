@@ -12,7 +12,7 @@ use Rattle.format.specs.Store.{Piece, string, sourcePiece}
 use Rattle.format.specs.Valid.{most}
 use Rattle.format.specs.Stored.{part}
 use Rattle.format.specs.Undump.{repairedSource}
-use Rattle.format.specs.Constants.{caseOf, valueOf, LiesIn}
+use Rattle.format.specs.Constants.{meaningOf, valueOf, LiesIn}
 use Rattle.format.specs.declared.Constant.{Constant}
 use Rattle.load_state.specs.declared.cursor.Cursor.{Cursor}
 use Rattle.load_state.specs.ReadAt.{Ends, fourAt}
@@ -52,7 +52,7 @@ pub record Strings (bs : List ℕ) (s : Cursor) (z : Span) : Type 0 where
 pub record ReadsConstant (bs : List ℕ) (s : Cursor) (k : Constant) (r : Cursor) : Type 0 where
   pub reads : ReadsBy bs loadConstant (λ a. a ≡ valueOf bs k) s r
   pub lies : LiesIn bs k
-  pub numbered : s .refusal ≡ 0 → r .refusal ≡ 0 → getD bs (s .next) 0 ≡ caseOf k .number
+  pub numbered : s .refusal ≡ 0 → r .refusal ≡ 0 → getD bs (s .next) 0 ≡ meaningOf k .number
 
 -- ---- storing
 
