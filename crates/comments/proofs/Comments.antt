@@ -5,9 +5,10 @@ use mathlib.Core.Bool.{Bool, true, false, _||_, true≢false}
 use mathlib.Core.List.{List, [], _∷_}
 use lib.ListN.{getD}
 use lib.Dec.{eqb, ltb}
+use Rattle.format.specs.Store.{childrenPiece}
 use Rattle.lent.specs.Memory.{Puts}
 use Rattle.format.specs.Tree.{Functions, count}
-use Rattle.proto.specs.Walk.{childrenPiece, StandsAt}
+use Rattle.proto.specs.Walk.{StandsAt}
 use Rattle.proto.proofs.Heres.{here-get}
 use Rattle.comments.specs.Shown.{ChildIs}
 use borrow.Author.Tests.{ltb-true}

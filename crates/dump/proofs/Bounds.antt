@@ -9,10 +9,9 @@ use lib.Dec.{leb}
 use borrow.Author.Tests.{leb-true}
 use Rattle.format.specs.Tree.{Constant, Source, Local, Debug, Parts, Function, Functions, count, filled, kept}
 use Rattle.format.specs.Read.{same}
-use Rattle.format.specs.Store.{Piece, word, _⊕_, string, pieces, list, ints, sourcePiece, constantPiece, localPiece, debugPiece, packed, functionPiece, functionPieces, wordsOf, textOf}
+use Rattle.format.specs.Store.{Piece, word, _⊕_, string, pieces, list, ints, sourcePiece, constantPiece, localPiece, debugPiece, packed, functionPiece, functionPieces, wordsOf, textOf, childrenPiece}
 use Rattle.format.specs.Write.{dumpNumber, dumpInt, dumpString, dumpText, each, dumpList, dumpCode, dumpConstant, dumpConstants, dumpLocal, dumpDebug, elided, dumpFunction, dumpFunctions, dumpHeader, dumpChunk}
 use Rattle.format.proofs.RoundTrip.{same-is}
-use Rattle.proto.specs.Walk.{childrenPiece}
 use Rattle.proto.proofs.Pieces.{Same, same-sym, same-assoc}
 use Rattle.dump.proofs.Blocks.{int-length, size-length, string-length, ints-length}
 use Rattle.dump.proofs.Functions.{regroup}

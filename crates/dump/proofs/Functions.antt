@@ -12,11 +12,11 @@ use Rattle.lent.specs.Memory.{Every, Puts}
 use Rattle.format.specs.Tree.{Constant as Value}
 use Rattle.format.specs.Tree.{Source, Debug, Parts, Function, Functions, count, filled, kept}
 use Rattle.format.specs.Read.{same}
-use Rattle.format.specs.Store.{Piece, word, _⊕_, list, ints, sourcePiece, constantPiece, debugPiece, packed, functionPiece}
+use Rattle.format.specs.Store.{Piece, word, _⊕_, list, ints, sourcePiece, constantPiece, debugPiece, packed, functionPiece, childrenPiece}
 use Rattle.format.specs.Valid.{ValidParts, Valid, ValidAll}
 use Rattle.format.specs.Write.{dumpInt, dumpSize, dumpString, dumpText, dumpList, dumpCode, dumpConstant, dumpConstants, dumpDebug, dumpFunction, dumpFunctions, elided, each}
 use Rattle.format.proofs.RoundTrip.{same-is}
-use Rattle.proto.specs.Walk.{Stands, Skips, children, childrenPiece}
+use Rattle.proto.specs.Walk.{Stands, Skips, children}
 use Rattle.proto.proofs.Heres.{here-get}
 use Rattle.proto.proofs.Pieces.{Same, same-refl, same-is as same-pieces, same-behind, stands-left, source-words}
 use Rattle.proto.proofs.Walks.{past-words}

@@ -6,12 +6,12 @@ use mathlib.Core.Bool.{Bool, true, cond}
 use lib.ListN.{length}
 use Rattle.lent.specs.Memory.{far, Puts}
 use Rattle.format.specs.Tree.{Constant, Source, Function, Functions, filled}
-use Rattle.format.specs.Store.{Piece, _⊕_, list, sourcePiece, constantPiece}
+use Rattle.format.specs.Store.{Piece, _⊕_, list, sourcePiece, constantPiece, childrenPiece}
 use Rattle.format.specs.Stored.{treeOf}
 use Rattle.format.specs.Valid.{Holds}
 use Rattle.format.specs.Write.{dumpChunk}
 use Rattle.proto.specs.Formed.{isHeld}
-use Rattle.proto.specs.Walk.{Stands, Skips, childrenPiece}
+use Rattle.proto.specs.Walk.{Stands, Skips}
 use Rattle.dump.specs.declared.list.DumpState.{DumpState}
 
 -- a place in the words, the bytes written so far, and the space

@@ -57,17 +57,21 @@ debugPiece d = ints (d .lines) ⊕ list localPiece (d .locals) ⊕ list string (
 abbrev pub packed : Parts → ℕ
 packed p = ((p .numUpvalues * 256 + p .numParams) * 256 + p .isVararg) * 256 + p .maxStackSize
 
+-- a function's record, in which its children stand as this piece
+abbrev pub recordPiece : Parts → Piece → Piece
+recordPiece p children =
+    sourcePiece (p .source)
+    ⊕ word (p .lineDefined)
+    ⊕ word (p .lastLineDefined)
+    ⊕ word (packed p)
+    ⊕ ints (p .code)
+    ⊕ list constantPiece (p .constants)
+    ⊕ children
+    ⊕ debugPiece (p .debug)
+
 unfoldable mutual
   pub functionPiece : Function → Piece
-  functionPiece (Function.function p fs) =
-      sourcePiece (p .source)
-      ⊕ word (p .lineDefined)
-      ⊕ word (p .lastLineDefined)
-      ⊕ word (packed p)
-      ⊕ ints (p .code)
-      ⊕ list constantPiece (p .constants)
-      ⊕ (word (count fs) ⊕ functionPieces fs)
-      ⊕ debugPiece (p .debug)
+  functionPiece (Function.function p fs) = recordPiece p (word (count fs) ⊕ functionPieces fs)
 
   pub functionPieces : Functions → Piece
   functionPieces Functions.none = plain []

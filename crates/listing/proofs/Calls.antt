@@ -7,9 +7,9 @@ use native.Mathlib.Omega.{arith}
 use lib.ListN.{length, length-append}
 use Rattle.lent.specs.Memory.{Puts}
 use Rattle.format.specs.Tree.{Function, Functions}
-use Rattle.format.specs.Store.{debugPiece, functionPiece, functionPieces}
+use Rattle.format.specs.Store.{debugPiece, functionPiece, functionPieces, childrenPiece}
 use Rattle.format.specs.Valid.{depth, Valid, Holds}
-use Rattle.proto.specs.Walk.{total, totalAll, childrenPiece, toFunctions, toLines}
+use Rattle.proto.specs.Walk.{total, totalAll, toFunctions, toLines}
 use Rattle.proto.proofs.Pieces.{function-debug}
 use Rattle.proto.proofs.Calls.{root-stands}
 use Rattle.listing.specs.Listing.{listFunction}

@@ -1,12 +1,13 @@
 -- The function that a CLOSURE makes a closure of.
 use Prim.Native.Nat.{ℕ, _+_, _≤_}
 use mathlib.Core.List.{List}
+use Rattle.format.specs.Store.{childrenPiece}
 use Rattle.lent.specs.Memory.{far}
 use Rattle.format.specs.Tree.{Functions}
 use Rattle.format.specs.Valid.{ValidAll}
 use Rattle.instructions.specs.OpCodes.{opcode}
 use Rattle.proto.specs.declared.child.Child.{Child}
-use Rattle.proto.specs.Walk.{StandsAt, totalAll, childrenPiece}
+use Rattle.proto.specs.Walk.{StandsAt, totalAll}
 use Rattle.proto.specs.Children.{ChildAt}
 use Rattle.comments.specs.Shown.{ChildIs}
 

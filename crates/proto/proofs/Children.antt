@@ -7,11 +7,11 @@ use native.Mathlib.Omega.{arith}
 use native.Mathlib.Nat.{add-zero}
 use Rattle.lent.specs.Memory.{far}
 use Rattle.format.specs.Tree.{Function, Functions, count}
-use Rattle.format.specs.Store.{word, _⊕_, functionPiece, functionPieces}
+use Rattle.format.specs.Store.{word, _⊕_, functionPiece, functionPieces, childrenPiece}
 use Rattle.format.specs.Valid.{Valid, ValidAll}
 use Rattle.proto.specs.declared.walk.Next.{Next}
 use Rattle.proto.specs.declared.child.Child.{Child}
-use Rattle.proto.specs.Walk.{Stands, StandsAt, item, Skips, totalAll, totalBefore, Passes, PassesAll, children, childrenPiece}
+use Rattle.proto.specs.Walk.{Stands, StandsAt, item, Skips, totalAll, totalBefore, Passes, PassesAll, children}
 use Rattle.proto.specs.Children.{childNumber, nextOf, ChildAt}
 use Rattle.proto.proofs.Pieces.{Same, same-refl, same-sym, same-trans, same-behind, same-assoc, stands-same, stands-left}
 use Rattle.proto.proofs.Walks.{past-word, past-stands, passes-past, passes-same, passes-then, all-none}

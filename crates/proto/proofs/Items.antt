@@ -12,7 +12,7 @@ use lib.Dec.{eqb}
 use borrow.Author.Tests.{ne-eqb}
 use Rattle.lent.specs.Memory.{far}
 use Rattle.format.specs.Tree.{Constant as Value, Source, Parts, Function, Functions, count, filled}
-use Rattle.format.specs.Store.{Piece, word, _⊕_, string, pieces, list, ints, sourcePiece, constantPiece, localPiece, debugPiece, packed, functionPiece, functionPieces}
+use Rattle.format.specs.Store.{Piece, word, _⊕_, string, pieces, list, ints, sourcePiece, constantPiece, localPiece, debugPiece, packed, functionPiece, functionPieces, childrenPiece}
 use Rattle.format.specs.Stored.{part, Here}
 use Rattle.format.specs.Constants.{valueOf, constantWords}
 use Rattle.format.specs.declared.Constant.{Constant}
@@ -20,7 +20,7 @@ use Rattle.format.specs.declared.Constant.the-variants.{Nil, Bool as Truth, Num
 use Rattle.format.specs.Valid.{ValidParts, Valid, ValidAll}
 use Rattle.format.proofs.Stored.{here-left, here-right, here-part, unpacked}
 use Rattle.proto.specs.declared.walk.Next.{Next}
-use Rattle.proto.specs.Walk.{Stands, StandsAt, item, Skips, Past, childrenPiece, toCode, toConstants, toFunctions, toLines, toLocals, toUpvalues}
+use Rattle.proto.specs.Walk.{Stands, StandsAt, item, Skips, Past, toCode, toConstants, toFunctions, toLines, toLocals, toUpvalues}
 use Rattle.proto.specs.Constants.{ConstantAt}
 use Rattle.proto.specs.Head.{headOf}
 use Rattle.proto.proofs.Heres.{here-length, here-get, here-item, here-front, part-clamped}

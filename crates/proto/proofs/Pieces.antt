@@ -6,9 +6,9 @@ use native.Mathlib.Omega.{arith}
 use native.Mathlib.Nat.{add-assoc, mul-zero, mul-suc}
 use lib.ListN.{length, length-append}
 use Rattle.format.specs.Tree.{Constant, Source, Parts, Function, Functions}
-use Rattle.format.specs.Store.{Piece, word, _⊕_, pieces, list, ints, sourcePiece, constantPiece, debugPiece, packed, functionPiece}
+use Rattle.format.specs.Store.{Piece, word, _⊕_, pieces, list, ints, sourcePiece, constantPiece, debugPiece, packed, functionPiece, childrenPiece}
 use Rattle.format.proofs.Stored.{here-left, here-right}
-use Rattle.proto.specs.Walk.{Stands, childrenPiece, toLines}
+use Rattle.proto.specs.Walk.{Stands, toLines}
 
 -- ---- two pieces that read the same
 

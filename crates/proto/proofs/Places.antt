@@ -10,13 +10,13 @@ use lib.ListN.{length, getD, length-append}
 use lib.Dec.{eqb}
 use borrow.Author.Tests.{eq-eqb, ne-eqb}
 use Rattle.format.specs.Tree.{Source, Debug, Parts, Function, Functions, count, filled}
-use Rattle.format.specs.Store.{sourcePiece, debugPiece, functionPiece, functionPieces}
+use Rattle.format.specs.Store.{sourcePiece, debugPiece, functionPiece, functionPieces, childrenPiece}
 use Rattle.format.specs.Valid.{Valid, ValidAll}
 use Rattle.format.specs.Stored.{Here}
 use Rattle.format.proofs.Stored.{here-left, here-right}
 use Rattle.proto.specs.declared.place.Span.{Span}
 use Rattle.proto.specs.declared.place.Sought.{Sought}
-use Rattle.proto.specs.Walk.{Skips, Past, toFunctions, toLines, childrenPiece}
+use Rattle.proto.specs.Walk.{Skips, Past, toFunctions, toLines}
 use Rattle.proto.specs.Places.{spanOf, Placed, placed, placedAll, beginsAt, Seeks, Search}
 use Rattle.proto.proofs.Heres.{here-get}
 use Rattle.proto.proofs.Pieces.{function-debug}

@@ -13,7 +13,7 @@ use borrow.Author.Tests.{eqb-true}
 use Rattle.lent.specs.Memory.{Every}
 use Rattle.lent.proofs.Lists.{every-append}
 use Rattle.format.specs.Tree.{Source, Parts, Function, Functions, count}
-use Rattle.format.specs.Store.{word, sourcePiece, debugPiece, functionPiece, functionPieces, wordsOf, textOf}
+use Rattle.format.specs.Store.{word, sourcePiece, debugPiece, functionPiece, functionPieces, wordsOf, textOf, childrenPiece}
 use Rattle.format.specs.Stored.{part, treeOf}
 use Rattle.format.specs.Undump.{nameOk}
 use Rattle.format.specs.Valid.{depth, Valid, ValidAll, Holds}
@@ -21,7 +21,7 @@ use Rattle.format.specs.Dump.{onTree}
 use Rattle.format.proofs.Stored.{here-left, here-part, tree-holds, holds-tree}
 use Rattle.proto.specs.declared.place.Sought.{Sought}
 use Rattle.proto.specs.declared.place.SourceAt.{SourceAt}
-use Rattle.proto.specs.Walk.{Stands, toFunctions, toLines, childrenPiece}
+use Rattle.proto.specs.Walk.{Stands, toFunctions, toLines}
 use Rattle.proto.specs.Formed.{isHeld}
 use Rattle.proto.specs.Places.{Filled, filledIn, named, Placed, placed, placedAll, beginsAt, functionAt, Seeks, Search, onFunction, onPlace, placeRefusal, noSource, spanAnswer, sourceAnswer, sourcePart}
 use Rattle.proto.proofs.Pieces.{function-debug, stands-same, stands-left, stands-right}

@@ -10,12 +10,12 @@ use lib.Dec.{eqb}
 use borrow.Author.Tests.{eq-eqb, eqb-true}
 use Rattle.lent.specs.Memory.{Every, Word, Bytes}
 use Rattle.format.specs.Tree.{Constant, Source, Debug, Parts, Function, Functions, count}
-use Rattle.format.specs.Store.{Piece, word, _⊕_, string, pieces, list, ints, sourcePiece, constantPiece, localPiece, debugPiece, packed, functionPiece, functionPieces, wordsOf, textOf}
+use Rattle.format.specs.Store.{Piece, word, _⊕_, string, pieces, list, ints, sourcePiece, constantPiece, localPiece, debugPiece, packed, functionPiece, functionPieces, wordsOf, textOf, childrenPiece}
 use Rattle.format.specs.Stored.{treeOf}
 use Rattle.format.specs.Valid.{depth, most, Name, ValidSource, ValidConstant, ValidLocal, ValidList, ValidDebug, ValidParts, Valid, ValidAll, Holds}
 use Rattle.format.proofs.Stored.{holds-tree, tree-holds}
 use Rattle.proto.specs.declared.formed.Checked.{Checked}
-use Rattle.proto.specs.Walk.{Stands, children, childrenPiece}
+use Rattle.proto.specs.Walk.{Stands, children}
 use Rattle.proto.specs.Formed.{isHeld, Check, Within, Words, three, Three, ValidChildren}
 use Rattle.proto.proofs.Heres.{here-get, here-whole, whole-here}
 use Rattle.proto.proofs.Pieces.{same-refl, same-is}

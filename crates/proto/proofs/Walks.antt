@@ -7,11 +7,11 @@ use native.Mathlib.Nat.{add-zero, add-assoc}
 use lib.ListN.{length, getD, length-append}
 use Rattle.lent.specs.Memory.{far}
 use Rattle.format.specs.Tree.{Constant, Local, Debug, Parts, Function, Functions, count}
-use Rattle.format.specs.Store.{Piece, plain, word, _⊕_, string, pieces, list, ints, sourcePiece, constantPiece, localPiece, debugPiece, functionPiece, functionPieces}
+use Rattle.format.specs.Store.{Piece, plain, word, _⊕_, string, pieces, list, ints, sourcePiece, constantPiece, localPiece, debugPiece, functionPiece, functionPieces, childrenPiece}
 use Rattle.format.specs.Valid.{Valid, ValidAll}
 use Rattle.format.specs.Stored.{Here}
 use Rattle.format.proofs.Stored.{here-left, here-right}
-use Rattle.proto.specs.Walk.{Stands, Skips, SkipsItems, Past, total, totalAll, Passes, PassesAll, toCode, toFunctions, toLines, childrenPiece}
+use Rattle.proto.specs.Walk.{Stands, Skips, SkipsItems, Past, total, totalAll, Passes, PassesAll, toCode, toFunctions, toLines}
 use Rattle.proto.specs.Lists.{WalksToLines}
 use Rattle.proto.specs.declared.walk.Next.{Next}
 use Rattle.proto.proofs.Heres.{here-get}

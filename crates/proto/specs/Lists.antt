@@ -4,9 +4,9 @@ use mathlib.Core.Path.{_≡_}
 use mathlib.Core.List.{List}
 use lib.ListN.{getD}
 use Rattle.format.specs.Tree.{Parts, Functions}
-use Rattle.format.specs.Store.{list, ints, string, constantPiece, localPiece}
+use Rattle.format.specs.Store.{list, ints, string, constantPiece, localPiece, childrenPiece}
 use Rattle.format.specs.Valid.{ValidAll}
-use Rattle.proto.specs.Walk.{StandsAt, Past, Passes, totalAll, childrenPiece, toCode, toConstants, toFunctions, toLines, toLocals, toUpvalues}
+use Rattle.proto.specs.Walk.{StandsAt, Past, Passes, totalAll, toCode, toConstants, toFunctions, toLines, toLocals, toUpvalues}
 use Rattle.proto.specs.declared.lists.Lists.{Lists}
 use Rattle.proto.specs.declared.walk.Next.{Next}
 

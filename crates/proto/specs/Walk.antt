@@ -6,7 +6,7 @@ use mathlib.Core.Option.{Option, none, some}
 use lib.ListN.{length}
 use Rattle.lent.specs.Memory.{far}
 use Rattle.format.specs.Tree.{Parts, Function, Functions, count}
-use Rattle.format.specs.Store.{Piece, word, _⊕_, list, ints, sourcePiece, constantPiece, localPiece, packed, functionPieces}
+use Rattle.format.specs.Store.{Piece, word, _⊕_, list, ints, sourcePiece, constantPiece, localPiece, packed, functionPieces, childrenPiece}
 use Rattle.format.specs.Stored.{Here}
 use Rattle.format.specs.Valid.{ValidAll}
 use Rattle.proto.specs.declared.walk.Next.{Next}
@@ -77,10 +77,6 @@ toFunctions p fs = toConstants p fs ⊕ list constantPiece (p .constants)
 unfoldable pub children : Functions → List Function
 children Functions.none = []
 children (Functions.more f fs) = f ∷ children fs
-
--- and after their count
-abbrev pub childrenPiece : Functions → Piece
-childrenPiece fs = word (count fs) ⊕ functionPieces fs
 
 abbrev pub toLines : Parts → Functions → Piece
 toLines p fs = toFunctions p fs ⊕ childrenPiece fs

@@ -10,11 +10,10 @@ ghost use mathlib.Core.Bool.{false, true};
 ghost use mathlib.Core.List.{List};
 ghost use Prim.Native.Nat.{ℕ};
 ghost use Rattle.lent.specs.Memory.{Word, Bytes};
-ghost use Rattle.format.specs.Store.{_⊕_, string, list, ints, sourcePiece, constantPiece, localPiece, functionPiece};
+ghost use Rattle.format.specs.Store.{_⊕_, string, list, ints, sourcePiece, constantPiece, localPiece, functionPiece, childrenPiece};
 ghost use Rattle.format.specs.Store.{word as wordPiece};
 ghost use Rattle.format.specs.Stored.{treeOf};
 ghost use Rattle.format.specs.Valid.{Name, Valid, ValidSource, ValidConstant, ValidLocal, ValidList};
-ghost use Rattle.proto.specs.Walk.{childrenPiece};
 ghost use Rattle.proto.specs.Formed.{isHeld, Check, Room, Within, Three, three, Ascii, ValidChildren};
 
 // The greatest word.

@@ -1,6 +1,5 @@
 // Where the lists of a function stand. Its lines stand behind the functions in it, which are walked through; on the way the places of the lines of
 // the first function, of the first in that and so on are kept, so that functions one inside the other are walked through once.
-use crate::formed::DEPTH;
 use crate::walk::Next;
 use crate::walk::after_debug;
 use crate::walk::code_at;
@@ -10,6 +9,7 @@ use crate::walk::item_at;
 use crate::walk::pass_all;
 use crate::walk::skip;
 use crate::walk::word_at;
+use format::DEPTH;
 use lent::further;
 ghost use mathlib.Core.List.{List};
 ghost use mathlib.Core.Path.{_≡_};

@@ -10,10 +10,10 @@ use lib.Dec.{eqb, leb, ltb}
 use borrow.Author.Tests.{lt-ltb, le-ltb, ltb-true}
 use Rattle.format.specs.Tree.{Function, Functions}
 use Rattle.format.specs.Valid.{depth, ValidAll}
-use Rattle.format.specs.Store.{ints}
+use Rattle.format.specs.Store.{ints, childrenPiece}
 use Rattle.instructions.specs.Fields.{MAXARG-sBx, GETARG-C, GETARG-Bx, NO-REG}
 use Rattle.instructions.specs.OpCodes.{isJump, opcode}
-use Rattle.proto.specs.Walk.{Skips, StandsAt, children, childrenPiece}
+use Rattle.proto.specs.Walk.{Skips, StandsAt, children}
 use Rattle.proto.specs.Children.{ChildAt}
 use Rattle.proto.proofs.Items.{ints-count, ints-item}
 use Rattle.proto.proofs.Heres.{here-front}

@@ -6,9 +6,9 @@ use mathlib.Core.Option.{some}
 use native.Mathlib.Omega.{arith}
 use lib.ListN.{length, getD}
 use Rattle.format.specs.Tree.{Parts, Function, Functions, count}
-use Rattle.format.specs.Store.{functionPiece}
+use Rattle.format.specs.Store.{functionPiece, childrenPiece}
 use Rattle.format.specs.Valid.{depth, Valid, ValidParts}
-use Rattle.proto.specs.Walk.{StandsAt, item, children, childrenPiece}
+use Rattle.proto.specs.Walk.{StandsAt, item, children}
 use Rattle.proto.specs.Children.{ChildAt}
 use Rattle.proto.specs.Head.{headOf}
 use Rattle.proto.specs.declared.child.Child.{Child}

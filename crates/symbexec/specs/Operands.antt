@@ -2,10 +2,11 @@
 use Prim.Native.Nat.{ℕ}
 use mathlib.Core.Path.{_≡_}
 use mathlib.Core.List.{List}
+use Rattle.format.specs.Store.{childrenPiece}
 use Rattle.format.specs.Tree.{Function, Functions}
 use Rattle.format.specs.Valid.{depth, ValidAll}
 use Rattle.proto.specs.declared.child.Child.{Child}
-use Rattle.proto.specs.Walk.{StandsAt, children, childrenPiece}
+use Rattle.proto.specs.Walk.{StandsAt, children}
 use Rattle.proto.specs.Children.{ChildAt}
 use Rattle.symbexec.specs.declared.operands.Skipped.{Skipped}
 

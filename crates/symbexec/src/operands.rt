@@ -1,10 +1,10 @@
 // The words behind an instruction that are no instructions.
+use format::DEPTH;
 use instructions::Instruction;
 use instructions::OP_CLOSURE;
 use instructions::OP_SETLIST;
 use proto::child::Child;
 use proto::child::child_at;
-use proto::formed::DEPTH;
 use proto::head::head_at;
 use proto::walk::word_at;
 ghost use Rattle.instructions.specs.Fields.{GETARG-C, GETARG-Bx};

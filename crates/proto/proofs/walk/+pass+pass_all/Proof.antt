@@ -5,7 +5,7 @@ use native.Mathlib.Omega.{arith}
 use Prim.Native.Nat.{ℕ, suc, _+_, _-_, _<_}
 use mathlib.Core.Path.{_≡_, refl}
 use Rattle.proto.specs.Walk.{PassesAll}
-use Rattle.proto.proofs.Loops.{Loop, loop-start, loop-turn, loop-end}
+use Rattle.format.proofs.Loops.{Loop, loop-start, loop-turn, loop-end}
 use Rattle.proto.proofs.Walks.{all-none, all-more, passes-lines, passes-function, none-deep}
 use borrow.Fn.Kinds.{In}
 use borrow.Fn.PlainCycle.{Measures, is, falls, and}
