@@ -24,8 +24,8 @@ FUNCTIONS = [
     ('local_records', 'find', {}),
     ('local_records', 'get_local_name_in', {'fill': 'local_records', 'find': 'local_records'}),
     ('chunk', 'lua_chunk_get_local_name_in', {'get_local_name_in': 'local_records'}),
-    ('names', 'tell_records', {}),
-    ('names', 'ask_get_local_name_in', {'get_local_name_in': 'local_records', 'tell_records': 'names'}),
+    ('test_names', 'tell_records', {}),
+    ('test_names', 'ask_get_local_name_in', {'get_local_name_in': 'local_records', 'tell_records': 'test_names'}),
 ]
 
 # ---- the twin's source

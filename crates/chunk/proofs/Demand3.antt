@@ -21,7 +21,7 @@ use Rattle.format.specs.Agree.{Agree}
 use Rattle.format.specs.Stored.{treeOf}
 use Rattle.format.specs.Undump.{loadChunk, UndumpLeft, undumpRefused, Refuses, wordsUsed, textUsed}
 use Rattle.format.specs.Dump.{WriteLeft, writeLeft}
-use Rattle.chunk.specs.Demand3.{DumpCall, Accepted, bytesOf, dumpsOf, endToEnd, dumpedSource, UndumpCall, leftBy, Calls, FindsStripped, Takes, Step, dumpsLeft, Session, Demand3}
+use Rattle.chunk.specs.Demand3.{DumpCall, Accepted, bytesOf, dumpsOf, endToEnd, dumpedSource, UndumpCall, leftBy, Calls, FindsStripped, Takes, CallOnDump, dumpsLeft, Session, Demand3}
 use Rattle.format.proofs.RoundTrip.{Reads, readBack, chunk-law, found-valid, found-filled}
 use Rattle.format.proofs.Stored.{tree-holds, holds-tree, holds-one}
 use Rattle.format.proofs.Filled.{stripped-not, fill-one}
@@ -193,7 +193,7 @@ module _ (d : DumpCall) (a : Accepted d) (bytes behind : List ℕ) (is : bytes �
   pub untouched-law : (n : ℕ) → 0 < n → c .answer .refusal ≡ n → leftBy c ≡ undumpRefused n (c .lent .words) (c .lent .text)
   untouched-law n h e = c .contract ∙ undump-refused bytes (c .lent) n h (ap (λ (u : UndumpLeft). u .answer .refusal) (sym (c .contract)) ∙ e)
 
-  step-law : Step d bytes (c .lent) (leftBy c)
+  step-law : CallOnDump d bytes (c .lent) (leftBy c)
   step-law =
       record {
         tree = found;

@@ -93,7 +93,7 @@ pub record Takes (d : DumpCall) (name : List ℕ) (left : UndumpLeft) : Type 0 w
   pub finds-unnamed : FindsStripped d left []
 
 -- any call: refused by 1, 8 and 9, each under its condition and not otherwise, with nothing written; or it takes the dump
-pub record Step (d : DumpCall) (bytes : List ℕ) (c : UndumpLent) (left : UndumpLeft) : Type 0 where
+pub record CallOnDump (d : DumpCall) (bytes : List ℕ) (c : UndumpLent) (left : UndumpLeft) : Type 0 where
   pub tree : Function
   pub rest : List ℕ
   pub begins : bytesOf d ++ rest ≡ bytes
@@ -112,7 +112,7 @@ dumpsLeft answer d ds = cond (eqb (answer .refusal) 0) ds (d ∷ ds)
 unfoldable pub Session : {slice : List ℕ} {place : ℕ} → Calls slice place → List DumpCall → Type 0
 Session Calls.done ds = Unit {0}
 Session (Calls.call c cs) [] = Unit {0}
-Session {slice} {place} (Calls.call c cs) (d ∷ ds) = Step d (drop place slice) (c .lent) (leftBy c) × Session cs (dumpsLeft (c .answer) d ds)
+Session {slice} {place} (Calls.call c cs) (d ∷ ds) = CallOnDump d (drop place slice) (c .lent) (leftBy c) × Session cs (dumpsLeft (c .answer) d ds)
 
 pub record Demand3 : Type 0 where
   -- any dump calls, and any undump calls on their dumps with any bytes behind, refused ones included

@@ -13,7 +13,7 @@ use Rattle.format.specs.Tree.{Local}
 use Rattle.format.specs.Store.{Piece, word, _⊕_, string, pieces, list, localPiece}
 use Rattle.format.proofs.Stored.{here-left}
 use Rattle.proto.specs.Walk.{item, Skips, StandsAt}
-use Rattle.proto.proofs.Heres.{here-item, here-front}
+use Rattle.proto.proofs.Sublists.{here-item, here-front}
 use Rattle.proto.proofs.Pieces.{stands-left, stands-right}
 use Rattle.proto.proofs.Items.{somewhere, item-past, item-there, list-count, list-item}
 use Rattle.debug_info.specs.declared.name.Name.{Name}

@@ -12,7 +12,7 @@ use Rattle.format.specs.Store.{Piece, word, string, pieces, list, ints, constan
 use Rattle.format.specs.Write.{dumpNumber, dumpInt, dumpSize, dumpText, dumpCode, dumpList, dumpConstant, dumpLocal, dumpDebug, each}
 use Rattle.format.proofs.Stored.{here-left, here-right}
 use Rattle.proto.specs.Walk.{Stands, Skips, Past}
-use Rattle.proto.proofs.Heres.{here-length, here-get, here-item}
+use Rattle.proto.proofs.Sublists.{here-length, here-get, here-item}
 use Rattle.proto.proofs.Items.{skips-on}
 use Rattle.proto.proofs.Pieces.{constant-words, pieces-words}
 use Rattle.proto.proofs.Walks.{past-word, past-words}

@@ -17,14 +17,14 @@ use Rattle.format.specs.Valid.{ValidParts, Valid, ValidAll}
 use Rattle.format.specs.Write.{dumpInt, dumpSize, dumpString, dumpText, dumpList, dumpCode, dumpConstant, dumpConstants, dumpDebug, dumpFunction, dumpFunctions, elided, each}
 use Rattle.format.proofs.RoundTrip.{same-is}
 use Rattle.proto.specs.Walk.{Stands, Skips, children}
-use Rattle.proto.proofs.Heres.{here-get}
+use Rattle.proto.proofs.Sublists.{here-get}
 use Rattle.proto.proofs.Pieces.{Same, same-refl, same-is as same-pieces, same-behind, stands-left, source-words}
 use Rattle.proto.proofs.Walks.{past-words}
 use Rattle.proto.proofs.Stores.{children-count, children-list, every-valid}
 use Rattle.dump.specs.Step.{Reached, Dumps, Fits, Ready, SourceFits, Any, constantsPiece, around}
 use Rattle.dump.proofs.Blocks.{int-length, size-length, string-length}
 use Rattle.dump.proofs.Steps.{dumps-same, dumps-then, dumps-past, DumpsAll, counted}
-use Rattle.dump.proofs.Readies.{fits-same, fits-left, fits-right, word-fits, ints-fit}
+use Rattle.dump.proofs.StepNeeds.{fits-same, fits-left, fits-right, word-fits, ints-fit}
 
 -- ---- the source
 

@@ -16,7 +16,7 @@ use Rattle.format.specs.Store.{Piece, plain, word, _⊕_, string, pieces, list,
 use Rattle.format.specs.Valid.{ValidParts}
 use Rattle.format.specs.Write.{dumpNumber, dumpInt, dumpText, dumpList, dumpCode, dumpConstant, dumpLocal, dumpDebug, each}
 use Rattle.proto.specs.Walk.{Stands, Skips, Past}
-use Rattle.proto.proofs.Heres.{here-get}
+use Rattle.proto.proofs.Sublists.{here-get}
 use Rattle.format.specs.Stored.{part}
 use Rattle.format.proofs.Stored.{here-right, here-part}
 use Rattle.proto.proofs.Walks.{past-word, past-words}

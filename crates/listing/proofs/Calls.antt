@@ -13,7 +13,7 @@ use Rattle.proto.specs.Walk.{total, totalAll, toFunctions, toLines}
 use Rattle.proto.proofs.Pieces.{function-debug}
 use Rattle.proto.proofs.Calls.{root-stands}
 use Rattle.listing.specs.Listing.{listFunction}
-use Rattle.listing.specs.Lister.{Reached, reached, ListsFunction}
+use Rattle.listing.specs.Lister.{Progress, progress, ListsFunction}
 
 -- a tree has no more functions than words
 mutual
@@ -38,8 +38,8 @@ mutual
       omega (arith, length-append (functionPiece f .words to) (functionPieces fs .words (to + length (functionPiece f .text))))
 
 -- the root, listed at the beginning of the output
-pub root-puts : {words text name out : List ℕ} {full : Bool} {r : Reached}
-    → ((f : Function) → Valid f depth → ListsFunction words text full name f (reached (record { at = 0; number = 1; out = 0 }) out) r)
+pub root-puts : {words text name out : List ℕ} {full : Bool} {r : Progress}
+    → ((f : Function) → Valid f depth → ListsFunction words text full name f (progress (record { at = 0; number = 1; out = 0 }) out) r)
     → (f : Function) → Holds words text f → Puts (listFunction f full name) 0 out (r .state .out) (r .output)
 root-puts w f h =
     let n = total-words f 0 in

@@ -9,7 +9,7 @@ use Rattle.instructions.specs.Fields.{GETARG-Bx}
 use Rattle.instructions.specs.OpCodes.{OP-CLOSURE, opcode}
 use Rattle.proto.specs.declared.child.Child.{Child}
 use Rattle.proto.specs.Children.{childNumber, ChildAt}
-use Rattle.proto.proofs.Heres.{here-get}
+use Rattle.proto.proofs.Sublists.{here-get}
 use Rattle.proto.proofs.Children.{child-numbered}
 use Rattle.listing.specs.Closures.{ClosureChild}
 

@@ -9,18 +9,18 @@ use Rattle.format.specs.Store.{word}
 use Rattle.format.specs.Valid.{ValidAll}
 use Rattle.instructions.specs.OpCodes.{opcode}
 use Rattle.proto.specs.Walk.{Skips, totalAll}
-use Rattle.proto.proofs.Heres.{here-get}
+use Rattle.proto.proofs.Sublists.{here-get}
 use Rattle.proto.proofs.Pieces.{stands-same}
 use Rattle.proto.proofs.Items.{ints-count, list-item, ints-list}
 use Rattle.proto.specs.declared.lists.Lists.{Lists}
-use Rattle.lines.specs.Line.{formatInstruction}
+use Rattle.listing_lines.specs.Line.{formatInstruction}
 use Rattle.proto.specs.Lists.{ListsAt}
 use Rattle.proto.specs.Children.{ChildAt}
-use Rattle.comments.specs.Shown.{ChildIs}
+use Rattle.listing_comments.specs.Shown.{ChildIs}
 use Rattle.proto.specs.declared.child.Child.{Child}
 use Rattle.listing.specs.Listing.{formatCode}
 use Rattle.listing.specs.Closures.{ClosureChild}
-use Rattle.headers.proofs.Enumerates.{Enumerates, enumerates-start, enumerates-turn, enumerates-end}
+use Rattle.listing_headers.proofs.Enumerates.{Enumerates, enumerates-start, enumerates-turn, enumerates-end}
 
 -- a function
 pub record Owner : Type 0 where

@@ -8,18 +8,18 @@ use lib.ListN.{replicate}
 use Rattle.lent.specs.Memory.{Every}
 use Rattle.utf8.specs.Utf8.{repairUpTo, utf8UpTo, firstStep, whole, begun, matched}
 use Rattle.digits.specs.Digits.{digits, placesWithin, letterIn, escape, escaped}
-use Rattle.instructions.specs.OpCodes.{ascii, opcodes}
+use Rattle.instructions.specs.OpCodes.{ascii, opcodes, isJump}
 use Rattle.format.specs.Tree.{count}
 use Rattle.format.specs.Read.{many, manyFunctions}
 use Rattle.format.specs.Store.{functionPiece, pieces}
 use Rattle.format.specs.Valid.{Valid}
 use Rattle.format.specs.Stored.{treeOf, storedFunction, both?, as?, true?, every?, same?, valid?}
 use Rattle.proto.specs.Walk.{item, total, totalBefore}
-use Rattle.operands.specs.Operands.{formatOperands}
-use Rattle.comments.specs.Comment.{formatComment}
-use Rattle.lines.specs.Line.{formatInstruction}
-use Rattle.headers.specs.Header.{headerKind, headerCounts}
-use Rattle.headers.specs.Tables.{enumerated}
+use Rattle.listing_operands.specs.Operands.{formatOperands}
+use Rattle.listing_comments.specs.Comment.{formatComment}
+use Rattle.listing_lines.specs.Line.{formatInstruction}
+use Rattle.listing_headers.specs.Header.{headerKind, headerCounts}
+use Rattle.listing_headers.specs.Tables.{enumerated}
 use Rattle.listing.specs.Listing.{listFunctionRecursive, listed}
 
 -- the refusal and the length, then what stands in the output, of which so many bytes are lent
@@ -60,5 +60,5 @@ Listed =
     × (listing familyWords familyText true 551 ≡ 0 ∷ 551 ∷ familyListing)
 
 pub samples-listed : Listed
-unfolding listed treeOf storedFunction both? as? true? every? same? valid? decLe decLt ℕ-discrete Every Valid many manyFunctions functionPiece pieces count item total totalBefore repairUpTo utf8UpTo firstStep whole begun matched digits placesWithin letterIn escape escaped opcodes formatOperands formatComment formatInstruction enumerated headerKind headerCounts listFunctionRecursive
+unfolding listed treeOf storedFunction both? as? true? every? same? valid? decLe decLt ℕ-discrete Every Valid many manyFunctions functionPiece pieces count item total totalBefore repairUpTo utf8UpTo firstStep whole begun matched digits placesWithin letterIn escape escaped opcodes isJump formatOperands formatComment formatInstruction enumerated headerKind headerCounts listFunctionRecursive
 samples-listed = (refl, refl, refl, refl)

@@ -9,7 +9,7 @@ use Rattle.instructions.specs.OpCodes.{opcode}
 use Rattle.proto.specs.declared.child.Child.{Child}
 use Rattle.proto.specs.Walk.{StandsAt, totalAll}
 use Rattle.proto.specs.Children.{ChildAt}
-use Rattle.comments.specs.Shown.{ChildIs}
+use Rattle.listing_comments.specs.Shown.{ChildIs}
 
 -- from the child kept to the one that instruction i makes a closure of
 pub record ClosureChild (words : List ℕ) (functions number allowance i : ℕ) (kept r : Child) : Type 0 where

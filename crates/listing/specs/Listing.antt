@@ -6,9 +6,9 @@ use Rattle.instructions.specs.OpCodes.{ascii}
 use Rattle.format.specs.Tree.{Parts, Function, Functions, filled}
 use Rattle.format.specs.Dump.{WriteLeft, onStore}
 use Rattle.proto.specs.Walk.{total}
-use Rattle.lines.specs.Line.{formatInstruction}
-use Rattle.headers.specs.Header.{formatHeader}
-use Rattle.headers.specs.Tables.{enumerated, formatConstants, formatLocals, formatUpvalues}
+use Rattle.listing_lines.specs.Line.{formatInstruction}
+use Rattle.listing_headers.specs.Header.{formatHeader}
+use Rattle.listing_headers.specs.Tables.{enumerated, formatConstants, formatLocals, formatUpvalues}
 
 -- ==== a function
 

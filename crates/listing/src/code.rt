@@ -1,7 +1,7 @@
 // The code of a function (listing.rs: format_code).
 use instructions::Instruction;
 use instructions::OP_CLOSURE;
-use lines::format_instruction;
+use listing_lines::format_instruction;
 use proto::child::Child;
 use proto::child::child_at;
 use proto::child::first_child;

@@ -1,11 +1,11 @@
 // Functions, one inside the other (listing.rs: list_function_recursive).
 use crate::code::format_code;
-use headers::header::format_header;
-use headers::list::format_constants;
-use headers::list::format_locals;
-use headers::list::format_upvalues;
 use lent::further;
 use lent::put_byte;
+use listing_headers::header::format_header;
+use listing_headers::list::format_constants;
+use listing_headers::list::format_locals;
+use listing_headers::list::format_upvalues;
 use proto::head::head_at;
 use proto::lists::Lists;
 use proto::lists::lists_on_way;
@@ -22,7 +22,7 @@ ghost use Rattle.format.specs.Valid.{Valid, ValidParts, ValidAll};
 ghost use Rattle.proto.specs.Walk.{totalAll, StandsAt};
 ghost use Rattle.proto.specs.Lists.{ListsAt, LinesKept};
 ghost use Rattle.listing.specs.Listing.{formatLists, formatFunction};
-ghost use Rattle.listing.specs.Lister.{ListsFunction, reached};
+ghost use Rattle.listing.specs.Lister.{ListsFunction, progress};
 
 // Where the listing stands: a place in the words, the number of the function there, and a place in the output.
 pub struct ListState {
@@ -89,7 +89,7 @@ pub fn list_function_recursive<'a>(
 ) -> ListState
     requires { ⌜ LinesKept (now words) (now begins) (now lines) ⌝ }
     ensures kept { λ r. ⌜ LinesKept (now (words .entry)) (now (begins .exit)) (now (lines .exit)) ⌝ }
-    ensures lists { λ r. ⌜ ((f : Function) → Valid f allowance → ListsFunction (now (words .entry)) (now (text .entry)) full (now (outer .entry)) f (reached s (now (out .entry))) (reached r (now (out .exit)))) ⌝ }
+    ensures lists { λ r. ⌜ ((f : Function) → Valid f allowance → ListsFunction (now (words .entry)) (now (text .entry)) full (now (outer .entry)) f (progress s (now (out .entry))) (progress r (now (out .exit)))) ⌝ }
 {
     if allowance == 0 {
         return s;

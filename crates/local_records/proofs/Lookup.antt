@@ -21,7 +21,7 @@ use Rattle.proto.specs.Walk.{Stands, Skips, Past, toLines, toLocals, StandsAt}
 use Rattle.proto.specs.Lists.{ListsFound}
 use Rattle.proto.specs.declared.lists.Lists.{Lists}
 use Rattle.proto.specs.Places.{placeRefusal}
-use Rattle.proto.proofs.Heres.{here-length, here-item, here-get}
+use Rattle.proto.proofs.Sublists.{here-length, here-item, here-get}
 use Rattle.proto.proofs.Pieces.{same-sym, same-assoc, function-debug, stands-same, stands-left, stands-right, pieces-words}
 use Rattle.proto.proofs.Steady.{locals-steady}
 use Rattle.proto.proofs.Items.{somewhere, list-count, locals-stand}
@@ -35,7 +35,7 @@ use Rattle.debug_info.proofs.Calls.{of-function, place-refused}
 use Rattle.local_records.specs.declared.record.LocalRecord.{LocalRecord}
 use Rattle.local_records.specs.declared.record.Seen.the-variants.{Nothing, Found, Left}
 use Rattle.local_records.specs.declared.Locals.{Locals}
-use Rattle.local_records.specs.Records.{recordAt, recordsAt, filled, lookAt, after, activeIn}
+use Rattle.local_records.specs.Records.{recordAt, recordsAt, recordsFilled, lookAt, after, activeIn}
 use Rattle.local_records.specs.Lookup.{localsOf, localsAt, LookupLeft, lookupLeft, withRecords, localNamedIn, noLocals, localsFor}
 use Rattle.local_records.proofs.Records.{records-length}
 
@@ -153,7 +153,7 @@ module _ (words text : List ℕ) (place n pc records space : ℕ) {z : ℕ} (e :
 module _ (rs : List LocalRecord) (words text : List ℕ) (place n pc : ℕ) (out : List ℕ) where
   abbrev leaves : Function → LookupLeft
   leaves f =
-      cond (leb (length (localsOf f)) (length rs)) (withRecords rs (filled rs words (localsAt place f) (length (localsOf f))) (named (getLocalName (localsOf f) n pc) out))
+      cond (leb (length (localsOf f)) (length rs)) (withRecords rs (recordsFilled rs words (localsAt place f) (length (localsOf f))) (named (getLocalName (localsOf f) n pc) out))
       (withRecords rs rs (nameRefused out 8))
 
   left-by : (o : On words text place) → localNamedIn rs words text place n pc out ≡ leaves (o .function .function)
@@ -209,7 +209,7 @@ module _ (rs : List LocalRecord) (words text : List ℕ) (place n pc : ℕ) (out
 
         by : (f : Function) (a b : Bool) → v ≡ cond a (cond b (record { refusal = 0; at = localsAt place f; count = length (localsOf f) }) (noLocals 11)) (noLocals 8)
             → lookupLeft (record { refusal = v .refusal; kind = 0; len = 0 }) rs out
-            ≡ cond a (withRecords rs (filled rs words (localsAt place f) (length (localsOf f))) (namedBy (getLocalName (localsOf f) n pc .kind) (cond b (record { answer = record { refusal = 0; len = length (getLocalName (localsOf f) n pc .name) }; out = over (getLocalName (localsOf f) n pc .name) out }) (writeRefused 11 out))))
+            ≡ cond a (withRecords rs (recordsFilled rs words (localsAt place f) (length (localsOf f))) (namedBy (getLocalName (localsOf f) n pc .kind) (cond b (record { answer = record { refusal = 0; len = length (getLocalName (localsOf f) n pc .name) }; out = over (getLocalName (localsOf f) n pc .name) out }) (writeRefused 11 out))))
             (withRecords rs rs (nameRefused out 8))
         by f true true d = let k : v .refusal ≡ 0 = ap (λ (x : Locals). x .refusal) d in absurd (omega arith)
         by f true false d = ap (λ (x : Locals). lookupLeft (record { refusal = x .refusal; kind = 0; len = 0 }) rs out) d
@@ -230,17 +230,17 @@ module _ (rs : List LocalRecord) (words text : List ℕ) (place n pc : ℕ) (out
           omega (arith, y .at-is, y .count-is, x .behind, k, h)
 
       -- the records are filled, searched, and the name is given
-      pub in-answered : {records : List LocalRecord} {k : Known} {r : Named} {out′ : List ℕ} → records ≡ filled rs words (v .at) (v .count) → k ≡ activeIn (take (v .count) records) n (pc % 2 ^ 32)
+      pub in-answered : {records : List LocalRecord} {k : Known} {r : Named} {out′ : List ℕ} → records ≡ recordsFilled rs words (v .at) (v .count) → k ≡ activeIn (take (v .count) records) n (pc % 2 ^ 32)
           → nameLeft r out′ ≡ named (objectOf text k) out → lookupLeft r records out′ ≡ localNamedIn rs words text place n pc out
       unfolding getLocalName
       in-answered {records} {k} {r} {out′} a b g =
-          let F = filled rs words (localsAt place f) (length (localsOf f)) in
+          let F = recordsFilled rs words (localsAt place f) (length (localsOf f)) in
           let t : take (v .count) records ≡ recordsAt words (v .at) (v .count) = rw a (take-at (recordsAt words (v .at) (v .count)) (drop (v .count) rs) (v .count) (records-length words (v .at) (v .count))) in
           let l : objectOf text k ≡ getLocalName (localsOf f) n pc =
           ap (objectOf text) (b ∙ ap (λ (u : List LocalRecord). activeIn u n (pc % 2 ^ 32)) t) ∙ locals-lead (y .on) n (pc % 2 ^ 32) (y .at-is) (y .count-is) in
           let w : nameLeft r out′ ≡ named (getLocalName (localsOf f) n pc) out = g ∙ ap (λ (o : Object). named o out) l in
           let z : r .refusal ≡ 0 = ap (λ (u : NameLeft). u .answer .refusal) w ∙ rw (le-leb (length (getLocalName (localsOf f) n pc .name)) (length out) (y .fits)) in
-          let d : records ≡ F = a ∙ ap (λ (u : ℕ). filled rs words u (v .count)) (y .at-is) ∙ ap (filled rs words (localsAt place f)) (y .count-is) in
+          let d : records ≡ F = a ∙ ap (λ (u : ℕ). recordsFilled rs words u (v .count)) (y .at-is) ∙ ap (recordsFilled rs words (localsAt place f)) (y .count-is) in
           rw d (ap (λ (b : Bool). lookupLeft r (cond b F rs) out′) (sym (eq-eqb (r .refusal) 0 z)))
           ∙ ap (withRecords rs F) w
           ∙ sym (left-by (y .on) ∙ rw (le-leb (length (localsOf f)) (length rs) (y .enough)))
@@ -263,7 +263,7 @@ module _ (rs : List LocalRecord) (words text : List ℕ) (place n pc : ℕ) (out
         ∙ sym (on-refused (nameRefused out) (λ x. named (getLocalName (localsOf (x .function)) n pc) out) words text place z)
   ]
     where
-      by : (f : Function) (a : Bool) → let x = cond a (withRecords rs (filled rs words (localsAt place f) (length (localsOf f))) (named (getLocalName (localsOf f) n pc) out)) (withRecords rs rs (nameRefused out 8)) in
+      by : (f : Function) (a : Bool) → let x = cond a (withRecords rs (recordsFilled rs words (localsAt place f) (length (localsOf f))) (named (getLocalName (localsOf f) n pc) out)) (withRecords rs rs (nameRefused out 8)) in
           (x .answer .refusal ≡ 8 → ⊥) → nameLeft (x .answer) (x .out) ≡ named (getLocalName (localsOf f) n pc) out
       by f true d = refl
       by f false d = absurd (d refl)

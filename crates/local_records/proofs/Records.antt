@@ -10,7 +10,7 @@ use borrow.Author.Tests.{eq-eqb, ne-eqb, lt-ltb, le-ltb}
 use Rattle.local_records.specs.declared.record.LocalRecord.{LocalRecord}
 use Rattle.local_records.specs.declared.record.Seen.{Seen}
 use Rattle.local_records.specs.declared.record.Seen.the-variants.{Nothing, Found, Left}
-use Rattle.local_records.specs.Records.{recordAt, recordsAt, filled, lookAt, after, activeIn, unnamed}
+use Rattle.local_records.specs.Records.{recordAt, recordsAt, recordsFilled, lookAt, after, activeIn, unnamed}
 
 abbrev blank : LocalRecord
 blank = record { place = 0; len = 0; start = 0; end = 0 }
@@ -44,7 +44,7 @@ module _ (before : List LocalRecord) (words : List ℕ) (at n : ℕ) where
       rw (f, g, add-one i)
       (ap (λ (j : ℕ). set (paste before 0 (recordsAt words at n) i) j (getD (recordsAt words at n) i blank)) z ∙ paste-suc before 0 (recordsAt words at n) i blank (omega arith) (omega (arith, records-length words at n)))
 
-  pub filling-all : {i : ℕ} {records : List LocalRecord} → i ≤ n → n ≤ i → Filling before words at n i records → records ≡ filled before words at n
+  pub filling-all : {i : ℕ} {records : List LocalRecord} → i ≤ n → n ≤ i → Filling before words at n i records → records ≡ recordsFilled before words at n
   filling-all {i} {records} h k f =
       let e : i ≡ n = omega arith in
       let z : 0 + n ≡ n = omega arith in

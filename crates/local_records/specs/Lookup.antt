@@ -10,7 +10,7 @@ use Rattle.proto.specs.Places.{Placed, onPlace}
 use Rattle.debug_info.specs.Names.{activeLocal, getLocalName}
 use Rattle.debug_info.specs.Calls.{NameLeft, nameRefused, named}
 use Rattle.debug_info.specs.declared.answer.Named.{Named}
-use Rattle.local_records.specs.Records.{filled}
+use Rattle.local_records.specs.Records.{recordsFilled}
 use Rattle.local_records.specs.declared.record.LocalRecord.{LocalRecord}
 use Rattle.local_records.specs.declared.Locals.{Locals}
 
@@ -32,14 +32,14 @@ lookupLeft r records out = record { answer = r; records = records; out = out }
 
 -- what get_local_name leaves; the records are filled where it does not refuse
 abbrev pub withRecords : List LocalRecord → List LocalRecord → NameLeft → LookupLeft
-withRecords before filled w = lookupLeft (w .answer) (cond (eqb (w .answer .refusal) 0) filled before) (w .out)
+withRecords before after w = lookupLeft (w .answer) (cond (eqb (w .answer .refusal) 0) after before) (w .out)
 
 -- get_local_name_in(records, words, text, place, local_number, pc, out): refused by 10, 12, 8 where the records are fewer than the locals, 11
 unfoldable pub localNamedIn : List LocalRecord → List ℕ → List ℕ → ℕ → ℕ → ℕ → List ℕ → LookupLeft
 localNamedIn records words text place n pc out =
     onPlace (λ r. withRecords records records (nameRefused out r))
     (λ x. cond (leb (length (localsOf (x .function))) (length records))
-    (withRecords records (filled records words (localsAt place (x .function)) (length (localsOf (x .function)))) (named (getLocalName (localsOf (x .function)) n pc) out))
+    (withRecords records (recordsFilled records words (localsAt place (x .function)) (length (localsOf (x .function)))) (named (getLocalName (localsOf (x .function)) n pc) out))
     (withRecords records records (nameRefused out 8))) words text place
 
 -- ---- before the records are filled

@@ -20,8 +20,8 @@ recordsAt words at zero = []
 recordsAt words at (suc n) = recordAt words at ∷ recordsAt words (at + 4) n
 
 -- the first n records are filled, the others kept
-abbrev pub filled : List LocalRecord → List ℕ → ℕ → ℕ → List LocalRecord
-filled records words at n = recordsAt words at n ++ drop n records
+abbrev pub recordsFilled : List LocalRecord → List ℕ → ℕ → ℕ → List LocalRecord
+recordsFilled records words at n = recordsAt words at n ++ drop n records
 
 -- ---- the search
 

@@ -21,7 +21,7 @@ ghost use mathlib.Core.Path.{_≡_};
 ghost use Prim.Native.Nat.{_+_, _*_, _<_, _≤_};
 ghost use lib.ListN.{length, take};
 ghost use Rattle.lent.specs.Memory.{far};
-ghost use Rattle.local_records.specs.Records.{filled, activeIn};
+ghost use Rattle.local_records.specs.Records.{recordsFilled, activeIn};
 ghost use Rattle.local_records.specs.Lookup.{noLocals, localsFor, lookupLeft, localNamedIn};
 
 // The refusal of a lookup, 0 for none; then where the function's locals stand in the words, behind their count, and how many there are.
@@ -79,7 +79,7 @@ fn locals_for(
 // Fills the first n records with the locals from a place on.
 fn fill(records: &mut [LocalRecord], words: &[u32], locals: usize, n: usize)
     requires { ⌜ (n ≤ length (now records)) × (locals + 4 * n ≤ length (now words)) ⌝ }
-    ensures { λ _. ⌜ now (records .exit) ≡ filled (now (records .entry)) (now (words .entry)) locals n ⌝ }
+    ensures { λ _. ⌜ now (records .exit) ≡ recordsFilled (now (records .entry)) (now (words .entry)) locals n ⌝ }
 {
     let mut at = locals;
     let mut i = 0;

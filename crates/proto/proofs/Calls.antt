@@ -14,7 +14,7 @@ use Rattle.format.specs.Dump.{writeRefused, written, onTree, onStore}
 use Rattle.format.proofs.Writing.{written-short, written-all, written-fits}
 use Rattle.proto.specs.Formed.{isHeld}
 use Rattle.proto.specs.Walk.{Stands}
-use Rattle.proto.proofs.Heres.{whole-here}
+use Rattle.proto.proofs.Sublists.{whole-here}
 use Rattle.proto.proofs.Stores.{held-tree, no-tree}
 
 -- the root stands at the beginning of its store

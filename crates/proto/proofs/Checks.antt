@@ -19,7 +19,7 @@ use Rattle.format.proofs.Stored.{here-left, here-part}
 use Rattle.proto.specs.declared.formed.Checked.{Checked}
 use Rattle.proto.specs.Walk.{Stands}
 use Rattle.proto.specs.Formed.{Passed, Check, Within, three, Three, Ascii}
-use Rattle.proto.proofs.Heres.{here-length, here-item, here-get, here-none, here-one, here-two, here-three, here-join, here-take}
+use Rattle.proto.proofs.Sublists.{here-length, here-item, here-get, here-none, here-one, here-two, here-three, here-join, here-take}
 use Rattle.proto.proofs.Pieces.{Same, same-refl, stands-same, same-sym, stands-left, stands-right}
 
 pub never : {b : Bool} → b ≡ true → b ≡ false → ⊥

@@ -12,7 +12,7 @@ use Rattle.format.specs.Valid.{Valid, ValidAll}
 use Rattle.proto.specs.declared.walk.Next.{Next}
 use Rattle.proto.specs.declared.child.Child.{Child}
 use Rattle.proto.specs.Walk.{Stands, StandsAt, item, Skips, totalAll, totalBefore, Passes, PassesAll, children}
-use Rattle.proto.specs.Children.{childNumber, nextOf, ChildAt}
+use Rattle.proto.specs.Children.{childNumber, childNext, ChildAt}
 use Rattle.proto.proofs.Pieces.{Same, same-refl, same-sym, same-trans, same-behind, same-assoc, stands-same, stands-left}
 use Rattle.proto.proofs.Walks.{past-word, past-stands, passes-past, passes-same, passes-then, all-none}
 
@@ -79,7 +79,7 @@ pub child-first : {words : List ℕ} {functions number at m : ℕ} → Skips wor
     → (allowance : ℕ) → ChildAt words functions number allowance (record { index = 0; at = at; number = m })
 child-first {at = at} {m = m} k e allowance = record { first = record { at = at; number = m }; begins = k; numbered = e; passes = all-none }
 
-pub child-further : {words : List ℕ} {functions number allowance i at m : ℕ} {c : Child} → c .index ≤ i → PassesAll words allowance (i - c .index) (nextOf c) (record { at = at; number = m })
+pub child-further : {words : List ℕ} {functions number allowance i at m : ℕ} {c : Child} → c .index ≤ i → PassesAll words allowance (i - c .index) (childNext c) (record { at = at; number = m })
     → ChildAt words functions number allowance c → ChildAt words functions number allowance (record { index = i; at = at; number = m })
 child-further {i = i} {c = c} h w x =
     let e : c .index + (i - c .index) ≡ i = omega arith in
@@ -94,7 +94,7 @@ module _ {words text : List ℕ} {functions number allowance : ℕ} {c : Child} 
   begin : Stands words text (w .first .at) (h .to + 0) (functionPieces (at-index .before) ⊕ functionPieces (at-index .behind))
   begin = stands-same (at-index .pieces) (past-stands {p = word (count fs)} {q = functionPieces fs} (past-word (count fs) (w .begins)) (h .stands))
 
-  passed : Passes words (functionPieces (at-index .before)) (totalAll (at-index .before)) (w .first) (nextOf c)
+  passed : Passes words (functionPieces (at-index .before)) (totalAll (at-index .before)) (w .first) (childNext c)
   passed = w .passes .all (at-index .before) (at-index .valid allowance v .0) (at-index .many)
 
   -- the one with the index has this number

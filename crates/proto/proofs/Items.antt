@@ -23,7 +23,7 @@ use Rattle.proto.specs.declared.walk.Next.{Next}
 use Rattle.proto.specs.Walk.{Stands, StandsAt, item, Skips, Past, toCode, toConstants, toFunctions, toLines, toLocals, toUpvalues}
 use Rattle.proto.specs.Constants.{ConstantAt}
 use Rattle.proto.specs.Head.{headOf}
-use Rattle.proto.proofs.Heres.{here-length, here-get, here-item, here-front, part-clamped}
+use Rattle.proto.proofs.Sublists.{here-length, here-get, here-item, here-front, part-clamped}
 use Rattle.proto.proofs.Pieces.{Same, same-sym, same-trans, same-behind, same-assoc, function-debug, stands-same, stands-left, stands-right, source-words, constant-words, pieces-words}
 use Rattle.proto.proofs.Walks.{past-stands, passes-past}
 

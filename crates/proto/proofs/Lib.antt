@@ -1,4 +1,4 @@
-pub mod Heres
+pub mod Sublists
 pub mod Pieces
 pub mod Walks
 pub mod Checks

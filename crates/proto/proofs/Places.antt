@@ -18,7 +18,7 @@ use Rattle.proto.specs.declared.place.Span.{Span}
 use Rattle.proto.specs.declared.place.Sought.{Sought}
 use Rattle.proto.specs.Walk.{Skips, Past, toFunctions, toLines}
 use Rattle.proto.specs.Places.{spanOf, Placed, placed, placedAll, beginsAt, Seeks, Search}
-use Rattle.proto.proofs.Heres.{here-get}
+use Rattle.proto.proofs.Sublists.{here-get}
 use Rattle.proto.proofs.Pieces.{function-debug}
 use Rattle.proto.proofs.Checks.{never}
 

@@ -23,7 +23,7 @@ use Rattle.proto.specs.declared.place.Sought.{Sought}
 use Rattle.proto.specs.declared.place.SourceAt.{SourceAt}
 use Rattle.proto.specs.Walk.{Stands, toFunctions, toLines}
 use Rattle.proto.specs.Formed.{isHeld}
-use Rattle.proto.specs.Places.{Filled, filledIn, named, Placed, placed, placedAll, beginsAt, functionAt, Seeks, Search, onFunction, onPlace, placeRefusal, noSource, spanAnswer, sourceAnswer, sourcePart}
+use Rattle.proto.specs.Places.{Filled, filledIn, chunkName, Placed, placed, placedAll, beginsAt, functionAt, Seeks, Search, onFunction, onPlace, placeRefusal, noSource, spanAnswer, sourceAnswer, sourcePart}
 use Rattle.proto.proofs.Pieces.{function-debug, stands-same, stands-left, stands-right}
 use Rattle.proto.proofs.Checks.{never}
 use Rattle.proto.proofs.Stores.{held-tree, no-tree}
@@ -60,7 +60,7 @@ mutual
   all-suc Functions.none n v = tt
   all-suc (Functions.more f fs) n v = (valid-suc f n (v .0), all-suc fs n (v .1))
 
-named-sourced : {text : List ℕ} (name : List ℕ) → Sourced text name (named name)
+named-sourced : {text : List ℕ} (name : List ℕ) → Sourced text name (chunkName name)
 named-sourced name = let e : length name - 0 ≡ length name = omega arith in record { ordered = omega arith; is = rw e (take-length name) }
 
 module _ {words text : List ℕ} (name : List ℕ) where
@@ -113,12 +113,12 @@ begins-every P place (y ∷ l) x h e = by (λ d. begins-every P place l x (h .1)
 
 pub function-stands : {words text : List ℕ} (name : List ℕ) {f : Function} (place : ℕ) (x : Placed) → Holds words text f → functionAt f name place ≡ some x → StandsIn words text name depth x × (x .place ≡ place)
 function-stands name {f} place x h e =
-    begins-every _ place (placed f 0 0 (named name)) x (placed-stands name depth f depth 0 0 (named name) (h .valid) (λ g v. v) (root-stands h) (named-sourced name)) e
+    begins-every _ place (placed f 0 0 (chunkName name)) x (placed-stands name depth f depth 0 0 (chunkName name) (h .valid) (λ g v. v) (root-stands h) (named-sourced name)) e
 
 -- ---- the calls
 
 -- the search from the root
-root-seeks : {words text : List ℕ} {place : ℕ} {r : Sought} (name : List ℕ) (f : Function) → Holds words text f → Search words place (named name .span) f 0 r → Seeks (functionAt f name place) (0 + length (wordsOf f)) r
+root-seeks : {words text : List ℕ} {place : ℕ} {r : Sought} (name : List ℕ) (f : Function) → Holds words text f → Search words place (chunkName name .span) f 0 r → Seeks (functionAt f name place) (0 + length (wordsOf f)) r
 root-seeks name f h s = s .seeks 0 name (root-stands h .in-words)
 
 -- where the search finds none, and where it finds one
@@ -135,7 +135,7 @@ module _ (words text : List ℕ) (place : ℕ) where
   unfolding placeRefusal
   place-10 h = no-tree words text (λ t. 10 ≡ onTree (λ n. n) (λ f. onFunction (λ n. n) (λ x. 0) (functionAt f [] place)) t) h refl
 
-  module _ {r : Sought} (h : isHeld (treeOf words text) ≡ true) (s : (f : Function) → Valid f depth → Search words place (named [] .span) f 0 r) where
+  module _ {r : Sought} (h : isHeld (treeOf words text) ≡ true) (s : (f : Function) → Valid f depth → Search words place (chunkName [] .span) f 0 r) where
     pub place-12 : r .found ≡ false → 12 ≡ placeRefusal words text place
     unfolding placeRefusal
     place-12 e =
@@ -194,7 +194,7 @@ module _ (words text name : List ℕ) (place : ℕ) where
     unfolding sourceAnswer
     source-10 h = rw n (no-tree words text (λ t. noSource 10 ≡ onTree noSource (λ f. onFunction noSource (λ x. spanAnswer (x .source .span)) (functionAt f name place)) t) h refl)
 
-    module _ {r : Sought} (h : isHeld (treeOf words text) ≡ true) (s : (f : Function) → Valid f depth → Search words place (named name .span) f 0 r) where
+    module _ {r : Sought} (h : isHeld (treeOf words text) ≡ true) (s : (f : Function) → Valid f depth → Search words place (chunkName name .span) f 0 r) where
       pub source-12 : r .found ≡ false → noSource 12 ≡ sourceAnswer words text name place
       unfolding sourceAnswer
       source-12 e =

@@ -17,7 +17,7 @@ use Rattle.format.proofs.Stored.{holds-tree, tree-holds}
 use Rattle.proto.specs.declared.formed.Checked.{Checked}
 use Rattle.proto.specs.Walk.{Stands, children}
 use Rattle.proto.specs.Formed.{isHeld, Check, Within, Words, three, Three, ValidChildren}
-use Rattle.proto.proofs.Heres.{here-get, here-whole, whole-here}
+use Rattle.proto.proofs.Sublists.{here-get, here-whole, whole-here}
 use Rattle.proto.proofs.Pieces.{same-refl, same-is}
 use Rattle.proto.proofs.Walks.{none-deep}
 use Rattle.proto.proofs.Checks.{never, As, check-wrong, check-as, check-then, check-passed, any-word}

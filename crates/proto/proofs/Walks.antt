@@ -14,7 +14,7 @@ use Rattle.format.proofs.Stored.{here-left, here-right}
 use Rattle.proto.specs.Walk.{Stands, Skips, SkipsItems, Past, total, totalAll, Passes, PassesAll, toCode, toFunctions, toLines}
 use Rattle.proto.specs.Lists.{WalksToLines}
 use Rattle.proto.specs.declared.walk.Next.{Next}
-use Rattle.proto.proofs.Heres.{here-get}
+use Rattle.proto.proofs.Sublists.{here-get}
 use Rattle.proto.proofs.Pieces.{Same, same-sym, same-assoc, function-debug, stands-left, stands-right, source-words, constant-words, pieces-words}
 
 module _ {words : List ℕ} where

@@ -12,12 +12,12 @@ use Rattle.proto.specs.declared.walk.Next.{Next}
 abbrev pub childNumber : ℕ → Functions → ℕ → ℕ
 childNumber number fs i = number + 1 + totalBefore fs i
 
-abbrev pub nextOf : Child → Next
-nextOf c = record { at = c .at; number = c .number }
+abbrev pub childNext : Child → Next
+childNext c = record { at = c .at; number = c .number }
 
 -- c is behind as many functions as its index says, from the first one on, which stands behind the count at a place
 pub record ChildAt (words : List ℕ) (functions number allowance : ℕ) (c : Child) : Type 0 where
   pub first : Next
   pub begins : Skips words 1 functions (first .at)
   pub numbered : first .number ≡ min (number + 1) far
-  pub passes : PassesAll words allowance (c .index) first (nextOf c)
+  pub passes : PassesAll words allowance (c .index) first (childNext c)

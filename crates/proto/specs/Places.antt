@@ -31,8 +31,8 @@ abbrev pub filledIn : Filled → ℕ → Source → Filled
 filledIn around to s = record { bytes = filled (around .bytes) s; span = spanOf (around .span) to s }
 
 -- the chunk name, for which the root's stands where it is inherited
-abbrev pub named : List ℕ → Filled
-named name = record { bytes = name; span = record { «in_text» = 0; start = 0; end = length name } }
+abbrev pub chunkName : List ℕ → Filled
+chunkName name = record { bytes = name; span = record { «in_text» = 0; start = 0; end = length name } }
 
 -- ---- functions in preorder, each with the place where it begins
 
@@ -60,7 +60,7 @@ beginsAt place (x ∷ l) = cond (eqb place (x .place)) (some x) (beginsAt place 
 
 -- in the store of a tree under a chunk name
 abbrev pub functionAt : Function → List ℕ → ℕ → Option Placed
-functionAt f name place = beginsAt place (placed f 0 0 (named name))
+functionAt f name place = beginsAt place (placed f 0 0 (chunkName name))
 
 -- ---- the search
 

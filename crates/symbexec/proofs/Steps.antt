@@ -16,7 +16,7 @@ use Rattle.instructions.specs.OpCodes.{isJump, opcode}
 use Rattle.proto.specs.Walk.{Skips, StandsAt, children}
 use Rattle.proto.specs.Children.{ChildAt}
 use Rattle.proto.proofs.Items.{ints-count, ints-item}
-use Rattle.proto.proofs.Heres.{here-front}
+use Rattle.proto.proofs.Sublists.{here-front}
 use Rattle.proto.specs.declared.child.Child.{Child}
 use Rattle.symbexec.specs.declared.operands.Skipped.{Skipped}
 use Rattle.symbexec.specs.Operands.{Behind}

@@ -13,7 +13,7 @@ use Rattle.proto.specs.Children.{ChildAt}
 use Rattle.proto.specs.Head.{headOf}
 use Rattle.proto.specs.declared.child.Child.{Child}
 use Rattle.proto.specs.declared.head.Head.{Head}
-use Rattle.proto.proofs.Heres.{here-get}
+use Rattle.proto.proofs.Sublists.{here-get}
 use Rattle.proto.proofs.Items.{item-past, item-there}
 use Rattle.proto.proofs.Children.{child-stands}
 use Rattle.proto.proofs.Stores.{children-count}

@@ -1,6 +1,7 @@
 -- The root stands at place 0, and a tree has no more functions than words, so that no number stops at the farthest. Nothing is kept of lines yet.
 use borrow.Author.Needs.{needs}
 use Rattle.listing.proofs.Calls.{root-puts}
+use Rattle.format.specs.Valid.{depth}
 use Rattle.proto.proofs.ListPlaces.{kept-none}
 use Rattle.listing.proofs.list_root.Statement.{statement}
 use Rattle.listing.proofs.list_root.Tie as tie
@@ -12,7 +13,7 @@ slice-aggregate-list-function-recursive-2 : tie.Need-slice-aggregate-list-functi
 slice-aggregate-list-function-recursive-2 c = search needs
 
 list-function-recursive-requires : tie.Need-list-function-recursive-requires
-list-function-recursive-requires c κs = kept-none 200 200
+list-function-recursive-requires c κs = kept-none depth depth
 
 same-length : tie.Need-same-length
 same-length c = search needs

@@ -12,7 +12,7 @@ use Rattle.format.proofs.Loops.{Loop, loop-start, loop-turn, loop-end}
 use Rattle.proto.proofs.Walks.{none-deep}
 use Rattle.dump.specs.Step.{reached}
 use Rattle.dump.proofs.Steps.{DumpsAll, all-none, all-more}
-use Rattle.dump.proofs.Readies.{Left, count-fits, left-start, left-item, left-more}
+use Rattle.dump.proofs.StepNeeds.{Left, count-fits, left-start, left-item, left-more}
 use Rattle.dump.proofs.Functions.{constants-dumped, function-dumped, source-ready, line-ready, last-ready, packed-ready, code-ready, constants-ready, debug-ready, values-ready, children-ready}
 use borrow.Fn.Kinds.{In}
 use borrow.Fn.PlainCycle.{Measures, is, falls, and}

@@ -2,7 +2,7 @@
 use borrow.Author.Needs.{needs}
 use native.Mathlib.Omega.{arith}
 use Rattle.proto.proofs.Items.{skips-on}
-use Rattle.dump.proofs.Readies.{source-within}
+use Rattle.dump.proofs.StepNeeds.{source-within}
 use Rattle.dump.proofs.Functions.{source-dumped}
 use Rattle.dump.proofs.function.dump_source.Statement.{statement}
 use Rattle.dump.proofs.function.dump_source.Tie as tie

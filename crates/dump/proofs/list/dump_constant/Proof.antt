@@ -3,7 +3,7 @@ use borrow.Author.Needs.{needs}
 use native.Mathlib.Omega.{arith}
 use Rattle.proto.proofs.Items.{skips-on}
 use Rattle.dump.proofs.Steps.{constant-dumped}
-use Rattle.dump.proofs.Readies.{constant-within}
+use Rattle.dump.proofs.StepNeeds.{constant-within}
 use Rattle.dump.proofs.list.dump_constant.Statement.{statement}
 use Rattle.dump.proofs.list.dump_constant.Tie as tie
 

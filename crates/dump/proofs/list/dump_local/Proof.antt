@@ -1,7 +1,7 @@
 -- Three pieces one behind the other.
 use borrow.Author.Needs.{needs}
 use Rattle.dump.proofs.Steps.{local-dumped}
-use Rattle.dump.proofs.Readies.{local-name, local-start, local-end}
+use Rattle.dump.proofs.StepNeeds.{local-name, local-start, local-end}
 use Rattle.dump.proofs.list.dump_local.Statement.{statement}
 use Rattle.dump.proofs.list.dump_local.Tie as tie
 

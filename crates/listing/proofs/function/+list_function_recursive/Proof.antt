@@ -7,7 +7,7 @@ use lib.ListN.{length}
 use Rattle.format.proofs.Loops.{Loop, loop-start, loop-turn, loop-end}
 use Rattle.proto.proofs.Walks.{none-deep}
 use Rattle.proto.specs.Lists.{LinesKept}
-use Rattle.listing.specs.Lister.{reached}
+use Rattle.listing.specs.Lister.{progress}
 use Rattle.listing.proofs.Listers.{ListsAll, lists-none, lists-more, lists-function}
 use borrow.Fn.PlainCycle.{Measures, is, falls, and}
 use borrow.Fn.Kinds.{In}
@@ -53,7 +53,7 @@ list-function-recursive-Inv-loop words text outer full out₀ begins₀ lines₀
     × (length begins ≡ length begins₀)
     × (length lines ≡ length lines₀)
     × LinesKept words begins lines
-    × Loop (ListsAll words text full source (allowance - 1)) n (reached r₀ out₀) i (reached r out)
+    × Loop (ListsAll words text full source (allowance - 1)) n (progress r₀ out₀) i (progress r out)
 
 abbrev list-function-recursive-μ-loop : list-function-recursive-lts.MeasureT-loop
 list-function-recursive-μ-loop words text outer full out₀ begins₀ lines₀ allowance source own list n r₀ i₀ out begins lines r i = n - i

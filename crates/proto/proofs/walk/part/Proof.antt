@@ -1,6 +1,6 @@
 -- Start and length, cut to what there is, give the part that take and drop give.
 use borrow.Author.Needs.{needs}
-use Rattle.proto.proofs.Heres.{part-clamped}
+use Rattle.proto.proofs.Sublists.{part-clamped}
 use Rattle.proto.proofs.walk.part.Statement.{statement}
 use Rattle.proto.proofs.walk.part.Tie as tie
 
