@@ -22,8 +22,8 @@ pub part-short : {s : List ℕ} (text : List ℕ) (place n : ℕ) → s ≡ part
 part-short text place n e = rw (e, length-take n (drop place text)) (omega arith)
 
 -- n items of a list are left
-abbrev pub Left : {A : Type 0} (words text : List ℕ) (ok : A → Type 0) (piece : A → Piece) (bytes : A → List ℕ) (n : ℕ) (s : Reached) → Type 0
-Left words text ok piece bytes n s = Ready words text (λ l. (length l ≡ n) × Every ok l) (pieces piece) (each bytes) s
+abbrev pub NeedsLeft : {A : Type 0} (words text : List ℕ) (ok : A → Type 0) (piece : A → Piece) (bytes : A → List ℕ) (n : ℕ) (s : Reached) → Type 0
+NeedsLeft words text ok piece bytes n s = Ready words text (λ l. (length l ≡ n) × Every ok l) (pieces piece) (each bytes) s
 
 module _ {words text : List ℕ} where
   -- ---- one behind the other
@@ -155,7 +155,7 @@ module _ {words text : List ℕ} where
 
   module _ {A : Type 0} (ok : A → Type 0) (piece : A → Piece) (bytes : A → List ℕ) where
     pub left-start : {n : ℕ} {s m : Reached} {okL : List A → Type 0} → ((l : List A) → okL l → Every ok l) → n ≡ getD words (s .at) 0 → Ready words text okL (list piece) (dumpList bytes) s
-        → ((v : ℕ) (t : List ℕ) → Dumps words t (word v) (dumpInt v) s m) → Left words text ok piece bytes (n - 0) m
+        → ((v : ℕ) (t : List ℕ) → Dumps words t (word v) (dumpInt v) s m) → NeedsLeft words text ok piece bytes (n - 0) m
     left-start {n} {s} {m} every e r d =
         let l = r .value in
         let k : length l ≡ n - 0 = omega (arith, here-get (length l) _ (r .fits .stands .in-words)) in
@@ -165,7 +165,7 @@ module _ {words text : List ℕ} where
           fits = fits-right (word (length l)) (pieces piece l) (dumpInt (length l)) (each bytes l) (r .fits) (d (length l) text);
         }
 
-    pub left-item : {n i : ℕ} {s : Reached} → i < n → Left words text ok piece bytes (n - i) s → Ready words text ok piece bytes s
+    pub left-item : {n i : ℕ} {s : Reached} → i < n → NeedsLeft words text ok piece bytes (n - i) s → Ready words text ok piece bytes s
     unfolding pieces each Every
     left-item {n} {i} {s} h r = go (r .value) (r .valid .0) (r .valid .1) (r .fits)
       where
@@ -173,11 +173,11 @@ module _ {words text : List ℕ} where
         go [] e k f = absurd (omega arith)
         go (a ∷ l) e k f = record { value = a; valid = k .0; fits = fits-left (piece a) (pieces piece l) (bytes a) (each bytes l) f }
 
-    pub left-more : {n i : ℕ} {s m : Reached} → i < n → Left words text ok piece bytes (n - i) s → ((a : A) → ok a → Dumps words text (piece a) (bytes a) s m) → Left words text ok piece bytes (n - (i + 1)) m
+    pub left-more : {n i : ℕ} {s m : Reached} → i < n → NeedsLeft words text ok piece bytes (n - i) s → ((a : A) → ok a → Dumps words text (piece a) (bytes a) s m) → NeedsLeft words text ok piece bytes (n - (i + 1)) m
     unfolding pieces each Every
     left-more {n} {i} {s} {m} h r d = go (r .value) (r .valid .0) (r .valid .1) (r .fits)
       where
-        go : (l : List A) → length l ≡ n - i → Every ok l → Fits words text (pieces piece l) (each bytes l) s → Left words text ok piece bytes (n - (i + 1)) m
+        go : (l : List A) → length l ≡ n - i → Every ok l → Fits words text (pieces piece l) (each bytes l) s → NeedsLeft words text ok piece bytes (n - (i + 1)) m
         go [] e k f = absurd (omega arith)
         go (a ∷ l) e k f =
             let x : length l ≡ n - (i + 1) = omega arith in

@@ -126,7 +126,7 @@ pub data DumpRefuses (name : List ℕ) (strip : Bool) (out : List ℕ) : Option 
   not-well-formed : nameOk name ≡ true → DumpRefuses name strip out none 10
   too-long : {f : Function} → nameOk name ≡ true → length out < length (dumpChunk strip name f) → DumpRefuses name strip out (some f) 11
 
-pub record Dumps (name : List ℕ) (strip : Bool) (out : List ℕ) (x : Option Function) (left : WriteLeft) : Type 0 where
+pub record DumpAccepted (name : List ℕ) (strip : Bool) (out : List ℕ) (x : Option Function) (left : WriteLeft) : Type 0 where
   pub named : nameOk name ≡ true
   pub tree : Function
   pub held : x ≡ some tree
@@ -135,7 +135,7 @@ pub record Dumps (name : List ℕ) (strip : Bool) (out : List ℕ) (x : Option F
 
 pub data DumpOutcome (name : List ℕ) (strip : Bool) (out : List ℕ) (x : Option Function) (left : WriteLeft) : Type 0 where
   refuses : (n : ℕ) → DumpRefuses name strip out x n → left ≡ writeRefused n out → DumpOutcome name strip out x left
-  dumps : Dumps name strip out x left → DumpOutcome name strip out x left
+  dumps : DumpAccepted name strip out x left → DumpOutcome name strip out x left
 
 dumped-by : (name : List ℕ) (strip : Bool) (out : List ℕ) (x : Option Function)
     → DumpOutcome name strip out x (cond (nameOk name) (onTree (λ n. writeRefused n out) (λ f. written (dumpChunk strip name f) out) x) (writeRefused 1 out))

@@ -4,7 +4,7 @@ use mathlib.Core.Path.{_≡_, ap, _∙_}
 use mathlib.Core.List.{List}
 use native.Mathlib.Omega.{arith}
 use lib.ListN.{getD}
-use Rattle.format.specs.Tree.{Functions, count}
+use Rattle.format.specs.Tree.{count}
 use Rattle.instructions.specs.Fields.{GETARG-Bx}
 use Rattle.instructions.specs.OpCodes.{OP-CLOSURE, opcode}
 use Rattle.proto.specs.declared.child.Child.{Child}

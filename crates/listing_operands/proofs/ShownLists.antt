@@ -1,6 +1,6 @@
 -- Laws of what the calls promise: texts one after the other, under a test, and of an item of a list.
-use Prim.Native.Nat.{ℕ, zero, suc, _+_, _*_, _≤_, _<_}
-use mathlib.Core.Path.{_≡_, refl, sym, ap, _∙_}
+use Prim.Native.Nat.{ℕ, _+_, _*_, _≤_, _<_}
+use mathlib.Core.Path.{_≡_, _∙_}
 use mathlib.Core.List.{List, [], _∷_, _++_}
 use mathlib.Core.Option.{Option, none, some}
 use native.Mathlib.Omega.{arith}
@@ -8,14 +8,14 @@ use lib.ListN.{length, getD}
 use Rattle.lent.specs.Memory.{Puts}
 use Rattle.lent.proofs.Writes.{put-then}
 use Rattle.format.specs.Tree.{Constant as Value}
-use Rattle.format.specs.Store.{Piece, word, string, pieces, list, ints, constantPiece}
+use Rattle.format.specs.Store.{Piece, word, string, list, ints, constantPiece}
 use Rattle.format.specs.declared.Constant.{Constant}
 use Rattle.format.specs.Constants.{valueOf}
 use Rattle.format.proofs.Constant as constant
 use Rattle.format.specs.declared.Constant.the-variants.{Nil, Bool as Truth, Num, String}
 use Rattle.proto.specs.Walk.{Stands, item, Skips, StandsAt}
 use Rattle.proto.proofs.Sublists.{here-get}
-use Rattle.proto.proofs.Pieces.{Same, stands-same}
+use Rattle.proto.proofs.Pieces.{stands-same}
 use Rattle.proto.proofs.Items.{item-past, item-there, ints-list, list-count, list-item}
 use Rattle.listing_operands.specs.Shown.{Shows}
 use Rattle.instructions.specs.OpCodes.{opModes}

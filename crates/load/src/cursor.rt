@@ -1,4 +1,5 @@
 // Numbers, strings and constants of a chunk, a refusal passed on: a cursor that holds one reads nothing.
+// Beside a refusal the value and the next place are open: nothing reads them.
 use format::Constant;
 use format::LIMIT;
 use load_state::cursor::Byte;

@@ -81,10 +81,10 @@ module _ {A L : Type 0} {bs : List ℕ} {R : Reader A} {Many : ℕ → Reader L}
       (bind _ h (t .stays) (λ a d. bind _ t (λ z. refl) (λ l e. done (laws .cons a l) (laws .size-more a l ∙ ap suc (e .0), rw (laws .all-more a l) (join d (e .1))))))
 
 -- a count, and as many items
-pub listed : {L : Type 0} {bs : List ℕ} {C : Reader ℕ} {size : L → ℕ} {all : L → Piece} {n : ℕ} {σ m ρ : World}
+pub list-loaded : {L : Type 0} {bs : List ℕ} {C : Reader ℕ} {size : L → ℕ} {all : L → Piece} {n : ℕ} {σ m ρ : World}
     (Many : ℕ → Reader L) → ReadsBy bs C (λ a. (a ≡ n) × Does (word a) (spaceOf σ) (spaceOf m)) (σ .load .cursor) (m .load .cursor) → LoadsAll bs Many size all n m ρ
     → Loads bs (C >>= Many) (λ l. word (size l) ⊕ all l) σ ρ
-listed Many h t = bind Many h (t .stays) (λ a e. rw (e .0) (weaken (λ l d. rw (d .0) (join (rw (e .0) at (e .1)) (d .1))) t))
+list-loaded Many h t = bind Many h (t .stays) (λ a e. rw (e .0) (weaken (λ l d. rw (d .0) (join (rw (e .0) at (e .1)) (d .1))) t))
 
 -- ---- a local
 

@@ -13,7 +13,7 @@ use Rattle.load.specs.Loads.{ReadsBy, space, Does, World, spaceOf, moved, Loads
 use Rattle.load_function.specs.Repaired.{repairedLocals, repairedNames, repairedDebugPiece, repairedConstants, repairedFunction}
 use Rattle.load.proofs.Steps.{stops, bind, done, stays-then}
 use Rattle.load.proofs.Stores.{join, regroup}
-use Rattle.load_function.proofs.Lists.{LoadsAll, listed}
+use Rattle.load_function.proofs.Lists.{LoadsAll, list-loaded}
 
 pub debug-loaded : {bs : List ℕ} {σ a b ρ : World} → Loads bs (loadList loadInt) ints σ a → Loads bs (loadList loadLocal) repairedLocals a b → Loads bs (loadList loadText) repairedNames b ρ
     → Loads bs loadDebug repairedDebugPiece σ ρ
@@ -27,7 +27,7 @@ pub constants-loaded : {bs : List ℕ} {σ a m ρ : World} {k : ℕ} (allowance 
     → Loads bs (loadConstants (loadFunction allowance)) repairedConstants σ ρ
 unfolding loadConstants
 constants-loaded allowance h c l =
-    let all = listed (manyFunctions (loadFunction allowance)) c l in
+    let all = list-loaded (manyFunctions (loadFunction allowance)) c l in
     bind _ h (all .stays) (λ ks d. bind _ all (λ z. refl) (λ fs e. done _ (join d e)))
 
 -- 7

@@ -1,4 +1,5 @@
 // What stands at a place of the chunk: a byte, a 4-byte integer, a size; 2 where too few bytes are left.
+// Beside a refusal the value and the next place are open: nothing reads them.
 ghost use mathlib.Core.Path.{_≡_};
 ghost use Prim.Native.Nat.{_+_, _*_, _-_, _≤_};
 ghost use lib.ListN.{length};

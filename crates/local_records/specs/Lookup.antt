@@ -1,12 +1,12 @@
 -- get_local_name_in: the lookup of get_local_name in a lent slice of records.
-use Prim.Native.Nat.{ℕ, _+_, _%_, _^_}
+use Prim.Native.Nat.{ℕ, _+_}
 use mathlib.Core.List.{List}
 use mathlib.Core.Bool.{cond}
 use lib.ListN.{length}
 use lib.Dec.{eqb, leb}
 use Rattle.format.specs.Tree.{Local, Function, partsOf}
 use Rattle.proto.specs.Walk.{toLocals}
-use Rattle.proto.specs.Places.{Placed, onPlace}
+use Rattle.proto.specs.Places.{onPlace}
 use Rattle.debug_info.specs.Names.{activeLocal, getLocalName}
 use Rattle.debug_info.specs.Calls.{NameLeft, nameRefused, named}
 use Rattle.debug_info.specs.declared.answer.Named.{Named}

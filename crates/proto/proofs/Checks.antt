@@ -9,8 +9,9 @@ use native.Mathlib.Nat.{add-zero, add-assoc}
 use lib.ListN.{length, drop, getD, length-append, length-drop, length-take, List·getD-eq-default}
 use lib.Seq.{getD-take, getD-drop, length-take-le}
 use Rattle.lent.specs.Memory.{Every, Word, Bytes}
-use Rattle.utf8.specs.Utf8.{isUtf8}
+use Rattle.utf8.specs.Utf8.{isUtf8, isAscii}
 use Rattle.utf8.proofs.Laws.{utf8-bytes, utf8-ascii}
+use Rattle.utf8.proofs.Ascii.{ascii-at}
 use Rattle.format.specs.Read.{limit}
 use Rattle.format.specs.Store.{Piece, word, _⊕_, string, pieces, list, ints}
 use Rattle.format.specs.Stored.{part, Here}
@@ -18,7 +19,7 @@ use Rattle.format.specs.Valid.{Name, ValidList}
 use Rattle.format.proofs.Stored.{here-left, here-part}
 use Rattle.proto.specs.declared.formed.Checked.{Checked}
 use Rattle.proto.specs.Walk.{Stands}
-use Rattle.proto.specs.Formed.{Passed, Check, Within, three, Three, Ascii}
+use Rattle.proto.specs.Formed.{Passed, Check, Within, three, Three}
 use Rattle.proto.proofs.Sublists.{here-length, here-item, here-get, here-none, here-one, here-two, here-three, here-join, here-take}
 use Rattle.proto.proofs.Pieces.{Same, same-refl, stands-same, same-sym, stands-left, stands-right}
 
@@ -313,12 +314,12 @@ module _ {words text : List ℕ} {s r : Checked} (c : Check words text Bytes str
   name-stopped o k = check-wrong k (λ h l v t. never (c .complete h l (utf8-bytes l v) t .ok) o)
 
   -- each name is text where all of the text is ASCII
-  pub ascii-name : Ascii text → Check words text (λ n. Name n) string s r
+  pub ascii-name : isAscii text ≡ true → Check words text (λ n. Name n) string s r
   ascii-name h =
       record {
         sound = λ z.
             let x = c .sound z in
             let l = x .1 .value in
-            (x .0, record { value = l; valid = utf8-ascii l (rw (here-part l (x .1 .stands .in-text)) at (part-below 0x80 text (s .to) (length l) h)); stands = x .1 .stands });
+            (x .0, record { value = l; valid = utf8-ascii l (rw (here-part l (x .1 .stands .in-text)) at (part-below 0x80 text (s .to) (length l) (ascii-at text h))); stands = x .1 .stands });
         complete = λ z l v t. c .complete z l (utf8-bytes l v) t;
       }

@@ -1,7 +1,7 @@
 -- The functions in a function: where each begins, and its number.
 use Prim.Native.Nat.{ℕ, zero, suc, _+_, _-_, _≤_, min}
 use mathlib.Core.Path.{_≡_, refl, sym, ap, _∙_}
-use mathlib.Core.List.{List, []}
+use mathlib.Core.List.{List}
 use mathlib.Core.Option.{some}
 use native.Mathlib.Omega.{arith}
 use native.Mathlib.Nat.{add-zero}
@@ -13,7 +13,7 @@ use Rattle.proto.specs.declared.walk.Next.{Next}
 use Rattle.proto.specs.declared.child.Child.{Child}
 use Rattle.proto.specs.Walk.{Stands, StandsAt, item, Skips, totalAll, totalBefore, Passes, PassesAll, children}
 use Rattle.proto.specs.Children.{childNumber, childNext, ChildAt}
-use Rattle.proto.proofs.Pieces.{Same, same-refl, same-sym, same-trans, same-behind, same-assoc, stands-same, stands-left}
+use Rattle.proto.proofs.Pieces.{Same, same-sym, same-trans, same-behind, same-assoc, stands-same, stands-left}
 use Rattle.proto.proofs.Walks.{past-word, past-stands, passes-past, passes-same, passes-then, all-none}
 
 -- ---- the first i functions, and those behind them

@@ -10,22 +10,20 @@ use lib.ListN.{length, take, drop, getD, length-append}
 use lib.Seq.{length-take-le}
 use lib.Dec.{eqb}
 use borrow.Author.Tests.{ne-eqb}
-use Rattle.lent.specs.Memory.{far}
-use Rattle.format.specs.Tree.{Constant as Value, Source, Parts, Function, Functions, count, filled}
-use Rattle.format.specs.Store.{Piece, word, _⊕_, string, pieces, list, ints, sourcePiece, constantPiece, localPiece, debugPiece, packed, functionPiece, functionPieces, childrenPiece}
+use Rattle.format.specs.Tree.{Constant as Value, Source, Parts, Function, Functions, filled}
+use Rattle.format.specs.Store.{Piece, word, _⊕_, string, pieces, list, ints, sourcePiece, constantPiece, localPiece, debugPiece, packed, functionPiece, childrenPiece}
 use Rattle.format.specs.Stored.{part, Here}
 use Rattle.format.specs.Constants.{valueOf, constantWords}
 use Rattle.format.specs.declared.Constant.{Constant}
 use Rattle.format.specs.declared.Constant.the-variants.{Nil, Bool as Truth, Num, String}
-use Rattle.format.specs.Valid.{ValidParts, Valid, ValidAll}
+use Rattle.format.specs.Valid.{ValidParts}
 use Rattle.format.proofs.Stored.{here-left, here-right, here-part, unpacked}
-use Rattle.proto.specs.declared.walk.Next.{Next}
 use Rattle.proto.specs.Walk.{Stands, StandsAt, item, Skips, Past, toCode, toConstants, toFunctions, toLines, toLocals, toUpvalues}
 use Rattle.proto.specs.Constants.{ConstantAt}
 use Rattle.proto.specs.Head.{headOf}
 use Rattle.proto.proofs.Sublists.{here-length, here-get, here-item, here-front, part-clamped}
-use Rattle.proto.proofs.Pieces.{Same, same-sym, same-trans, same-behind, same-assoc, function-debug, stands-same, stands-left, stands-right, source-words, constant-words, pieces-words}
-use Rattle.proto.proofs.Walks.{past-stands, passes-past}
+use Rattle.proto.proofs.Pieces.{Same, same-sym, same-assoc, function-debug, stands-same, stands-left, stands-right, source-words, constant-words, pieces-words}
+use Rattle.proto.proofs.Walks.{past-stands}
 
 -- ---- the lists of a function
 

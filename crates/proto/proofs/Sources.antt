@@ -13,12 +13,12 @@ use borrow.Author.Tests.{eqb-true}
 use Rattle.lent.specs.Memory.{Every}
 use Rattle.lent.proofs.Lists.{every-append}
 use Rattle.format.specs.Tree.{Source, Parts, Function, Functions, count}
-use Rattle.format.specs.Store.{word, sourcePiece, debugPiece, functionPiece, functionPieces, wordsOf, textOf, childrenPiece}
+use Rattle.format.specs.Store.{word, sourcePiece, debugPiece, functionPiece, functionPieces, wordsOf, childrenPiece}
 use Rattle.format.specs.Stored.{part, treeOf}
 use Rattle.format.specs.Undump.{nameOk}
 use Rattle.format.specs.Valid.{depth, Valid, ValidAll, Holds}
 use Rattle.format.specs.Dump.{onTree}
-use Rattle.format.proofs.Stored.{here-left, here-part, tree-holds, holds-tree}
+use Rattle.format.proofs.Stored.{here-part, tree-holds, holds-tree}
 use Rattle.proto.specs.declared.place.Sought.{Sought}
 use Rattle.proto.specs.declared.place.SourceAt.{SourceAt}
 use Rattle.proto.specs.Walk.{Stands, toFunctions, toLines}
@@ -33,13 +33,13 @@ use Rattle.proto.proofs.Calls.{root-stands}
 -- ---- what stands in a store
 
 -- the bytes at a span
-abbrev pub spanned : List ℕ → List ℕ → ℕ → ℕ → ℕ → List ℕ
-spanned text name in-text start end = cond (eqb in-text 1) (part text start (end - start)) (part name start (end - start))
+abbrev pub atSpan : List ℕ → List ℕ → ℕ → ℕ → ℕ → List ℕ
+atSpan text name in-text start end = cond (eqb in-text 1) (part text start (end - start)) (part name start (end - start))
 
 -- a source stands where its span says
 pub record Sourced (text name : List ℕ) (s : Filled) : Type 0 where
   pub ordered : s .span .start ≤ s .span .end
-  pub is : spanned text name (s .span .«in_text») (s .span .start) (s .span .end) ≡ s .bytes
+  pub is : atSpan text name (s .span .«in_text») (s .span .start) (s .span .end) ≡ s .bytes
 
 -- a function that begins at a place stands there, with at most so many nested
 pub record StandsIn (words text name : List ℕ) (allowance : ℕ) (x : Placed) : Type 0 where
@@ -211,23 +211,23 @@ module _ (words text name : List ℕ) (place : ℕ) where
 
   -- what source_at answers leads to what source gives
   pub source-part : (a : SourceAt) → a ≡ sourceAnswer words text name place
-      → (a .start ≤ a .end) × (spanned text name (a .«in_text») (a .start) (a .end) ≡ sourcePart words text name place)
+      → (a .start ≤ a .end) × (atSpan text name (a .«in_text») (a .start) (a .end) ≡ sourcePart words text name place)
   unfolding sourceAnswer sourcePart
   source-part a e = rw e (by-name (nameOk name))
     where
       by-place : (f : Function) → Holds words text f → (x : Option Placed) → functionAt f name place ≡ x
-          → let a = onFunction noSource (λ x. spanAnswer (x .source .span)) x in (a .start ≤ a .end) × (spanned text name (a .«in_text») (a .start) (a .end) ≡ onFunction (λ n. []) (λ x. x .source .bytes) x)
+          → let a = onFunction noSource (λ x. spanAnswer (x .source .span)) x in (a .start ≤ a .end) × (atSpan text name (a .«in_text») (a .start) (a .end) ≡ onFunction (λ n. []) (λ x. x .source .bytes) x)
       by-place f h none e = (omega arith, refl)
       by-place f h (some x) e = let k = function-stands name place x h e .0 .sourced in (k .ordered, k .is)
 
       by-tree : (t : Option Function) → treeOf words text ≡ t
           → let a = onTree noSource (λ f. onFunction noSource (λ x. spanAnswer (x .source .span)) (functionAt f name place)) t in
-          (a .start ≤ a .end) × (spanned text name (a .«in_text») (a .start) (a .end) ≡ onTree (λ n. []) (λ f. onFunction (λ n. []) (λ x. x .source .bytes) (functionAt f name place)) t)
+          (a .start ≤ a .end) × (atSpan text name (a .«in_text») (a .start) (a .end) ≡ onTree (λ n. []) (λ f. onFunction (λ n. []) (λ x. x .source .bytes) (functionAt f name place)) t)
       by-tree none e = (omega arith, refl)
       by-tree (some f) e = by-place f (tree-holds words text f e) (functionAt f name place) refl
 
       by-name : (b : Bool)
           → let a = cond b (onTree noSource (λ f. onFunction noSource (λ x. spanAnswer (x .source .span)) (functionAt f name place)) (treeOf words text)) (noSource 1) in
-          (a .start ≤ a .end) × (spanned text name (a .«in_text») (a .start) (a .end) ≡ cond b (onTree (λ n. []) (λ f. onFunction (λ n. []) (λ x. x .source .bytes) (functionAt f name place)) (treeOf words text)) [])
+          (a .start ≤ a .end) × (atSpan text name (a .«in_text») (a .start) (a .end) ≡ cond b (onTree (λ n. []) (λ f. onFunction (λ n. []) (λ x. x .source .bytes) (functionAt f name place)) (treeOf words text)) [])
       by-name false = (omega arith, refl)
       by-name true = by-tree (treeOf words text) refl

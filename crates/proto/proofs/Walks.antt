@@ -11,7 +11,7 @@ use Rattle.format.specs.Store.{Piece, plain, word, _⊕_, string, pieces, list,
 use Rattle.format.specs.Valid.{Valid, ValidAll}
 use Rattle.format.specs.Stored.{Here}
 use Rattle.format.proofs.Stored.{here-left, here-right}
-use Rattle.proto.specs.Walk.{Stands, Skips, SkipsItems, Past, total, totalAll, Passes, PassesAll, toCode, toFunctions, toLines}
+use Rattle.proto.specs.Walk.{Stands, Skips, SkipsItems, Past, total, totalAll, Passes, PassesAll, toCode, toFunctions}
 use Rattle.proto.specs.Lists.{WalksToLines}
 use Rattle.proto.specs.declared.walk.Next.{Next}
 use Rattle.proto.proofs.Sublists.{here-get}

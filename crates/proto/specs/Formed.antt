@@ -61,10 +61,6 @@ pub record Three (kind a b : ℕ) (w : Words) : Type 0 where
   pub second : w .second ≤ a
   pub third : w .third ≤ b
 
--- every byte is ASCII, and so is what stands past the end
-abbrev pub Ascii : List ℕ → Type 0
-Ascii text = (k : ℕ) → getD text k 0 < 0x80
-
 -- the functions in a function
 pub record ValidChildren (allowance : ℕ) (fs : Functions) : Type 0 where
   pub short : count fs ≤ limit

@@ -1,4 +1,5 @@
 // The functions in a function, looked up by index. The one found last is kept, so that those asked for in order cost one walk.
+// Where no function stands at the place asked the answer is open, since the calls check the store first.
 use crate::walk::Next;
 use crate::walk::pass_all;
 use crate::walk::skip;

@@ -1,4 +1,4 @@
-// The constants of a store.
+// The constants of a store. Where none stands at the place asked the answer is open, since the calls check the store first.
 use crate::formed::is_within;
 use format::Constant;
 ghost use Rattle.proto.specs.Constants.{ConstantAt};

@@ -10,11 +10,12 @@ ghost use mathlib.Core.Bool.{false, true};
 ghost use mathlib.Core.List.{List};
 ghost use Prim.Native.Nat.{ℕ};
 ghost use Rattle.lent.specs.Memory.{Word, Bytes};
+ghost use Rattle.utf8.specs.Utf8.{isAscii};
 ghost use Rattle.format.specs.Store.{_⊕_, string, list, ints, sourcePiece, constantPiece, localPiece, functionPiece, childrenPiece};
 ghost use Rattle.format.specs.Store.{word as wordPiece};
 ghost use Rattle.format.specs.Stored.{treeOf};
 ghost use Rattle.format.specs.Valid.{Name, Valid, ValidSource, ValidConstant, ValidLocal, ValidList};
-ghost use Rattle.proto.specs.Formed.{isHeld, Check, Room, Within, Three, three, Ascii, ValidChildren};
+ghost use Rattle.proto.specs.Formed.{isHeld, Check, Room, Within, Three, three, ValidChildren};
 
 // The greatest word.
 const ANY: u32 = 4294967295;
@@ -162,7 +163,7 @@ fn check_utf8(words: &[u32], text: &[u8], s: Checked) -> Checked
 
 // A string that is UTF-8, as each is where the whole text is ASCII.
 fn check_name(words: &[u32], text: &[u8], ascii: bool, s: Checked) -> Checked
-    requires { ⌜ (ascii ≡ true → Ascii (now text)) ⌝ }
+    requires { ⌜ (ascii ≡ true → isAscii (now text) ≡ true) ⌝ }
     ensures { λ r. ⌜ Check (now (words .entry)) (now (text .entry)) Name string s r ⌝ }
 {
     if ascii {
@@ -173,7 +174,7 @@ fn check_name(words: &[u32], text: &[u8], ascii: bool, s: Checked) -> Checked
 
 // The source of a function: inherited, or its own.
 fn check_source(words: &[u32], text: &[u8], ascii: bool, s: Checked) -> Checked
-    requires { ⌜ (ascii ≡ true → Ascii (now text)) ⌝ }
+    requires { ⌜ (ascii ≡ true → isAscii (now text) ≡ true) ⌝ }
     ensures { λ r. ⌜ Check (now (words .entry)) (now (text .entry)) ValidSource sourcePiece s r ⌝ }
 {
     if word_at(words, s.at) == 0 {
@@ -200,7 +201,7 @@ fn check_constant(words: &[u32], text: &[u8], s: Checked) -> Checked
 
 // A local: its name, start and end.
 fn check_local(words: &[u32], text: &[u8], ascii: bool, s: Checked) -> Checked
-    requires { ⌜ (ascii ≡ true → Ascii (now text)) ⌝ }
+    requires { ⌜ (ascii ≡ true → isAscii (now text) ≡ true) ⌝ }
     ensures { λ r. ⌜ Check (now (words .entry)) (now (text .entry)) ValidLocal localPiece s r ⌝ }
 {
     let name = check_name(words, text, ascii, s);
@@ -245,7 +246,7 @@ fn check_constants(words: &[u32], text: &[u8], s: Checked) -> Checked
 
 // The locals.
 fn check_locals(words: &[u32], text: &[u8], ascii: bool, s: Checked) -> Checked
-    requires { ⌜ (ascii ≡ true → Ascii (now text)) ⌝ }
+    requires { ⌜ (ascii ≡ true → isAscii (now text) ≡ true) ⌝ }
     ensures { λ r. ⌜ Check (now (words .entry)) (now (text .entry)) (ValidList ValidLocal) (list localPiece) s r ⌝ }
 {
     let n = word_at(words, s.at);
@@ -263,7 +264,7 @@ fn check_locals(words: &[u32], text: &[u8], ascii: bool, s: Checked) -> Checked
 
 // The upvalues' names.
 fn check_names(words: &[u32], text: &[u8], ascii: bool, s: Checked) -> Checked
-    requires { ⌜ (ascii ≡ true → Ascii (now text)) ⌝ }
+    requires { ⌜ (ascii ≡ true → isAscii (now text) ≡ true) ⌝ }
     ensures { λ r. ⌜ Check (now (words .entry)) (now (text .entry)) (ValidList (λ n. Name n)) (list string) s r ⌝ }
 {
     let n = word_at(words, s.at);
@@ -281,7 +282,7 @@ fn check_names(words: &[u32], text: &[u8], ascii: bool, s: Checked) -> Checked
 
 // The functions in a function, each with so many nested at most.
 fn check_functions(words: &[u32], text: &[u8], ascii: bool, s: Checked, allowance: u32) -> Checked
-    requires { ⌜ (ascii ≡ true → Ascii (now text)) ⌝ }
+    requires { ⌜ (ascii ≡ true → isAscii (now text) ≡ true) ⌝ }
     ensures { λ r. ⌜ Check (now (words .entry)) (now (text .entry)) (ValidChildren allowance) childrenPiece s r ⌝ }
 {
     let n = word_at(words, s.at);
@@ -299,7 +300,7 @@ fn check_functions(words: &[u32], text: &[u8], ascii: bool, s: Checked, allowanc
 
 // A function.
 fn check_function(words: &[u32], text: &[u8], ascii: bool, s: Checked, allowance: u32) -> Checked
-    requires { ⌜ (ascii ≡ true → Ascii (now text)) ⌝ }
+    requires { ⌜ (ascii ≡ true → isAscii (now text) ≡ true) ⌝ }
     ensures { λ r. ⌜ Check (now (words .entry)) (now (text .entry)) (λ f. Valid f allowance) functionPiece s r ⌝ }
 {
     if allowance == 0 {

@@ -1,4 +1,4 @@
-// The numbers at the head of a function.
+// The numbers at the head of a function. Where none stands at the place asked the answer is open, since the calls check the store first.
 use crate::walk::skip;
 use crate::walk::word_at;
 ghost use mathlib.Core.Path.{_≡_};

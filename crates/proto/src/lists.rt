@@ -1,5 +1,6 @@
 // Where the lists of a function stand. Its lines stand behind the functions in it, which are walked through; on the way the places of the lines of
-// the first function, of the first in that and so on are kept, so that functions one inside the other are walked through once.
+// the first function, of the first in that and so on are kept, so that functions one inside the other are walked through once. Where no function stands at the
+// place asked the answer is open, since the calls check the store first.
 use crate::walk::Next;
 use crate::walk::after_debug;
 use crate::walk::code_at;

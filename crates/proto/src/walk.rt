@@ -1,4 +1,5 @@
-// Where the parts of a function stand. Past the end a word is 0, and no place goes on from there.
+// Where the parts of a function stand. Past the end a word is 0, and no place goes on from there. Each answer is that for every tree that
+// stands at the place asked; where none stands it is open, since the calls check the store first.
 use lent::least;
 ghost use mathlib.Core.List.{List};
 ghost use mathlib.Core.Path.{_≡_};
@@ -137,7 +138,7 @@ pub fn pass_all(words: &[u32], s: Next, n: u32, allowance: u32) -> Next
 }
 
 // Past the function at s.
-pub fn pass(words: &[u32], s: Next, allowance: u32) -> Next
+fn pass(words: &[u32], s: Next, allowance: u32) -> Next
     ensures { λ r. ⌜ ((f : Function) → Valid f allowance → Passes (now (words .entry)) (functionPiece f) (total f) s r) ⌝ }
 {
     if allowance == 0 {

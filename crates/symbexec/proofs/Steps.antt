@@ -63,21 +63,21 @@ module _ {words text : List ℕ} {code x : ℕ} (l : List ℕ) (h : StandsAt wor
 -- ---- the walk
 
 -- the search from pc on gives what the whole gives, with enough steps left
-pub record Left (l : List ℕ) (fs : List Function) (lastpc reg last pc : ℕ) : Type 0 where
+pub record SearchLeft (l : List ℕ) (fs : List Function) (lastpc reg last pc : ℕ) : Type 0 where
   pub left : ℕ
   pub enough : lastpc ≤ left + pc
   pub same : lastWrite l fs lastpc reg left pc last ≡ lastWrite l fs lastpc reg lastpc 0 (length l - 1)
 
 module _ {l : List ℕ} {fs : List Function} {lastpc reg last pc : ℕ} where
-  left-turn : pc < lastpc → {i last′ pc′ : ℕ} → i ≡ getD l pc 0 → last′ ≡ cond (writes i reg) pc last → pc′ ≡ after fs lastpc reg pc i → pc < pc′ → Left l fs lastpc reg last pc → Left l fs lastpc reg last′ pc′
+  left-turn : pc < lastpc → {i last′ pc′ : ℕ} → i ≡ getD l pc 0 → last′ ≡ cond (writes i reg) pc last → pc′ ≡ after fs lastpc reg pc i → pc < pc′ → SearchLeft l fs lastpc reg last pc → SearchLeft l fs lastpc reg last′ pc′
   unfolding lastWrite
   left-turn k {i} {last′} {pc′} e f g m x = by (x .left) (x .enough) (x .same)
     where
-      by : (n : ℕ) → lastpc ≤ n + pc → lastWrite l fs lastpc reg n pc last ≡ lastWrite l fs lastpc reg lastpc 0 (length l - 1) → Left l fs lastpc reg last′ pc′
+      by : (n : ℕ) → lastpc ≤ n + pc → lastWrite l fs lastpc reg n pc last ≡ lastWrite l fs lastpc reg lastpc 0 (length l - 1) → SearchLeft l fs lastpc reg last′ pc′
       by zero h s = absurd (omega arith)
       by (suc n) h s = record { left = n; enough = omega arith; same = rw (f, g, e) (rw (lt-ltb pc lastpc k) at s) }
 
-  left-end : lastpc ≤ pc → Left l fs lastpc reg last pc → last ≡ lastWrite l fs lastpc reg lastpc 0 (length l - 1)
+  left-end : lastpc ≤ pc → SearchLeft l fs lastpc reg last pc → last ≡ lastWrite l fs lastpc reg lastpc 0 (length l - 1)
   unfolding lastWrite
   left-end k x = by (x .left) (x .same)
     where
@@ -88,7 +88,7 @@ module _ {l : List ℕ} {fs : List Function} {lastpc reg last pc : ℕ} where
 -- so for each function whose code and functions stand there, the child kept being one of these
 pub record Traced (words : List ℕ) (code functions lastpc reg last : ℕ) (child : Child) (pc : ℕ) : Type 0 where
   pub kept : ChildAt words functions 0 depth child
-  pub traced : (text l : List ℕ) (fs : Functions) → StandsAt words text code (ints l) → StandsAt words text functions (childrenPiece fs) → ValidAll fs depth → Left l (children fs) lastpc reg last pc
+  pub traced : (text l : List ℕ) (fs : Functions) → StandsAt words text code (ints l) → StandsAt words text functions (childrenPiece fs) → ValidAll fs depth → SearchLeft l (children fs) lastpc reg last pc
 
 module _ {words : List ℕ} {code functions lastpc reg : ℕ} where
   pub trace-start : {last : ℕ} {child : Child} → ((text l : List ℕ) → StandsAt words text code (ints l) → last ≡ length l - 1) → ChildAt words functions 0 depth child → Traced words code functions lastpc reg last child 0

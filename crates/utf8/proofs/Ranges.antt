@@ -40,26 +40,26 @@ matched-begins r row [] = refl
 matched-begins r row (b ∷ bs) = refl
 
 -- k bytes from a place on are in their ranges, and row is left of the ranges behind the lead byte
-pub record Left (all : Row) (s : List ℕ) (at k : ℕ) (row : Row) : Type 0 where
+pub record RowLeft (all : Row) (s : List ℕ) (at k : ℕ) (row : Row) : Type 0 where
   pub within : at + k ≤ length s
   pub bytes : suc (matched all (drop (at + 1) s)) ≡ k + matched row (drop (at + k) s)
 
-pub left-start : {all : Row} (s : List ℕ) (at : ℕ) → at < length s → Left all s at 1 all
+pub left-start : {all : Row} (s : List ℕ) (at : ℕ) → at < length s → RowLeft all s at 1 all
 left-start s at h = record { within = omega arith; bytes = omega arith }
 
 module _ {all : Row} {s : List ℕ} {at k : ℕ} where
-  pub left-more : {r : Range} {row : Row} {t : Bool} → t ≡ begins r (drop (at + k) s) → t ≡ true → Left all s at k (r ∷ row) → Left all s at (k + 1) row
+  pub left-more : {r : Range} {row : Row} {t : Bool} → t ≡ begins r (drop (at + k) s) → t ≡ true → RowLeft all s at k (r ∷ row) → RowLeft all s at (k + 1) row
   left-more {r} {row} e h l =
       let b : begins r (drop (at + k) s) ≡ true = sym e ∙ h in
       let m : matched (r ∷ row) (drop (at + k) s) ≡ suc (matched row (drop (at + (k + 1)) s)) = rw (matched-begins r row (drop (at + k) s), b, drop-drop 1 (at + k) s, add-assoc at k 1) in
       let w = begins-within s (at + k) r b in
       record { within = omega arith; bytes = l .bytes ∙ rw m (omega arith) }
 
-  pub left-stop : {r : Range} {row : Row} {t : Bool} → t ≡ begins r (drop (at + k) s) → t ≡ false → Left all s at k (r ∷ row) → k ≡ suc (matched all (drop (at + 1) s))
+  pub left-stop : {r : Range} {row : Row} {t : Bool} → t ≡ begins r (drop (at + k) s) → t ≡ false → RowLeft all s at k (r ∷ row) → k ≡ suc (matched all (drop (at + 1) s))
   left-stop {r} {row} e h l =
       let m : matched (r ∷ row) (drop (at + k) s) ≡ 0 = rw (matched-begins r row (drop (at + k) s), sym e ∙ h) in
       sym (l .bytes ∙ rw m (omega arith))
 
-  pub left-done : Left all s at k [] → k ≡ suc (matched all (drop (at + 1) s))
+  pub left-done : RowLeft all s at k [] → k ≡ suc (matched all (drop (at + 1) s))
   unfolding matched
   left-done l = sym (l .bytes ∙ omega arith)

@@ -17,7 +17,7 @@ use Rattle.utf8.specs.Rows.{rowOf, secondRange, ranges, begins}
 use Rattle.utf8.specs.Text.{Text, TextEnd}
 use Rattle.utf8.proofs.Ascii.{ascii-every}
 use Rattle.utf8.proofs.Leads.{passes, len-from, step-led}
-use Rattle.utf8.proofs.Ranges.{begins-byte, Left, left-done}
+use Rattle.utf8.proofs.Ranges.{begins-byte, RowLeft, left-done}
 
 -- ---- text from a place on
 
@@ -79,7 +79,7 @@ repair-none s at h = rw (drop-of-length-le s h)
 
 -- a sequence of n bytes, its lead byte in a range whose bytes all lead rows of n
 pub text-led : {s : List ℕ} {at : ℕ} {t : Bool} (n low high : ℕ) → passes (λ b. eqb n (length (rowOf table3-7 b))) low (suc high - low) ≡ true → high < 256
-    → t ≡ begins (low ‥ high) (drop at s) → not t ≡ false → Left (ranges (n - 1) (secondRange (getD s at 0))) s at n [] → Text s at (at + n)
+    → t ≡ begins (low ‥ high) (drop at s) → not t ≡ false → RowLeft (ranges (n - 1) (secondRange (getD s at 0))) s at n [] → Text s at (at + n)
 text-led {s} {at} {t} n low high p k e h l =
     let b = begins-byte s at (low ‥ high) (sym e ∙ not-false t h) in
     text-step s at (b .0) (step-led s at n n (b .0) (omega arith) (len-from n low high p (getD s at 0) (b .1) (b .2)) (left-done l)) (rw (eq-eqb n n refl))

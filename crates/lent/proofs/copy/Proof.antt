@@ -2,7 +2,7 @@
 use borrow.Author.Needs.{needs}
 use native.Mathlib.Omega.{arith}
 use Prim.Native.Nat.{_+_, _-_}
-use mathlib.Core.Path.{_≡_, refl, _∙_}
+use mathlib.Core.Path.{_≡_, refl}
 use Rattle.lent.proofs.Writes.{sets-four}
 use Rattle.lent.proofs.copy.Statement.{statement}
 use Rattle.lent.proofs.copy.Tie as tie

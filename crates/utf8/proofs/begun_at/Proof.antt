@@ -7,12 +7,12 @@ use lib.ListN.{getD}
 use Rattle.utf8.specs.Utf8.{_‥_}
 use Rattle.utf8.specs.Rows.{ranges, secondRange}
 use Rattle.utf8.proofs.Leads.{ranges-more, ranges-none}
-use Rattle.utf8.proofs.Ranges.{Left, left-start, left-more, left-stop, left-done}
+use Rattle.utf8.proofs.Ranges.{RowLeft, left-start, left-more, left-stop, left-done}
 use Rattle.utf8.proofs.begun_at.Statement.{statement}
 use Rattle.utf8.proofs.begun_at.Tie as tie
 
 abbrev Inv-loop : tie.InvT-loop
-Inv-loop bytes at n b low₀ high₀ k₀ low high k = Left (ranges (n - 1) (secondRange (getD bytes at 0))) bytes at k (ranges (n - k) (low ‥ high))
+Inv-loop bytes at n b low₀ high₀ k₀ low high k = RowLeft (ranges (n - 1) (secondRange (getD bytes at 0))) bytes at k (ranges (n - k) (low ‥ high))
 
 abbrev μ-loop : tie.MeasureT-loop
 μ-loop bytes at n b low₀ high₀ k₀ low high k = n - k

@@ -12,7 +12,7 @@ use Rattle.format.proofs.Loops.{Loop, loop-start, loop-turn, loop-end}
 use Rattle.proto.proofs.Walks.{none-deep}
 use Rattle.dump.specs.Step.{reached}
 use Rattle.dump.proofs.Steps.{DumpsAll, all-none, all-more}
-use Rattle.dump.proofs.StepNeeds.{Left, count-fits, left-start, left-item, left-more}
+use Rattle.dump.proofs.StepNeeds.{NeedsLeft, count-fits, left-start, left-item, left-more}
 use Rattle.dump.proofs.Functions.{constants-dumped, function-dumped, source-ready, line-ready, last-ready, packed-ready, code-ready, constants-ready, debug-ready, values-ready, children-ready}
 use borrow.Fn.Kinds.{In}
 use borrow.Fn.PlainCycle.{Measures, is, falls, and}
@@ -74,7 +74,7 @@ abbrev dump-function-calls : ℕ → dump-function-lts.Claims
 dump-function-calls t = (own-source-reads.Asked, own-source-reads.Learnt, dump-source-reads.Asked, dump-source-reads.Learnt, dump-word-reads.Asked, dump-word-reads.Learnt, dump-packed-reads.Asked, dump-packed-reads.Learnt, dump-code-reads.Asked, dump-code-reads.Learnt, dump-constants-below t, dump-constants.Post, dump-debug-reads.Asked, dump-debug-reads.Learnt)
 
 abbrev dump-constants-Inv-loop : dump-constants-lts.InvT-loop
-dump-constants-Inv-loop words text strip source out₀ allowance n p₀ i₀ out p i = (length out ≡ length out₀) × Loop (DumpsAll words text (λ f. Valid f allowance) functionPiece (λ f. dumpFunction f strip source source)) n (reached p₀ out₀) i (reached p out) × Left words text (λ f. Valid f allowance) functionPiece (λ f. dumpFunction f strip source source) (n - i) (reached p out)
+dump-constants-Inv-loop words text strip source out₀ allowance n p₀ i₀ out p i = (length out ≡ length out₀) × Loop (DumpsAll words text (λ f. Valid f allowance) functionPiece (λ f. dumpFunction f strip source source)) n (reached p₀ out₀) i (reached p out) × NeedsLeft words text (λ f. Valid f allowance) functionPiece (λ f. dumpFunction f strip source source) (n - i) (reached p out)
 
 abbrev dump-constants-μ-loop : dump-constants-lts.MeasureT-loop
 dump-constants-μ-loop words text strip source out₀ allowance n p₀ i₀ out p i = n - i

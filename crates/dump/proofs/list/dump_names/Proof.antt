@@ -8,12 +8,12 @@ use Rattle.format.specs.Write.{dumpText}
 use Rattle.format.proofs.Loops.{Loop, loop-start, loop-turn, loop-end}
 use Rattle.dump.specs.Step.{reached, Any}
 use Rattle.dump.proofs.Steps.{DumpsAll, every-any, all-none, all-more, counted}
-use Rattle.dump.proofs.StepNeeds.{Left, count-fits, left-start, left-item, left-more, name-fits}
+use Rattle.dump.proofs.StepNeeds.{NeedsLeft, count-fits, left-start, left-item, left-more, name-fits}
 use Rattle.dump.proofs.list.dump_names.Statement.{statement}
 use Rattle.dump.proofs.list.dump_names.Tie as tie
 
 abbrev Inv-loop : tie.InvT-loop
-Inv-loop words text out₀ at n p₀ i₀ out p i = (length out ≡ length out₀) × Loop (DumpsAll words text Any string dumpText) n (reached p₀ out₀) i (reached p out) × Left words text Any string dumpText (n - i) (reached p out)
+Inv-loop words text out₀ at n p₀ i₀ out p i = (length out ≡ length out₀) × Loop (DumpsAll words text Any string dumpText) n (reached p₀ out₀) i (reached p out) × NeedsLeft words text Any string dumpText (n - i) (reached p out)
 
 abbrev μ-loop : tie.MeasureT-loop
 μ-loop words text out₀ at n p₀ i₀ out p i = n - i

@@ -9,7 +9,7 @@ use Rattle.format.specs.Store.{pieces, constantPiece}
 use Rattle.format.proofs.Loops.{Loop, loop-start, loop-turn, loop-stop, loop-end}
 use Rattle.load.specs.Loads.{world}
 use Rattle.load.proofs.Steps.{passed}
-use Rattle.load_function.proofs.Lists.{LoadsAll, plain-items, loads-none, loads-more, listed}
+use Rattle.load_function.proofs.Lists.{LoadsAll, plain-items, loads-none, loads-more, list-loaded}
 use Rattle.load_function.proofs.list.load_pool.Statement.{statement}
 use Rattle.load_function.proofs.list.load_pool.Tie as tie
 
@@ -34,7 +34,7 @@ same-length-2 : tie.Need-same-length-2 Inv-loop μ-loop
 same-length-2 c = c .before .before .before .loop .inv .2
 
 returns : tie.Need-returns Inv-loop μ-loop
-returns c = listed (many loadConstant) (c .before .before .before .before .before .before .before .copy-count .ensures _) (loop-stop (omega arith) (c .before .before .before .loop .inv .3) (λ k. passed (omega arith) refl))
+returns c = list-loaded (many loadConstant) (c .before .before .before .before .before .before .before .copy-count .ensures _) (loop-stop (omega arith) (c .before .before .before .loop .inv .3) (λ k. passed (omega arith) refl))
 
 copy-constant-requires : tie.Need-copy-constant-requires Inv-loop μ-loop
 copy-constant-requires c κs = search needs
@@ -58,7 +58,7 @@ same-length-4 : tie.Need-same-length-4 Inv-loop μ-loop
 same-length-4 c = c .before .loop .inv .2
 
 returns-2 : tie.Need-returns-2 Inv-loop μ-loop
-returns-2 c = listed (many loadConstant) (c .before .before .before .before .before .copy-count .ensures _) (loop-end (omega arith) (c .before .loop .inv .3) (loads-none (plain-items loadConstant constantPiece)))
+returns-2 c = list-loaded (many loadConstant) (c .before .before .before .before .before .copy-count .ensures _) (loop-end (omega arith) (c .before .loop .inv .3) (loads-none (plain-items loadConstant constantPiece)))
 
 pub load-pool-spec : {M : Type 1} → statement M
 load-pool-spec =

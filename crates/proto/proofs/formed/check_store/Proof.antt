@@ -2,7 +2,6 @@
 use borrow.Author.Needs.{needs}
 use native.Mathlib.Omega.{arith}
 use mathlib.Core.Path.{sym, _∙_}
-use Rattle.utf8.proofs.Ascii.{ascii-at}
 use Rattle.proto.proofs.Checks.{never}
 use Rattle.proto.proofs.Stores.{held-no, store-passed, store-held}
 use Rattle.proto.proofs.formed.check_store.Statement.{statement}
@@ -18,7 +17,7 @@ is-ascii-requires : tie.Need-is-ascii-requires
 is-ascii-requires c κs = search needs
 
 check-function-requires : tie.Need-check-function-requires
-check-function-requires c κs e = ascii-at _ (sym (c .is-ascii .ensures) ∙ e)
+check-function-requires c κs e = sym (c .is-ascii .ensures) ∙ e
 
 returns-3 : tie.Need-returns-3
 returns-3 c = store-held (c .before .before .before .before .check-function .ensures) (c .before .before .before .if3 .taken) (omega arith) (omega arith) (omega arith)

@@ -1,5 +1,4 @@
 use borrow.Author.Needs.{needs}
-use native.Mathlib.Omega.{arith}
 use Rattle.proto.proofs.Items.{ints-here}
 use mathlib.Core.Path.{refl}
 use Rattle.proto.proofs.walk.ints_at.Statement.{statement}
