@@ -1,5 +1,5 @@
 //! compare_names DIR: asks the questions of DIR/N.cases, which names.rs writes, through the exported calls, and compares the answers with
-//! DIR/N.expected. The form of a case stands in crates/names/src/main.rt. Four bytes around each output must stay as they are.
+//! DIR/N.expected. The form of a case stands in crates/test_names/src/main.rt. Four bytes around each output must stay as they are.
 
 use std::fmt::Write as _;
 

@@ -1,10 +1,10 @@
-//! Writes records for the program `replay`: UTF-8 validity and repair as std gives them, instruction fields and opcode
+//! Writes records for the program `test_leaves`: UTF-8 validity and repair as std gives them, instruction fields and opcode
 //! attributes as rilua's instructions.rs gives them.
 //!
 //!     leaves gate > FILE      the records that the gate replays
 //!     leaves many DIR         some two million more, in files of at most 65,536 bytes
 //!
-//! The form of a record stands in crates/replay/src/main.rt. The output is the same at each run.
+//! The form of a record stands in crates/test_leaves/src/main.rt. The output is the same at each run.
 
 use std::fs::File;
 use std::io::{Result, Write};

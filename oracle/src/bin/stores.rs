@@ -1,9 +1,9 @@
-//! Writes cases for the program `readstores`, and the lines that it must write for them.
+//! Writes cases for the program `test_source_at`, and the lines that it must write for them.
 //!
 //!     stores cases > FILE      the cases
 //!     stores expected > FILE   their lines
 //!
-//! The form of a case stands in crates/readstores/src/main.rt. The Rust has no stores: the layout, the check and the search for
+//! The form of a case stands in crates/test_source_at/src/main.rt. The Rust has no stores: the layout, the check and the search for
 //! a source are written here from the scope, over plain vectors.
 
 use oracle::made::store_case;
