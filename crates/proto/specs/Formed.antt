@@ -1,10 +1,10 @@
 -- Whether a store is well formed, and what a step of the check answers.
-use Prim.Native.Nat.{ℕ, _+_, _-_, _≤_, _<_}
+use Prim.Native.Nat.{ℕ, _+_, _-_, _≤_}
 use mathlib.Core.Path.{_≡_}
 use mathlib.Core.List.{List, [], _∷_}
 use mathlib.Core.Bool.{Bool, true, false}
 use mathlib.Core.Option.{Option, none, some}
-use lib.ListN.{length, getD}
+use lib.ListN.{length}
 use Rattle.format.specs.Tree.{Function, Functions, count}
 use Rattle.format.specs.Read.{limit}
 use Rattle.format.specs.Store.{Piece, plain}
