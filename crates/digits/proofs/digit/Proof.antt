@@ -4,12 +4,6 @@ use borrow.Author.Tests.{lt-ltb, le-ltb}
 use Rattle.digits.proofs.digit.Statement.{statement}
 use Rattle.digits.proofs.digit.Tie as tie
 
-add-result : tie.Need-add-result
-add-result c = search needs
-
-add-result-2 : tie.Need-add-result-2
-add-result-2 c = search needs
-
 returns : tie.Need-returns
 returns c = simp (lt-ltb _ _ (c .if1 .taken))
 
@@ -17,4 +11,6 @@ returns-2 : tie.Need-returns-2
 returns-2 c = simp (le-ltb _ _ (c .if1 .left))
 
 pub digit-spec : {M : Type 1} → statement M
-digit-spec = tie.close (tie.spec add-result add-result-2 returns returns-2)
+digit-spec = tie.close (tie.spec
+    (λ c. search needs) (λ c. search needs)  -- add-result, add-result-2
+    returns returns-2)

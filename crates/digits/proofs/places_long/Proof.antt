@@ -16,12 +16,6 @@ abbrev μ-loop : tie.MeasureT-loop
 loop-holds : tie.Need-loop-holds Inv-loop μ-loop
 loop-holds c = (omega arith, omega arith, refl)
 
-add-k : tie.Need-add-k Inv-loop μ-loop
-add-k c = omega arith
-
-loop-less : tie.Need-loop-less Inv-loop μ-loop
-loop-less c = omega arith
-
 loop-again : tie.Need-loop-again Inv-loop μ-loop
 loop-again c = (omega arith, omega arith, omega (arith, places-more (c .before .loop .left) (omega arith) (omega arith)))
 
@@ -29,4 +23,6 @@ returns : tie.Need-returns Inv-loop μ-loop
 returns c = omega (arith, places-one (c .before .loop .left) (omega arith))
 
 pub places-long-spec : {M : Type 1} → statement M
-places-long-spec = tie.close (tie.spec Inv-loop μ-loop loop-holds add-k loop-less loop-again returns)
+places-long-spec = tie.close (tie.spec Inv-loop μ-loop loop-holds
+    (λ c. omega arith) (λ c. omega arith)  -- add-k, loop-less
+    loop-again returns)

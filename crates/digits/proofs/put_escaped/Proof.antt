@@ -19,53 +19,21 @@ abbrev μ-loop : tie.MeasureT-loop
 loop-holds : tie.Need-loop-holds Inv-loop μ-loop
 loop-holds c = (omega arith, refl, rest-start)
 
-plain-end-requires : tie.Need-plain-end-requires Inv-loop μ-loop
-plain-end-requires c κs = omega arith
-
-sub-put-bytes : tie.Need-sub-put-bytes Inv-loop μ-loop
-sub-put-bytes c = omega arith
-
-part-put-bytes-start : tie.Need-part-put-bytes-start Inv-loop μ-loop
-part-put-bytes-start c = omega arith
-
-part-put-bytes-end : tie.Need-part-put-bytes-end Inv-loop μ-loop
-part-put-bytes-end c = omega arith
-
-put-bytes-requires : tie.Need-put-bytes-requires Inv-loop μ-loop
-put-bytes-requires c κs = search needs
-
 same-length : tie.Need-same-length Inv-loop μ-loop
 same-length c =
-    let c₁ = c .before .before .before in
-    let c₂ = c₁ .before .before .before .before .before in
+    let c₁ = c .before .before .before in let c₂ = c₁ .before .before .before .before .before in
     c₁ .put-bytes .kept .0 ∙ c₂ .loop .inv .1
 
 returns : tie.Need-returns Inv-loop μ-loop
 returns c =
-    let c₁ = c .before .before .before in
-    let c₂ = c₁ .before .before .before in
-    let c₃ = c₂ .before .before in
+    let c₁ = c .before .before .before in let c₂ = c₁ .before .before .before in let c₃ = c₂ .before .before in
     let c₄ = c₃ .before .before .before in
     rest-end (escaped-none (c₄ .args .s .now) (c₂ .plain-end .result) (omega arith)) (rest-put _ (c₂ .plain-end .ensures .same) (c₃ .loop .inv .2) (c₁ .put-bytes .ensures))
 
-shared-slice-read-put-escape : tie.Need-shared-slice-read-put-escape Inv-loop μ-loop
-shared-slice-read-put-escape c = omega arith
-
-put-escape-requires : tie.Need-put-escape-requires Inv-loop μ-loop
-put-escape-requires c κs = search needs
-
-add-i : tie.Need-add-i Inv-loop μ-loop
-add-i c = omega arith
-
-loop-less : tie.Need-loop-less Inv-loop μ-loop
-loop-less c = omega arith
-
 loop-again : tie.Need-loop-again Inv-loop μ-loop
 loop-again c =
-    let c₁ = c .before .before in
-    let c₂ = c₁ .before .before .before .before .before .before in
-    let c₃ = c₂ .before .before .before in
-    let c₄ = c₃ .before .before in
+    let c₁ = c .before .before in let c₂ = c₁ .before .before .before .before .before .before in
+    let c₃ = c₂ .before .before .before in let c₄ = c₃ .before .before in
     let c₅ = c₄ .before .before .before in (
       omega arith,
       c₁ .put-escape .kept .0 ∙ c₂ .put-bytes .kept .0 ∙ c₄ .loop .inv .1,
@@ -81,23 +49,10 @@ returns-2 : tie.Need-returns-2 Inv-loop μ-loop
 returns-2 c = rest-end (escaped-none (c .before .before .before .before .args .s .now) (c .before .loop .i) (omega arith)) (c .before .loop .inv .2)
 
 pub put-escaped-spec : {M : Type 1} → statement M
-put-escaped-spec =
-    tie.close
-    (tie.spec
-    Inv-loop
-    μ-loop
-    loop-holds
-    plain-end-requires
-    sub-put-bytes
-    part-put-bytes-start
-    part-put-bytes-end
-    put-bytes-requires
-    same-length
-    returns
-    shared-slice-read-put-escape
-    put-escape-requires
-    add-i
-    loop-less
-    loop-again
-    same-length-2
-    returns-2)
+put-escaped-spec = tie.close (tie.spec Inv-loop μ-loop loop-holds
+    (λ c. omega arith) (λ c. omega arith) (λ c. omega arith)  -- plain-end-requires, sub-put-bytes, part-put-bytes-start
+    (λ c. omega arith) (λ c. search needs)  -- part-put-bytes-end, put-bytes-requires
+    same-length returns
+    (λ c. omega arith) (λ c. search needs)  -- shared-slice-read-put-escape, put-escape-requires
+    (λ c. omega arith) (λ c. omega arith)  -- add-i, loop-less
+    loop-again same-length-2 returns-2)

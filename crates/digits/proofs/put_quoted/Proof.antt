@@ -4,26 +4,14 @@ use Rattle.lent.proofs.Writes.{put-then}
 use Rattle.digits.proofs.put_quoted.Statement.{statement}
 use Rattle.digits.proofs.put_quoted.Tie as tie
 
-put-byte-requires : tie.Need-put-byte-requires
-put-byte-requires c κs = search needs
-
-put-escaped-requires : tie.Need-put-escaped-requires
-put-escaped-requires c κs = search needs
-
-put-byte-requires-2 : tie.Need-put-byte-requires-2
-put-byte-requires-2 c κs = search needs
-
-same-length : tie.Need-same-length
-same-length c = search needs
-
 returns : tie.Need-returns
 returns c =
-    let c₁ = c .before .before in
-    let c₂ = c₁ .before .before .before .before in
+    let c₁ = c .before .before in let c₂ = c₁ .before .before .before .before in
     let c₃ = c₂ .before .before .before .before in
     put-then (c₃ .put-byte .ensures) (put-then (c₂ .put-escaped .ensures) (c₁ .put-byte2 .ensures))
 
 pub put-quoted-spec : {M : Type 1} → statement M
-put-quoted-spec =
-    tie.close
-    (tie.spec put-byte-requires put-escaped-requires put-byte-requires-2 same-length returns)
+put-quoted-spec = tie.close (tie.spec
+    (λ c. search needs) (λ c. search needs)  -- put-byte-requires, put-escaped-requires
+    (λ c. search needs) (λ c. search needs)  -- put-byte-requires-2, same-length
+    returns)

@@ -6,17 +6,10 @@ use Rattle.digits.proofs.Rooms.{fit-byte}
 use Rattle.digits.proofs.store_byte.Statement.{statement}
 use Rattle.digits.proofs.store_byte.Tie as tie
 
-slice-write-out : tie.Need-slice-write-out
-slice-write-out c = search needs
-
-add-result : tie.Need-add-result
-add-result c = search needs
-
-same-length : tie.Need-same-length
-same-length c = search needs
-
 returns : tie.Need-returns
 returns c = fit-byte (omega arith) (omega arith) refl
 
 pub store-byte-spec : {M : Type 1} → statement M
-store-byte-spec = tie.close (tie.spec slice-write-out add-result same-length returns)
+store-byte-spec = tie.close (tie.spec
+    (λ c. search needs) (λ c. search needs) (λ c. search needs)  -- slice-write-out, add-result, same-length
+    returns)

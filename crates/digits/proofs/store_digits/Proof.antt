@@ -19,12 +19,6 @@ abbrev μ-loop : tie.MeasureT-loop
 loop-holds : tie.Need-loop-holds Inv-loop μ-loop
 loop-holds c = (omega arith, refl, refl)
 
-sub-i : tie.Need-sub-i Inv-loop μ-loop
-sub-i c = omega arith
-
-rem-digit : tie.Need-rem-digit Inv-loop μ-loop
-rem-digit c = omega arith
-
 cast-digit : tie.Need-cast-digit Inv-loop μ-loop
 cast-digit c =
     let h : 0 < c .before .before .before .args .base = omega arith in
@@ -34,18 +28,6 @@ digit-requires : tie.Need-digit-requires Inv-loop μ-loop
 digit-requires c κs =
     let h : 0 < c .before .before .before .args .base = omega arith in
     omega (arith, mod-lt (c .before .loop .left) h)
-
-add-out : tie.Need-add-out Inv-loop μ-loop
-add-out c = omega arith
-
-slice-write-out : tie.Need-slice-write-out Inv-loop μ-loop
-slice-write-out c = omega arith
-
-div-left : tie.Need-div-left Inv-loop μ-loop
-div-left c = omega arith
-
-loop-less : tie.Need-loop-less Inv-loop μ-loop
-loop-less c = omega arith
 
 loop-again : tie.Need-loop-again Inv-loop μ-loop
 loop-again c =
@@ -63,20 +45,9 @@ returns c =
     rw e at (c .before .loop .inv .2)
 
 pub store-digits-spec : {M : Type 1} → statement M
-store-digits-spec =
-    tie.close
-    (tie.spec
-    Inv-loop
-    μ-loop
-    loop-holds
-    sub-i
-    rem-digit
-    cast-digit
-    digit-requires
-    add-out
-    slice-write-out
-    div-left
-    loop-less
-    loop-again
-    same-length
-    returns)
+store-digits-spec = tie.close (tie.spec Inv-loop μ-loop loop-holds
+    (λ c. omega arith) (λ c. omega arith)  -- sub-i, rem-digit
+    cast-digit digit-requires
+    (λ c. omega arith) (λ c. omega arith) (λ c. omega arith)  -- add-out, slice-write-out, div-left
+    (λ c. omega arith)  -- loop-less
+    loop-again same-length returns)

@@ -7,21 +7,13 @@ use Rattle.digits.proofs.Rooms.{fit-last}
 use Rattle.digits.proofs.store_two.Statement.{statement}
 use Rattle.digits.proofs.store_two.Tie as tie
 
-store-last-requires : tie.Need-store-last-requires
-store-last-requires c κs = search needs
-
-store-last-requires-2 : tie.Need-store-last-requires-2
-store-last-requires-2 c κs = search needs
-
-same-length : tie.Need-same-length
-same-length c = search needs
-
 returns : tie.Need-returns
 returns c =
-    let c₁ = c .before .before in
-    let c₂ = c₁ .before .before .before .before in
-    let c₃ = c₂ .before .before .before in
+    let c₁ = c .before .before in let c₂ = c₁ .before .before .before .before in let c₃ = c₂ .before .before .before in
     fit-last (c₃ .args .n) {m = 1} (omega arith) (omega arith) (rw (decimal-one (c₃ .args .n / 10) (omega arith)) (c₂ .store-last .ensures)) (c₁ .store-last2 .ensures)
 
 pub store-two-spec : {M : Type 1} → statement M
-store-two-spec = tie.close (tie.spec store-last-requires store-last-requires-2 same-length returns)
+store-two-spec = tie.close (tie.spec
+    (λ c. search needs) (λ c. search needs)  -- store-last-requires, store-last-requires-2
+    (λ c. search needs)  -- same-length
+    returns)

@@ -7,9 +7,6 @@ use Rattle.digits.proofs.Numbers.{places-most, length-digits}
 use Rattle.digits.proofs.width.Statement.{statement}
 use Rattle.digits.proofs.width.Tie as tie
 
-places-requires : tie.Need-places-requires
-places-requires c κs = search needs
-
 returns : tie.Need-returns
 returns c =
     let n = c .before .args .n in
@@ -17,4 +14,6 @@ returns c =
     record { is = e ∙ sym (length-digits 10 (places n) n); upto = omega (arith, places-most 20 9 n (omega arith)) }
 
 pub width-spec : {M : Type 1} → statement M
-width-spec = tie.close (tie.spec places-requires returns)
+width-spec = tie.close (tie.spec
+    (λ c. search needs)  -- places-requires
+    returns)

@@ -6,11 +6,10 @@ use Rattle.dump.proofs.Calls.{chunk-puts}
 use Rattle.dump.proofs.count_chunk.Statement.{statement}
 use Rattle.dump.proofs.count_chunk.Tie as tie
 
-count-function-requires : tie.Need-count-function-requires
-count-function-requires c κs = search needs
-
 returns : tie.Need-returns
 returns c = chunk-puts (c .before .before .before .before .args .strip) (c .before .before .before .before .args .name .now) (puts-counted refl) (c .count-function .ensures)
 
 pub count-chunk-spec : {M : Type 1} → statement M
-count-chunk-spec = tie.close (tie.spec count-function-requires returns)
+count-chunk-spec = tie.close (tie.spec
+    (λ c. search needs)  -- count-function-requires
+    returns)

@@ -9,20 +9,16 @@ dump-header-requires c κs = header-fits (c .before .before .before .before .bef
 
 dump-function-requires : tie.Need-dump-function-requires
 dump-function-requires c κs =
-    let c₁ = c .before .before .before in
-    let c₂ = c₁ .before .before .before .before .before .before in
+    let c₁ = c .before .before .before in let c₂ = c₁ .before .before .before .before .before .before in
     root-ready (c₂ .pre) (c₁ .dump-header .ensures)
-
-same-length : tie.Need-same-length
-same-length c = search needs
 
 returns : tie.Need-returns
 returns c =
-    let c₁ = c .before .before in
-    let c₂ = c₁ .before .before .before .before in
+    let c₁ = c .before .before in let c₂ = c₁ .before .before .before .before in
     let c₃ = c₂ .before .before .before .before .before .before in
     chunk-puts (c₃ .args .strip) (c₃ .args .name .now) (c₂ .dump-header .ensures) (c₁ .dump-function .ensures)
 
 pub dump-chunk-spec : {M : Type 1} → statement M
-dump-chunk-spec =
-    tie.close (tie.spec dump-header-requires dump-function-requires same-length returns)
+dump-chunk-spec = tie.close (tie.spec dump-header-requires dump-function-requires
+    (λ c. search needs)  -- same-length
+    returns)

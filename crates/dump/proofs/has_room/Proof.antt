@@ -13,9 +13,6 @@ returns c = λ e. absurd (false≢true e)
 returns-2 : tie.Need-returns-2
 returns-2 c = λ e. absurd (false≢true e)
 
-sub-left : tie.Need-sub-left
-sub-left c = search needs
-
 returns-3 : tie.Need-returns-3
 returns-3 c = λ e. absurd (false≢true e)
 
@@ -25,4 +22,6 @@ returns-4 c =
     room-left (c₁ .args .space) (c₁ .args .words) (c₁ .args .a) (c₁ .args .b) (omega arith) (omega arith) (omega arith)
 
 pub has-room-spec : {M : Type 1} → statement M
-has-room-spec = tie.close (tie.spec returns returns-2 sub-left returns-3 returns-4)
+has-room-spec = tie.close (tie.spec returns returns-2
+    (λ c. search needs)  -- sub-left
+    returns-3 returns-4)

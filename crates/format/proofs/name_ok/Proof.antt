@@ -3,9 +3,6 @@ use borrow.Author.Needs.{needs}
 use Rattle.format.proofs.name_ok.Statement.{statement}
 use Rattle.format.proofs.name_ok.Tie as tie
 
-is-utf8-requires : tie.Need-is-utf8-requires
-is-utf8-requires c κs = search needs
-
 returns : tie.Need-returns
 returns c = rw (← c .before .is-utf8 .ensures, c .if1 .taken)
 
@@ -13,4 +10,6 @@ returns-2 : tie.Need-returns-2
 returns-2 c = rw (← c .before .is-utf8 .ensures, c .if1 .left)
 
 pub name-ok-spec : {M : Type 1} → statement M
-name-ok-spec = tie.close (tie.spec is-utf8-requires returns returns-2)
+name-ok-spec = tie.close (tie.spec
+    (λ c. search needs)  -- is-utf8-requires
+    returns returns-2)

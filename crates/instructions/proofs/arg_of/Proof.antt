@@ -9,19 +9,12 @@ use Rattle.instructions.specs.declared.OpArgMask.the-variants.{N, U, R, 
 use Rattle.instructions.proofs.arg_of.Statement.{statement}
 use Rattle.instructions.proofs.arg_of.Tie as tie
 
-returns : tie.Need-returns
-returns c = search needs
-
-returns-2 : tie.Need-returns-2
-returns-2 c = search needs
-
-returns-3 : tie.Need-returns-3
-returns-3 c = search needs
-
 returns-4 : tie.Need-returns-4
 returns-4 c =
     let past : 3 ≤ c .before .args .n = omega arith in
     sym (List·getD-eq-default (N ∷ U ∷ R ∷ []) K past)
 
 pub arg-of-spec : {M : Type 1} → statement M
-arg-of-spec = tie.close (tie.spec returns returns-2 returns-3 returns-4)
+arg-of-spec = tie.close (tie.spec
+    (λ c. search needs) (λ c. search needs) (λ c. search needs)  -- returns, returns-2, returns-3
+    returns-4)

@@ -5,12 +5,6 @@ use Rattle.instructions.proofs.Laws.{one-shifted}
 use Rattle.instructions.proofs.field.Statement.{statement}
 use Rattle.instructions.proofs.field.Tie as tie
 
-shr-result : tie.Need-shr-result
-shr-result c = search needs
-
-shl-result : tie.Need-shl-result
-shl-result c = search needs
-
 rem-result : tie.Need-rem-result
 rem-result c = rw (one-shifted (c .args .size) (c .pre .1)) (pow-pos (c .args .size))
 
@@ -18,4 +12,6 @@ returns : tie.Need-returns
 returns c = rw (one-shifted (c .args .size) (c .pre .1))
 
 pub field-spec : {M : Type 1} → statement M
-field-spec = tie.close (tie.spec shr-result shl-result rem-result returns)
+field-spec = tie.close (tie.spec
+    (λ c. search needs) (λ c. search needs)  -- shr-result, shl-result
+    rem-result returns)

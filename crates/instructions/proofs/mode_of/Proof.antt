@@ -9,16 +9,12 @@ use Rattle.instructions.specs.declared.OpMode.the-variants.{IABC, IABx, 
 use Rattle.instructions.proofs.mode_of.Statement.{statement}
 use Rattle.instructions.proofs.mode_of.Tie as tie
 
-returns : tie.Need-returns
-returns c = search needs
-
-returns-2 : tie.Need-returns-2
-returns-2 c = search needs
-
 returns-3 : tie.Need-returns-3
 returns-3 c =
     let past : 2 ≤ c .before .args .n = omega arith in
     sym (List·getD-eq-default (IABC ∷ IABx ∷ []) IAsBx past)
 
 pub mode-of-spec : {M : Type 1} → statement M
-mode-of-spec = tie.close (tie.spec returns returns-2 returns-3)
+mode-of-spec = tie.close (tie.spec
+    (λ c. search needs) (λ c. search needs)  -- returns, returns-2
+    returns-3)

@@ -4,19 +4,12 @@ use borrow.Author.Needs.{needs}
 use Rattle.instructions.proofs.modes_of_byte.Statement.{statement}
 use Rattle.instructions.proofs.modes_of_byte.Tie as tie
 
-mode-of-requires : tie.Need-mode-of-requires
-mode-of-requires c κs = search needs
-
-arg-of-requires : tie.Need-arg-of-requires
-arg-of-requires c κs = search needs
-
-arg-of-requires-2 : tie.Need-arg-of-requires-2
-arg-of-requires-2 c κs = search needs
-
 returns : tie.Need-returns
 returns c =
     let m = c .before .before .before .args .m in
     rw (c .before .before .mode-of .ensures, c .before .arg-of .ensures, c .arg-of2 .ensures, div-one m)
 
 pub modes-of-byte-spec : {M : Type 1} → statement M
-modes-of-byte-spec = tie.close (tie.spec mode-of-requires arg-of-requires arg-of-requires-2 returns)
+modes-of-byte-spec = tie.close (tie.spec
+    (λ c. search needs) (λ c. search needs) (λ c. search needs)  -- mode-of-requires, arg-of-requires, arg-of-requires-2
+    returns)

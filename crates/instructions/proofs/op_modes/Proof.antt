@@ -6,20 +6,8 @@ use Rattle.instructions.proofs.Table.{looked-up}
 use Rattle.instructions.proofs.op_modes.Statement.{statement}
 use Rattle.instructions.proofs.op_modes.Tie as tie
 
-op-mode-bytes-requires : tie.Need-op-mode-bytes-requires
-op-mode-bytes-requires c κs = search needs
-
-or-move-requires : tie.Need-or-move-requires
-or-move-requires c κs = search needs
-
-cast-n : tie.Need-cast-n
-cast-n c = search needs
-
 array-read-modes-of-byte : tie.Need-array-read-modes-of-byte
 array-read-modes-of-byte c = rw (c .or-move .ensures) (opcode-known (c .before .before .args .op))
-
-modes-of-byte-requires : tie.Need-modes-of-byte-requires
-modes-of-byte-requires c κs = search needs
 
 returns : tie.Need-returns
 returns c =
@@ -29,12 +17,8 @@ returns c =
     (looked-up modesOfByte (λ (o : Row). o .modes) 0 (table .result) op (table .ensures))
 
 pub op-modes-spec : {M : Type 1} → statement M
-op-modes-spec =
-    tie.close
-    (tie.spec
-    op-mode-bytes-requires
-    or-move-requires
-    cast-n
+op-modes-spec = tie.close (tie.spec
+    (λ c. search needs) (λ c. search needs) (λ c. search needs)  -- op-mode-bytes-requires, or-move-requires, cast-n
     array-read-modes-of-byte
-    modes-of-byte-requires
+    (λ c. search needs)  -- modes-of-byte-requires
     returns)

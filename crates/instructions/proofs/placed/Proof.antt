@@ -6,14 +6,8 @@ use Rattle.instructions.proofs.Laws.{one-shifted}
 use Rattle.instructions.proofs.placed.Statement.{statement}
 use Rattle.instructions.proofs.placed.Tie as tie
 
-shl-result : tie.Need-shl-result
-shl-result c = search needs
-
 rem-result : tie.Need-rem-result
 rem-result c = rw (one-shifted (c .args .size) (c .pre .1)) (pow-pos (c .args .size))
-
-shl-result-2 : tie.Need-shl-result-2
-shl-result-2 c = search needs
 
 returns : tie.Need-returns
 returns c =
@@ -21,4 +15,8 @@ returns c =
     rw (one-shifted (a .size) (c .pre .1)) (shl-exact (a .size) (a .from) 32 (mod-lt (a .x) (pow-pos (a .size))) (c .pre .2))
 
 pub placed-spec : {M : Type 1} → statement M
-placed-spec = tie.close (tie.spec shl-result rem-result shl-result-2 returns)
+placed-spec = tie.close (tie.spec
+    (λ c. search needs)  -- shl-result
+    rem-result
+    (λ c. search needs)  -- shl-result-2
+    returns)

@@ -1,4 +1,5 @@
 -- i bytes are copied so far; each turn stores the next.
+use borrow.Author.Needs.{needs}
 use Prim.Native.Nat.{_-_, _≤_}
 use mathlib.Core.Path.{_≡_, refl}
 use native.Mathlib.Omega.{arith}
@@ -14,32 +15,11 @@ Inv-loop out₀ at s n i₀ out i = (i ≤ n) × (length out ≡ length out₀) 
 abbrev μ-loop : tie.MeasureT-loop
 μ-loop out₀ at s n i₀ out i = n - i
 
-loop-holds : tie.Need-loop-holds Inv-loop μ-loop
-loop-holds c = (omega arith, refl, refl)
-
-shared-slice-read-out : tie.Need-shared-slice-read-out Inv-loop μ-loop
-shared-slice-read-out c = omega arith
-
-add-out : tie.Need-add-out Inv-loop μ-loop
-add-out c = omega arith
-
-slice-write-out : tie.Need-slice-write-out Inv-loop μ-loop
-slice-write-out c = omega arith
-
-add-i : tie.Need-add-i Inv-loop μ-loop
-add-i c = omega arith
-
-loop-less : tie.Need-loop-less Inv-loop μ-loop
-loop-less c = omega arith
-
 loop-again : tie.Need-loop-again Inv-loop μ-loop
 loop-again c =
     let l = c .before .before .loop in
     let a = c .before .before .before .args in
     (omega arith, simp length-set (l .inv .1), rw (l .inv .2) (sets-suc (a .out .now) (a .s .now) (a .at) (l .i) (omega arith)))
-
-same-length : tie.Need-same-length Inv-loop μ-loop
-same-length c = c .before .loop .inv .1
 
 returns : tie.Need-returns Inv-loop μ-loop
 returns c =
@@ -47,17 +27,9 @@ returns c =
     rw (← e) (c .before .loop .inv .2)
 
 pub copy-each-spec : {M : Type 1} → statement M
-copy-each-spec =
-    tie.close
-    (tie.spec
-    Inv-loop
-    μ-loop
-    loop-holds
-    shared-slice-read-out
-    add-out
-    slice-write-out
-    add-i
-    loop-less
+copy-each-spec = tie.close (tie.spec Inv-loop μ-loop
+    (λ c. search needs) (λ c. omega arith) (λ c. omega arith)  -- loop-holds, shared-slice-read-out, add-out
+    (λ c. omega arith) (λ c. omega arith) (λ c. omega arith)  -- slice-write-out, add-i, loop-less
     loop-again
-    same-length
+    (λ c. search needs)  -- same-length
     returns)

@@ -5,21 +5,11 @@ use Rattle.listchunk.proofs.Firsts.{take-least}
 use Rattle.listchunk.proofs.first_words.Statement.{statement}
 use Rattle.listchunk.proofs.first_words.Tie as tie
 
-least-requires : tie.Need-least-requires
-least-requires c κs = search needs
-
-sub-result : tie.Need-sub-result
-sub-result c = search needs
-
-part-result-start : tie.Need-part-result-start
-part-result-start c = search needs
-
-part-result-end : tie.Need-part-result-end
-part-result-end c = search needs
-
 returns : tie.Need-returns
 returns c = rw (sub-zero, c .before .least .ensures) (take-least (c .before .before .before .args .n) (c .before .before .before .args .words .now))
 
 pub first-words-spec : {M : Type 1} → statement M
-first-words-spec =
-    tie.close (tie.spec least-requires sub-result part-result-start part-result-end returns)
+first-words-spec = tie.close (tie.spec
+    (λ c. search needs) (λ c. search needs) (λ c. search needs)  -- least-requires, sub-result, part-result-start
+    (λ c. search needs)  -- part-result-end
+    returns)

@@ -6,27 +6,16 @@ use Rattle.proto.proofs.ListPlaces.{kept-none}
 use Rattle.listing.proofs.list_root.Statement.{statement}
 use Rattle.listing.proofs.list_root.Tie as tie
 
-slice-aggregate-list-function-recursive : tie.Need-slice-aggregate-list-function-recursive
-slice-aggregate-list-function-recursive c = search needs
-
-slice-aggregate-list-function-recursive-2 : tie.Need-slice-aggregate-list-function-recursive-2
-slice-aggregate-list-function-recursive-2 c = search needs
-
 list-function-recursive-requires : tie.Need-list-function-recursive-requires
 list-function-recursive-requires c κs = kept-none depth depth
-
-same-length : tie.Need-same-length
-same-length c = search needs
 
 returns : tie.Need-returns
 returns c = root-puts (c .before .before .before .before .list-function-recursive .ensures .1)
 
 pub list-root-spec : {M : Type 1} → statement M
-list-root-spec =
-    tie.close
-    (tie.spec
-    slice-aggregate-list-function-recursive
-    slice-aggregate-list-function-recursive-2
+list-root-spec = tie.close (tie.spec
+    (λ c. search needs)  -- slice-aggregate-list-function-recursive
+    (λ c. search needs)  -- slice-aggregate-list-function-recursive-2
     list-function-recursive-requires
-    same-length
+    (λ c. search needs)  -- same-length
     returns)

@@ -6,36 +6,16 @@ use Rattle.listing_operands.proofs.ShownLists.{shows-put, shows-is}
 use Rattle.listing_comments.proofs.comment_key.Statement.{statement}
 use Rattle.listing_comments.proofs.comment_key.Tie as tie
 
-is-k-requires : tie.Need-is-k-requires
-is-k-requires c κs = search needs
-
-index-k-requires : tie.Need-index-k-requires
-index-k-requires c κs = search needs
-
-comment-constant-requires : tie.Need-comment-constant-requires
-comment-constant-requires c κs = search needs
-
-same-length : tie.Need-same-length
-same-length c = search needs
-
 returns : tie.Need-returns
 returns c =
-    let c₁ = c .before .before in
-    let c₂ = c₁ .before .before in
-    let c₃ = c₂ .before in
-    let c₄ = c₃ .before in
+    let c₁ = c .before .before in let c₂ = c₁ .before .before in let c₃ = c₂ .before in let c₄ = c₃ .before in
     shows-is (rw (c₂ .index-k .ensures) at (c₁ .comment-constant .ensures)) (λ l. rw (sym (c₄ .is-k .ensures) ∙ c₃ .if1 .taken))
 
 returns-2 : tie.Need-returns-2
 returns-2 c = shows-is (shows-put put-none) (λ l. rw (sym (c .before .is-k .ensures) ∙ c .if1 .left))
 
 pub comment-key-spec : {M : Type 1} → statement M
-comment-key-spec =
-    tie.close
-    (tie.spec
-    is-k-requires
-    index-k-requires
-    comment-constant-requires
-    same-length
-    returns
-    returns-2)
+comment-key-spec = tie.close (tie.spec
+    (λ c. search needs) (λ c. search needs)  -- is-k-requires, index-k-requires
+    (λ c. search needs) (λ c. search needs)  -- comment-constant-requires, same-length
+    returns returns-2)

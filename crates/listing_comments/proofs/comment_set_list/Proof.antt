@@ -12,70 +12,31 @@ use Rattle.listing_operands.proofs.ShownLists.{shows-put, shows-is, shows-ints,
 use Rattle.listing_comments.proofs.comment_set_list.Statement.{statement}
 use Rattle.listing_comments.proofs.comment_set_list.Tie as tie
 
-comment-items-requires : tie.Need-comment-items-requires
-comment-items-requires c κs = search needs
-
-same-length : tie.Need-same-length
-same-length c = search needs
-
 returns : tie.Need-returns
 returns c = λ t. shows-is (shows-put (c .before .before .comment-items .ensures)) (λ l. rw (ne-eqb _ _ (c .before .before .before .before .if1 .taken)))
-
-word-at-requires : tie.Need-word-at-requires
-word-at-requires c κs = search needs
 
 returns-2 : tie.Need-returns-2
 returns-2 c = λ t. shows-is (shows-ints (shows-past word extraText {i = c .before .before .before .before .before .args .pc + 1} (c .before .word-at .ensures) (omega arith) put-none)) (λ l. rw (eq-eqb _ _ (c .before .before .if1 .left)))
 
-sub-if3 : tie.Need-sub-if3
-sub-if3 c = omega arith
-
 returns-3 : tie.Need-returns-3
 returns-3 c =
-    let c₁ = c .before .before in
-    let c₂ = c₁ .before in
-    let c₃ = c₂ .before .before .before in
+    let c₁ = c .before .before in let c₂ = c₁ .before in let c₃ = c₂ .before .before .before in
     λ t. shows-is (shows-ints (shows-past word extraText {i = c₃ .args .pc + 1} (c₁ .word-at .ensures) (omega arith) put-none)) (λ l. rw (eq-eqb _ _ (c₂ .if1 .left)))
-
-add-item-at : tie.Need-add-item-at
-add-item-at c = omega arith
-
-item-at-requires : tie.Need-item-at-requires
-item-at-requires c κs = search needs
-
-word-at-requires-2 : tie.Need-word-at-requires-2
-word-at-requires-2 c κs = search needs
-
-comment-items-requires-2 : tie.Need-comment-items-requires-2
-comment-items-requires-2 c κs = search needs
-
-same-length-2 : tie.Need-same-length-2
-same-length-2 c = search needs
 
 returns-4 : tie.Need-returns-4
 returns-4 c =
-    let c₁ = c .before .before in
-    let c₂ = c₁ .before .before in
-    let c₃ = c₂ .before in
-    let c₄ = c₃ .before .before .before in
-    let c₅ = c₄ .before in
-    let c₆ = c₅ .before .before .before in
+    let c₁ = c .before .before in let c₂ = c₁ .before .before in let c₃ = c₂ .before in
+    let c₄ = c₃ .before .before .before in let c₅ = c₄ .before in let c₆ = c₅ .before .before .before in
     λ t. shows-is (shows-ints (shows-item word 1 (λ a to. refl) extraText {i = c₆ .args .pc + 1} (c₄ .word-at .ensures) (omega arith) (c₃ .item-at .ensures) (word-shown (λ w. extraText (some w)) (c₂ .word-at2 .ensures) (c₁ .comment-items2 .ensures)))) (λ l. rw (eq-eqb _ _ (c₅ .if1 .left)))
 
 pub comment-set-list-spec : {M : Type 1} → statement M
-comment-set-list-spec =
-    tie.close
-    (tie.spec
-    comment-items-requires
-    same-length
+comment-set-list-spec = tie.close (tie.spec
+    (λ c. search needs) (λ c. search needs)  -- comment-items-requires, same-length
     returns
-    word-at-requires
+    (λ c. search needs)  -- word-at-requires
     returns-2
-    sub-if3
+    (λ c. omega arith)  -- sub-if3
     returns-3
-    add-item-at
-    item-at-requires
-    word-at-requires-2
-    comment-items-requires-2
-    same-length-2
+    (λ c. omega arith) (λ c. search needs) (λ c. search needs)  -- add-item-at, item-at-requires, word-at-requires-2
+    (λ c. search needs) (λ c. search needs)  -- comment-items-requires-2, same-length-2
     returns-4)

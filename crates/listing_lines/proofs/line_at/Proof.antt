@@ -7,21 +7,15 @@ use Rattle.listing_lines.proofs.line_at.Tie as tie
 
 -- Past the count there is no line, before it line pc stands there.
 
-word-at-requires : tie.Need-word-at-requires
-word-at-requires c κs = search needs
-
 returns : tie.Need-returns
 returns c = λ t l s. sym (line-past (c .before .word-at .ensures) s (c .if1 .taken))
-
-item-at-requires : tie.Need-item-at-requires
-item-at-requires c κs = search needs
-
-word-at-requires-2 : tie.Need-word-at-requires-2
-word-at-requires-2 c κs = search needs
 
 returns-2 : tie.Need-returns-2
 returns-2 c = λ t l s. sym (line-there (c .before .before .before .word-at .ensures) s (c .before .before .if1 .left) (c .before .item-at .ensures) (c .word-at2 .ensures))
 
 pub line-at-spec : {M : Type 1} → statement M
-line-at-spec =
-    tie.close (tie.spec word-at-requires returns item-at-requires word-at-requires-2 returns-2)
+line-at-spec = tie.close (tie.spec
+    (λ c. search needs)  -- word-at-requires
+    returns
+    (λ c. search needs) (λ c. search needs)  -- item-at-requires, word-at-requires-2
+    returns-2)

@@ -6,15 +6,6 @@ use Rattle.digits.proofs.Rooms.{width-byte, width-then}
 use Rattle.listing_lines.proofs.line_width.Statement.{statement}
 use Rattle.listing_lines.proofs.line_width.Tie as tie
 
-width-requires : tie.Need-width-requires
-width-requires c κs = search needs
-
-add-result : tie.Need-add-result
-add-result c = search needs
-
-add-result-2 : tie.Need-add-result-2
-add-result-2 c = search needs
-
 returns : tie.Need-returns
 returns c = rw (c .before .if1 .taken) (width-then (width-then width-byte (c .width .ensures)) width-byte)
 
@@ -22,4 +13,6 @@ returns-2 : tie.Need-returns-2
 returns-2 c = rw (c .if1 .left) (record { is = refl; upto = omega arith })
 
 pub line-width-spec : {M : Type 1} → statement M
-line-width-spec = tie.close (tie.spec width-requires add-result add-result-2 returns returns-2)
+line-width-spec = tie.close (tie.spec
+    (λ c. search needs) (λ c. search needs) (λ c. search needs)  -- width-requires, add-result, add-result-2
+    returns returns-2)

@@ -85,19 +85,12 @@ load-constants-Inv-loop chunk words₀ text₀ allowance n p₀ i₀ words text 
 abbrev load-constants-μ-loop : load-constants-lts.MeasureT-loop
 load-constants-μ-loop chunk words₀ text₀ allowance n p₀ i₀ words text p i = n - i
 
-load-constants-load-pool-requires : (t : ℕ) → load-constants-lts.Need-load-pool-requires (load-constants-calls t) (load-constants-at t) load-constants.Post load-constants-Inv-loop load-constants-μ-loop
-load-constants-load-pool-requires t c κs = search needs
-
-load-constants-copy-count-requires : (t : ℕ) → load-constants-lts.Need-copy-count-requires (load-constants-calls t) (load-constants-at t) load-constants.Post load-constants-Inv-loop load-constants-μ-loop
-load-constants-copy-count-requires t c κs = search needs
-
 load-constants-loop-holds : (t : ℕ) → load-constants-lts.Need-loop-holds (load-constants-calls t) (load-constants-at t) load-constants.Post load-constants-Inv-loop load-constants-μ-loop
 load-constants-loop-holds t c = (omega arith, refl, refl, loop-start)
 
 load-constants-same-length : (t : ℕ) → load-constants-lts.Need-same-length (load-constants-calls t) (load-constants-at t) load-constants.Post load-constants-Inv-loop load-constants-μ-loop
 load-constants-same-length t c =
-    let c₁ = c .before .before .before in
-    let c₂ = c₁ .before .before .before .before in
+    let c₁ = c .before .before .before in let c₂ = c₁ .before .before .before .before in
     let c₃ = c₂ .before .before .before .before .before .before in
     c₁ .loop .inv .1 ∙ c₂ .copy-count .kept .1 .0 ∙ c₃ .load-pool .kept .1 .0
 
@@ -109,8 +102,7 @@ load-constants-same-length-2 t c =
 
 load-constants-returns : (t : ℕ) → load-constants-lts.Need-returns (load-constants-calls t) (load-constants-at t) load-constants.Post load-constants-Inv-loop load-constants-μ-loop
 load-constants-returns t c =
-    let c₁ = c .before .before .before in
-    let c₂ = c₁ .before .before .before .before in
+    let c₁ = c .before .before .before in let c₂ = c₁ .before .before .before .before in
     let c₃ = c₂ .before .before .before .before .before .before in
     let c₄ = c₃ .before .before .before .before .before .before in
     constants-loaded (c₄ .args .allowance) (c₃ .load-pool .ensures) (c₂ .copy-count .ensures _) (loop-stop (omega arith) (c₁ .loop .inv .3) (λ k. passed (omega arith) refl))
@@ -120,36 +112,26 @@ load-constants-load-function-requires t c κs =
     let c₁ = c .before .before .before .before .before .before .before .before .before .before .before .before .before .before .before .before .before .before .before .before .before in
     (omega (arith, c₁ .pre .0), tt)
 
-load-constants-add-i : (t : ℕ) → load-constants-lts.Need-add-i (load-constants-calls t) (load-constants-at t) load-constants.Post load-constants-Inv-loop load-constants-μ-loop
-load-constants-add-i t c = omega arith
-
-load-constants-loop-less : (t : ℕ) → load-constants-lts.Need-loop-less (load-constants-calls t) (load-constants-at t) load-constants.Post load-constants-Inv-loop load-constants-μ-loop
-load-constants-loop-less t c = omega arith
-
 load-constants-loop-again : (t : ℕ) → load-constants-lts.Need-loop-again (load-constants-calls t) (load-constants-at t) load-constants.Post load-constants-Inv-loop load-constants-μ-loop
 load-constants-loop-again t c =
-    let c₁ = c .before .before .before .before in
-    let c₂ = c₁ .before .before .before .before .before .before in
+    let c₁ = c .before .before .before .before in let c₂ = c₁ .before .before .before .before .before .before in
     let c₃ = c₂ .before .before .before .before .before .before .before .before .before .before .before .before .before .before .before .before in
     (omega arith, c₁ .load-function .kept .1 .0 ∙ c₂ .loop .inv .1, c₁ .load-function .kept .1 .1 .0 ∙ c₂ .loop .inv .2, loop-turn (omega arith) (c₂ .loop .inv .3) (loads-more (function-items (c₃ .args .allowance)) (c₁ .load-function .ensures)))
 
 load-constants-same-length-3 : (t : ℕ) → load-constants-lts.Need-same-length-3 (load-constants-calls t) (load-constants-at t) load-constants.Post load-constants-Inv-loop load-constants-μ-loop
 load-constants-same-length-3 t c =
-    let c₁ = c .before in
-    let c₂ = c₁ .before .before .before .before in
+    let c₁ = c .before in let c₂ = c₁ .before .before .before .before in
     let c₃ = c₂ .before .before .before .before .before .before in
     c₁ .loop .inv .1 ∙ c₂ .copy-count .kept .1 .0 ∙ c₃ .load-pool .kept .1 .0
 
 load-constants-same-length-4 : (t : ℕ) → load-constants-lts.Need-same-length-4 (load-constants-calls t) (load-constants-at t) load-constants.Post load-constants-Inv-loop load-constants-μ-loop
 load-constants-same-length-4 t c =
-    let c₁ = c .before in
-    let c₂ = c₁ .before .before .before .before .before .before .before .before .before .before in
+    let c₁ = c .before in let c₂ = c₁ .before .before .before .before .before .before .before .before .before .before in
     c₁ .loop .inv .2 ∙ c₂ .load-pool .kept .1 .1 .0
 
 load-constants-returns-2 : (t : ℕ) → load-constants-lts.Need-returns-2 (load-constants-calls t) (load-constants-at t) load-constants.Post load-constants-Inv-loop load-constants-μ-loop
 load-constants-returns-2 t c =
-    let c₁ = c .before in
-    let c₂ = c₁ .before .before .before .before in
+    let c₁ = c .before in let c₂ = c₁ .before .before .before .before in
     let c₃ = c₂ .before .before .before .before .before .before in
     let c₄ = c₃ .before .before .before .before .before .before in
     constants-loaded (c₄ .args .allowance) (c₃ .load-pool .ensures) (c₂ .copy-count .ensures _) (loop-end (omega arith) (c₁ .loop .inv .3) (loads-none (function-items (c₄ .args .allowance))))
@@ -157,47 +139,8 @@ load-constants-returns-2 t c =
 load-function-returns : (t : ℕ) → load-function-lts.Need-returns (load-function-calls t) (load-function-at t) load-function.Post
 load-function-returns t c = passed (omega arith) refl
 
-load-function-refused-requires : (t : ℕ) → load-function-lts.Need-refused-requires (load-function-calls t) (load-function-at t) load-function.Post
-load-function-refused-requires t c κs = search needs
-
-load-function-at-requires : (t : ℕ) → load-function-lts.Need-at-requires (load-function-calls t) (load-function-at t) load-function.Post
-load-function-at-requires t c κs = search needs
-
 load-function-returns-2 : (t : ℕ) → load-function-lts.Need-returns-2 (load-function-calls t) (load-function-at t) load-function.Post
 load-function-returns-2 t c = function-too-deep (c .before .before .if2 .taken) (omega arith) (ap (λ (l : Load). l .cursor .refusal) (c .at .ensures) ∙ c .before .refused .ensures)
-
-load-function-load-source-requires : (t : ℕ) → load-function-lts.Need-load-source-requires (load-function-calls t) (load-function-at t) load-function.Post
-load-function-load-source-requires t c κs = search needs
-
-load-function-copy-int-requires : (t : ℕ) → load-function-lts.Need-copy-int-requires (load-function-calls t) (load-function-at t) load-function.Post
-load-function-copy-int-requires t c κs = search needs
-
-load-function-copy-int-requires-2 : (t : ℕ) → load-function-lts.Need-copy-int-requires-2 (load-function-calls t) (load-function-at t) load-function.Post
-load-function-copy-int-requires-2 t c κs = search needs
-
-load-function-load-byte-requires : (t : ℕ) → load-function-lts.Need-load-byte-requires (load-function-calls t) (load-function-at t) load-function.Post
-load-function-load-byte-requires t c κs = search needs
-
-load-function-load-byte-requires-2 : (t : ℕ) → load-function-lts.Need-load-byte-requires-2 (load-function-calls t) (load-function-at t) load-function.Post
-load-function-load-byte-requires-2 t c κs = search needs
-
-load-function-load-byte-requires-3 : (t : ℕ) → load-function-lts.Need-load-byte-requires-3 (load-function-calls t) (load-function-at t) load-function.Post
-load-function-load-byte-requires-3 t c κs = search needs
-
-load-function-load-byte-requires-4 : (t : ℕ) → load-function-lts.Need-load-byte-requires-4 (load-function-calls t) (load-function-at t) load-function.Post
-load-function-load-byte-requires-4 t c κs = search needs
-
-load-function-at-requires-2 : (t : ℕ) → load-function-lts.Need-at-requires-2 (load-function-calls t) (load-function-at t) load-function.Post
-load-function-at-requires-2 t c κs = search needs
-
-load-function-joined-requires : (t : ℕ) → load-function-lts.Need-joined-requires (load-function-calls t) (load-function-at t) load-function.Post
-load-function-joined-requires t c κs = search needs
-
-load-function-put-requires : (t : ℕ) → load-function-lts.Need-put-requires (load-function-calls t) (load-function-at t) load-function.Post
-load-function-put-requires t c κs = search needs
-
-load-function-load-code-requires : (t : ℕ) → load-function-lts.Need-load-code-requires (load-function-calls t) (load-function-at t) load-function.Post
-load-function-load-code-requires t c κs = search needs
 
 load-function-sub-load-constants : (t : ℕ) → load-function-lts.Need-sub-load-constants (load-function-calls t) (load-function-at t) load-function.Post
 load-function-sub-load-constants t c =
@@ -210,87 +153,50 @@ load-function-load-constants-requires t c κs =
     let c₂ = c₁ .before .before .before .before .before .before in
     (omega (arith, c₂ .pre .0, c₁ .if2 .left), tt)
 
-load-function-load-debug-requires : (t : ℕ) → load-function-lts.Need-load-debug-requires (load-function-calls t) (load-function-at t) load-function.Post
-load-function-load-debug-requires t c κs = search needs
-
 load-function-same-length : (t : ℕ) → load-function-lts.Need-same-length (load-function-calls t) (load-function-at t) load-function.Post
 load-function-same-length t c =
-    let c₁ = c .before .before .before .before in
-    let c₂ = c₁ .before .before .before .before .before .before .before in
-    let c₃ = c₂ .before .before .before .before .before in
-    let c₄ = c₃ .before .before .before .before in
+    let c₁ = c .before .before .before .before in let c₂ = c₁ .before .before .before .before .before .before .before in
+    let c₃ = c₂ .before .before .before .before .before in let c₄ = c₃ .before .before .before .before in
     let c₅ = c₄ .before .before .before .before .before .before .before .before .before .before in
-    let c₆ = c₅ .before .before .before .before in
-    let c₇ = c₆ .before .before .before .before .before .before in
+    let c₆ = c₅ .before .before .before .before in let c₇ = c₆ .before .before .before .before .before .before in
     c₁ .load-debug .kept .1 .0 ∙ c₂ .load-constants .kept .1 .0 ∙ c₃ .load-code .kept .1 .0 ∙ c₄ .put .kept .0 ∙ c₅ .copy-int2 .kept .1 .0 ∙ c₆ .copy-int .kept .1 .0 ∙ c₇ .load-source .kept .1 .0
 
 load-function-same-length-2 : (t : ℕ) → load-function-lts.Need-same-length-2 (load-function-calls t) (load-function-at t) load-function.Post
 load-function-same-length-2 t c =
-    let c₁ = c .before .before .before .before in
-    let c₂ = c₁ .before .before .before .before .before .before .before in
+    let c₁ = c .before .before .before .before in let c₂ = c₁ .before .before .before .before .before .before .before in
     let c₃ = c₂ .before .before .before .before .before .before .before .before .before .before .before .before .before .before .before .before .before .before .before .before .before .before .before .before .before .before .before .before .before in
     c₁ .load-debug .kept .1 .1 .0 ∙ c₂ .load-constants .kept .1 .1 .0 ∙ c₃ .load-source .kept .1 .1 .0
 
 load-function-returns-3 : (t : ℕ) → load-function-lts.Need-returns-3 (load-function-calls t) (load-function-at t) load-function.Post
 load-function-returns-3 t c =
-    let c₁ = c .before .before .before .before in
-    let c₂ = c₁ .before .before .before .before .before .before .before in
-    let c₃ = c₂ .before .before .before .before .before in
-    let c₄ = c₃ .before .before .before .before in
-    let c₅ = c₄ .before in
-    let c₆ = c₅ .before in
-    let c₇ = c₆ .before .before in
-    let c₈ = c₇ .before in
-    let c₉ = c₈ .before in
-    let c₁₀ = c₉ .before in
-    let c₁₁ = c₁₀ .before .before .before in
-    let c₁₂ = c₁₁ .before .before .before .before in
-    let c₁₃ = c₁₂ .before .before .before .before .before .before in
-    let c₁₄ = c₁₃ .before .before .before in
-    let c₁₅ = c₁₄ .before .before .before .before .before .before in
+    let c₁ = c .before .before .before .before in let c₂ = c₁ .before .before .before .before .before .before .before in
+    let c₃ = c₂ .before .before .before .before .before in let c₄ = c₃ .before .before .before .before in
+    let c₅ = c₄ .before in let c₆ = c₅ .before in let c₇ = c₆ .before .before in let c₈ = c₇ .before in
+    let c₉ = c₈ .before in let c₁₀ = c₉ .before in let c₁₁ = c₁₀ .before .before .before in
+    let c₁₂ = c₁₁ .before .before .before .before in let c₁₃ = c₁₂ .before .before .before .before .before .before in
+    let c₁₄ = c₁₃ .before .before .before in let c₁₅ = c₁₄ .before .before .before .before .before .before in
     let n = c₁₅ .args .allowance - 1 in
     let e : c₁₅ .args .allowance ≡ suc n = omega (arith, c₁₄ .if2 .left) in
     rw e (function-loaded n (c₁₃ .load-source .ensures) (c₁₂ .copy-int .ensures _) (c₁₁ .copy-int2 .ensures _) (c₁₀ .load-byte .ensures) (c₉ .load-byte2 .ensures) (c₈ .load-byte3 .ensures) (c₇ .load-byte4 .ensures) (c₆ .at2 .ensures) (c₅ .joined .ensures) (c₄ .put .ensures .0) (c₄ .put .ensures .1 _) (c₃ .load-code .ensures _) (c₂ .load-constants .ensures) (c₁ .load-debug .ensures))
 
 pub +load-constants+load-function-spec : {M : Type 1} → statement M
-+load-constants+load-function-spec =
-    close μ-load-constants μ-load-function (λ t. load-constants-lts.spec (load-constants-calls t) (load-constants-at t)
-    load-constants.Post
-    load-constants-Inv-loop
-    load-constants-μ-loop
-    (load-constants-load-pool-requires t)
-    (load-constants-copy-count-requires t)
-    (load-constants-loop-holds t)
-    (load-constants-same-length t)
-    (load-constants-same-length-2 t)
-    (load-constants-returns t)
-    (load-constants-load-function-requires t)
-    (load-constants-add-i t)
-    (load-constants-loop-less t)
-    (load-constants-loop-again t)
-    (load-constants-same-length-3 t)
-    (load-constants-same-length-4 t)
++load-constants+load-function-spec = close μ-load-constants μ-load-function (λ t. load-constants-lts.spec
+    (load-constants-calls t) (load-constants-at t) load-constants.Post load-constants-Inv-loop load-constants-μ-loop
+    (λ c. search needs) (λ c. search needs)  -- load-pool-requires, copy-count-requires
+    (load-constants-loop-holds t) (load-constants-same-length t) (load-constants-same-length-2 t)
+    (load-constants-returns t) (load-constants-load-function-requires t)
+    (λ c. omega arith) (λ c. omega arith)  -- add-i, loop-less
+    (load-constants-loop-again t) (load-constants-same-length-3 t) (load-constants-same-length-4 t)
     (load-constants-returns-2 t))
-    λ t. load-function-lts.spec (load-function-calls t) (load-function-at t)
-    load-function.Post
+    λ t. load-function-lts.spec (load-function-calls t) (load-function-at t) load-function.Post
     (load-function-returns t)
-    (load-function-refused-requires t)
-    (load-function-at-requires t)
+    (λ c. search needs) (λ c. search needs)  -- refused-requires, at-requires
     (load-function-returns-2 t)
-    (load-function-load-source-requires t)
-    (load-function-copy-int-requires t)
-    (load-function-copy-int-requires-2 t)
-    (load-function-load-byte-requires t)
-    (load-function-load-byte-requires-2 t)
-    (load-function-load-byte-requires-3 t)
-    (load-function-load-byte-requires-4 t)
-    (load-function-at-requires-2 t)
-    (load-function-joined-requires t)
-    (load-function-put-requires t)
-    (load-function-load-code-requires t)
-    (load-function-sub-load-constants t)
-    (load-function-load-constants-requires t)
-    (load-function-load-debug-requires t)
-    (load-function-same-length t)
-    (load-function-same-length-2 t)
-    (load-function-returns-3 t)
+    (λ c. search needs) (λ c. search needs)  -- load-source-requires, copy-int-requires
+    (λ c. search needs) (λ c. search needs)  -- copy-int-requires-2, load-byte-requires
+    (λ c. search needs) (λ c. search needs)  -- load-byte-requires-2, load-byte-requires-3
+    (λ c. search needs) (λ c. search needs) (λ c. search needs)  -- load-byte-requires-4, at-requires-2, joined-requires
+    (λ c. search needs) (λ c. search needs)  -- put-requires, load-code-requires
+    (load-function-sub-load-constants t) (load-function-load-constants-requires t)
+    (λ c. search needs)  -- load-debug-requires
+    (load-function-same-length t) (load-function-same-length-2 t) (load-function-returns-3 t)

@@ -4,35 +4,14 @@ use Rattle.load_function.proofs.Trees.{debug-loaded}
 use Rattle.load_function.proofs.load_debug.Statement.{statement}
 use Rattle.load_function.proofs.load_debug.Tie as tie
 
-load-ints-requires : tie.Need-load-ints-requires
-load-ints-requires c κs = search needs
-
-load-locals-requires : tie.Need-load-locals-requires
-load-locals-requires c κs = search needs
-
-load-names-requires : tie.Need-load-names-requires
-load-names-requires c κs = search needs
-
-same-length : tie.Need-same-length
-same-length c = search needs
-
-same-length-2 : tie.Need-same-length-2
-same-length-2 c = search needs
-
 returns : tie.Need-returns
 returns c =
-    let c₁ = c .before .before .before .before in
-    let c₂ = c₁ .before .before .before .before .before .before .before in
+    let c₁ = c .before .before .before .before in let c₂ = c₁ .before .before .before .before .before .before .before in
     let c₃ = c₂ .before .before .before .before .before in
     debug-loaded (c₃ .load-ints .ensures _) (c₂ .load-locals .ensures) (c₁ .load-names .ensures)
 
 pub load-debug-spec : {M : Type 1} → statement M
-load-debug-spec =
-    tie.close
-    (tie.spec
-    load-ints-requires
-    load-locals-requires
-    load-names-requires
-    same-length
-    same-length-2
+load-debug-spec = tie.close (tie.spec
+    (λ c. search needs) (λ c. search needs)  -- load-ints-requires, load-locals-requires
+    (λ c. search needs) (λ c. search needs) (λ c. search needs)  -- load-names-requires, same-length, same-length-2
     returns)

@@ -19,24 +19,6 @@ abbrev μ-loop : tie.MeasureT-loop
 loop-holds : tie.Need-loop-holds Inv-loop μ-loop
 loop-holds c = (search needs, omega arith, refl, filling-none (c .before .args .records .now) (c .before .args .words .now) (c .before .args .locals) (c .before .args .n))
 
-record-at-requires : tie.Need-record-at-requires Inv-loop μ-loop
-record-at-requires c κs = omega arith
-
-mul-t9 : tie.Need-mul-t9 Inv-loop μ-loop
-mul-t9 c = search needs
-
-slice-set-from-records : tie.Need-slice-set-from-records Inv-loop μ-loop
-slice-set-from-records c = omega arith
-
-add-at : tie.Need-add-at Inv-loop μ-loop
-add-at c = omega arith
-
-add-i : tie.Need-add-i Inv-loop μ-loop
-add-i c = omega arith
-
-loop-less : tie.Need-loop-less Inv-loop μ-loop
-loop-less c = omega arith
-
 loop-again : tie.Need-loop-again Inv-loop μ-loop
 loop-again c =
     let l = c .before .before .loop in
@@ -57,18 +39,7 @@ returns c =
     filling-all (s .args .records .now) (s .args .words .now) (s .args .locals) (s .args .n) (l .inv .0) (c .loop-test .left) (l .inv .3)
 
 pub fill-spec : {M : Type 1} → statement M
-fill-spec =
-    tie.close
-    (tie.spec
-    Inv-loop
-    μ-loop
-    loop-holds
-    record-at-requires
-    mul-t9
-    slice-set-from-records
-    add-at
-    add-i
-    loop-less
-    loop-again
-    same-length
-    returns)
+fill-spec = tie.close (tie.spec Inv-loop μ-loop loop-holds
+    (λ c. omega arith) (λ c. search needs) (λ c. omega arith)  -- record-at-requires, mul-t9, slice-set-from-records
+    (λ c. omega arith) (λ c. omega arith) (λ c. omega arith)  -- add-at, add-i, loop-less
+    loop-again same-length returns)

@@ -19,21 +19,6 @@ abbrev μ-loop : tie.MeasureT-loop
 loop-holds : tie.Need-loop-holds Inv-loop μ-loop
 loop-holds c = (search needs, refl)
 
-mul-look : tie.Need-mul-look Inv-loop μ-loop
-mul-look c = search needs
-
-shared-slice-copy-out-look : tie.Need-shared-slice-copy-out-look Inv-loop μ-loop
-shared-slice-copy-out-look c = omega arith
-
-look-requires : tie.Need-look-requires Inv-loop μ-loop
-look-requires c κs = search needs
-
-enum-told : tie.Need-enum-told Inv-loop μ-loop
-enum-told c = search needs
-
-nothing-requires : tie.Need-nothing-requires Inv-loop μ-loop
-nothing-requires c κs = search needs
-
 returns : tie.Need-returns Inv-loop μ-loop
 returns c =
     let b = c .before .before .before in
@@ -42,12 +27,6 @@ returns c =
     let s = i .before .before in
     c .nothing .ensures
     ∙ searching-seen (s .args .records .now) (s .args .n) (s .args .pc) (s .args .local-number) (l .i) (l .remaining) (l .inv .1) Nothing (s .pre) (i .loop-test .taken) (sym (c .before .enum-told .given .1) ∙ b .look .ensures)
-
-enum-known-place : tie.Need-enum-known-place Inv-loop μ-loop
-enum-known-place c = search needs
-
-text-name-requires : tie.Need-text-name-requires Inv-loop μ-loop
-text-name-requires c κs = search needs
 
 returns-2 : tie.Need-returns-2 Inv-loop μ-loop
 returns-2 c =
@@ -58,15 +37,6 @@ returns-2 c =
     let s = i .before .before in
     c .text-name .ensures
     ∙ searching-seen (s .args .records .now) (s .args .n) (s .args .pc) (s .args .local-number) (l .i) (l .remaining) (l .inv .1) (Found (p .place .given .0 .0) (p .place .given .0 .1 .0)) (s .pre) (i .loop-test .taken) (sym (p .place .given .1) ∙ b .look .ensures)
-
-enum-known-left : tie.Need-enum-known-left Inv-loop μ-loop
-enum-known-left c = search needs
-
-add-i : tie.Need-add-i Inv-loop μ-loop
-add-i c = omega arith
-
-loop-less : tie.Need-loop-less Inv-loop μ-loop
-loop-less c = omega arith
 
 loop-again : tie.Need-loop-again Inv-loop μ-loop
 loop-again c =
@@ -79,9 +49,6 @@ loop-again c =
       searching-seen (s .args .records .now) (s .args .n) (s .args .pc) (s .args .local-number) (l .i) (l .remaining) (l .inv .1) (Left (p .left .given .0 .0)) (s .pre) (i .loop-test .taken) (sym (p .left .given .1) ∙ b .look .ensures),
     )
 
-nothing-requires-2 : tie.Need-nothing-requires-2 Inv-loop μ-loop
-nothing-requires-2 c κs = search needs
-
 returns-3 : tie.Need-returns-3 Inv-loop μ-loop
 returns-3 c =
     let l = c .before .before .loop in
@@ -89,24 +56,13 @@ returns-3 c =
     c .nothing2 .ensures ∙ searching-over (s .args .records .now) (s .args .n) (s .args .pc) (s .args .local-number) (l .i) (l .remaining) (l .inv .1) (s .pre) (c .before .loop-test .left)
 
 pub find-spec : {M : Type 1} → statement M
-find-spec =
-    tie.close
-    (tie.spec
-    Inv-loop
-    μ-loop
-    loop-holds
-    mul-look
-    shared-slice-copy-out-look
-    look-requires
-    enum-told
-    nothing-requires
+find-spec = tie.close (tie.spec Inv-loop μ-loop loop-holds
+    (λ c. search needs) (λ c. omega arith) (λ c. search needs)  -- mul-look, shared-slice-copy-out-look, look-requires
+    (λ c. search needs) (λ c. search needs)  -- enum-told, nothing-requires
     returns
-    enum-known-place
-    text-name-requires
+    (λ c. search needs) (λ c. search needs)  -- enum-known-place, text-name-requires
     returns-2
-    enum-known-left
-    add-i
-    loop-less
+    (λ c. search needs) (λ c. omega arith) (λ c. omega arith)  -- enum-known-left, add-i, loop-less
     loop-again
-    nothing-requires-2
+    (λ c. search needs)  -- nothing-requires-2
     returns-3)

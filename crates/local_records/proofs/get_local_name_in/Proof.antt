@@ -7,9 +7,6 @@ use Rattle.local_records.proofs.Lookup.{ready, in-refused, count-enough
 use Rattle.local_records.proofs.get_local_name_in.Statement.{statement}
 use Rattle.local_records.proofs.get_local_name_in.Proof.Tie as tie
 
-cast-last : tie.Need-cast-last
-cast-last c = search needs
-
 locals-for-requires : tie.Need-locals-for-requires
 locals-for-requires c κs = omega (arith, c .before .before .before .good)
 
@@ -36,15 +33,6 @@ find-requires c κs =
     let y = ready (s .args .records .now) (s .args .words .now) (s .args .text .now) (s .args .place) (s .args .local-number) (s .args .pc) (s .args .out .now) e (i .if1 .left) in
     omega (arith, count-enough (s .args .records .now) (s .args .words .now) (s .args .text .now) (s .args .place) (s .args .local-number) (s .args .pc) (s .args .out .now) e y, c .before .records .given)
 
-give-requires : tie.Need-give-requires
-give-requires c κs = search needs
-
-same-length : tie.Need-same-length
-same-length c = search needs
-
-same-length-2 : tie.Need-same-length-2
-same-length-2 c = search needs
-
 returns-2 : tie.Need-returns-2
 returns-2 c =
     let g = c .before .before in
@@ -58,4 +46,8 @@ returns-2 c =
     in-answered (s .args .records .now) (s .args .words .now) (s .args .text .now) (s .args .place) (s .args .local-number) (s .args .pc) (s .args .out .now) e y (r .fill .ensures) (d .find .ensures) (g .give .ensures)
 
 pub get-local-name-in-spec : {M : Type 1} → statement M
-get-local-name-in-spec = tie.close (tie.spec cast-last locals-for-requires returns fill-requires find-requires give-requires same-length same-length-2 returns-2)
+get-local-name-in-spec = tie.close (tie.spec
+    (λ c. search needs)  -- cast-last
+    locals-for-requires returns fill-requires find-requires
+    (λ c. search needs) (λ c. search needs) (λ c. search needs)  -- give-requires, same-length, same-length-2
+    returns-2)

@@ -6,63 +6,38 @@ use Rattle.local_records.proofs.locals_for.Tie as tie
 
 -- By the tests, in their order: what the walk finds stands there.
 
-place-refusal-requires : tie.Need-place-refusal-requires
-place-refusal-requires c κs = search needs
-
-no-locals-requires : tie.Need-no-locals-requires
-no-locals-requires c κs = search needs
-
 returns : tie.Need-returns
-returns c = c .no-locals .ensures ∙ for-refused _ _ (c .before .before .before .before .before .args .place) (c .before .before .before .before .before .args .local-number) (c .before .before .before .before .before .args .pc) (c .before .before .before .before .before .args .records) (c .before .before .before .before .before .args .space) (c .before .before .place-refusal .ensures) (c .before .if1 .taken)
-
-lists-at-requires : tie.Need-lists-at-requires
-lists-at-requires c κs = search needs
-
-word-at-requires : tie.Need-word-at-requires
-word-at-requires c κs = search needs
-
-cast-count : tie.Need-cast-count
-cast-count c = search needs
-
-no-locals-requires-2 : tie.Need-no-locals-requires-2
-no-locals-requires-2 c κs = search needs
+returns c =
+    let c₁ = c .before in let c₂ = c₁ .before in let c₃ = c₂ .before .before .before in
+    c .no-locals .ensures ∙ for-refused _ _ (c₃ .args .place) (c₃ .args .local-number) (c₃ .args .pc) (c₃ .args .records) (c₃ .args .space) (c₂ .place-refusal .ensures) (c₁ .if1 .taken)
 
 returns-2 : tie.Need-returns-2
-returns-2 c = c .no-locals2 .ensures ∙ for-8 _ _ (c .before .before .before .before .before .before .before .before .args .place) (c .before .before .before .before .before .before .before .before .args .local-number) (c .before .before .before .before .before .before .before .before .args .pc) (c .before .before .before .before .before .before .before .before .args .records) (c .before .before .before .before .before .before .before .before .args .space) (c .before .before .before .before .before .place-refusal .ensures) (c .before .before .before .before .if1 .left) (c .before .before .before .lists-at .result) (c .before .before .before .lists-at .ensures) (c .before .before .word-at .ensures) (c .before .if2 .taken)
-
-active-local-requires : tie.Need-active-local-requires
-active-local-requires c κs = search needs
-
-name-len-requires : tie.Need-name-len-requires
-name-len-requires c κs = search needs
-
-no-locals-requires-3 : tie.Need-no-locals-requires-3
-no-locals-requires-3 c κs = search needs
+returns-2 c =
+    let c₁ = c .before in let c₂ = c₁ .before in let c₃ = c₂ .before in let c₄ = c₃ .before in let c₅ = c₄ .before in
+    let c₆ = c₅ .before .before .before in
+    c .no-locals2 .ensures ∙ for-8 _ _ (c₆ .args .place) (c₆ .args .local-number) (c₆ .args .pc) (c₆ .args .records) (c₆ .args .space) (c₅ .place-refusal .ensures) (c₄ .if1 .left) (c₃ .lists-at .result) (c₃ .lists-at .ensures) (c₂ .word-at .ensures) (c₁ .if2 .taken)
 
 returns-3 : tie.Need-returns-3
-returns-3 c = c .no-locals3 .ensures ∙ for-11 _ _ (c .before .before .before .before .before .before .before .before .before .before .before .args .place) (c .before .before .before .before .before .before .before .before .before .before .before .args .local-number) (c .before .before .before .before .before .before .before .before .before .before .before .args .pc) (c .before .before .before .before .before .before .before .before .before .before .before .args .records) (c .before .before .before .before .before .before .before .before .before .before .before .args .space) (c .before .before .before .before .before .before .before .before .place-refusal .ensures) (c .before .before .before .before .before .before .before .if1 .left) (c .before .before .before .before .before .before .lists-at .result) (c .before .before .before .before .before .before .lists-at .ensures) (c .before .before .before .before .before .word-at .ensures) (c .before .before .before .before .if2 .left) (c .before .before .before .before .before .before .before .before .before .before .before .pre) (c .before .before .before .active-local .result) (c .before .before .before .active-local .ensures) (c .before .before .name-len .ensures) (c .before .if3 .taken)
-
-skip-requires : tie.Need-skip-requires
-skip-requires c κs = search needs
+returns-3 c =
+    let c₁ = c .before in let c₂ = c₁ .before in let c₃ = c₂ .before in let c₄ = c₃ .before in let c₅ = c₄ .before in
+    let c₆ = c₅ .before in let c₇ = c₆ .before in let c₈ = c₇ .before in let c₉ = c₈ .before .before .before in
+    c .no-locals3 .ensures ∙ for-11 _ _ (c₉ .args .place) (c₉ .args .local-number) (c₉ .args .pc) (c₉ .args .records) (c₉ .args .space) (c₈ .place-refusal .ensures) (c₇ .if1 .left) (c₆ .lists-at .result) (c₆ .lists-at .ensures) (c₅ .word-at .ensures) (c₄ .if2 .left) (c₉ .pre) (c₃ .active-local .result) (c₃ .active-local .ensures) (c₂ .name-len .ensures) (c₁ .if3 .taken)
 
 returns-4 : tie.Need-returns-4
-returns-4 c = for-0 _ _ (c .before .before .before .before .before .before .before .before .before .before .before .args .place) (c .before .before .before .before .before .before .before .before .before .before .before .args .local-number) (c .before .before .before .before .before .before .before .before .before .before .before .args .pc) (c .before .before .before .before .before .before .before .before .before .before .before .args .records) (c .before .before .before .before .before .before .before .before .before .before .before .args .space) (c .before .before .before .before .before .before .before .before .place-refusal .ensures) (c .before .before .before .before .before .before .before .if1 .left) (c .before .before .before .before .before .before .lists-at .result) (c .before .before .before .before .before .before .lists-at .ensures) (c .before .before .before .before .before .word-at .ensures) (c .before .before .before .before .if2 .left) (c .before .before .before .before .before .before .before .before .before .before .before .pre) (c .before .before .before .active-local .result) (c .before .before .before .active-local .ensures) (c .before .before .name-len .ensures) (c .before .if3 .left) (c .skip .ensures)
+returns-4 c =
+    let c₁ = c .before in let c₂ = c₁ .before in let c₃ = c₂ .before in let c₄ = c₃ .before in let c₅ = c₄ .before in
+    let c₆ = c₅ .before in let c₇ = c₆ .before in let c₈ = c₇ .before in let c₉ = c₈ .before .before .before in
+    for-0 _ _ (c₉ .args .place) (c₉ .args .local-number) (c₉ .args .pc) (c₉ .args .records) (c₉ .args .space) (c₈ .place-refusal .ensures) (c₇ .if1 .left) (c₆ .lists-at .result) (c₆ .lists-at .ensures) (c₅ .word-at .ensures) (c₄ .if2 .left) (c₉ .pre) (c₃ .active-local .result) (c₃ .active-local .ensures) (c₂ .name-len .ensures) (c₁ .if3 .left) (c .skip .ensures)
 
 pub locals-for-spec : {M : Type 1} → statement M
-locals-for-spec =
-    tie.close
-    (tie.spec
-    place-refusal-requires
-    no-locals-requires
+locals-for-spec = tie.close (tie.spec
+    (λ c. search needs) (λ c. search needs)  -- place-refusal-requires, no-locals-requires
     returns
-    lists-at-requires
-    word-at-requires
-    cast-count
-    no-locals-requires-2
+    (λ c. search needs) (λ c. search needs) (λ c. search needs)  -- lists-at-requires, word-at-requires, cast-count
+    (λ c. search needs)  -- no-locals-requires-2
     returns-2
-    active-local-requires
-    name-len-requires
-    no-locals-requires-3
+    (λ c. search needs) (λ c. search needs)  -- active-local-requires, name-len-requires
+    (λ c. search needs)  -- no-locals-requires-3
     returns-3
-    skip-requires
+    (λ c. search needs)  -- skip-requires
     returns-4)

@@ -13,58 +13,24 @@ Inv-loop words lastpc reg code functions end last₀ child₀ pc₀ last child p
 abbrev μ-loop : tie.MeasureT-loop
 μ-loop words lastpc reg code functions end last₀ child₀ pc₀ last child pc = end - pc
 
-last-pc-requires : tie.Need-last-pc-requires Inv-loop μ-loop
-last-pc-requires c κs = search needs
-
-first-child-requires : tie.Need-first-child-requires Inv-loop μ-loop
-first-child-requires c κs = search needs
-
 loop-holds : tie.Need-loop-holds Inv-loop μ-loop
 loop-holds c = (omega arith, trace-start (c .before .last-pc .ensures) (c .first-child .ensures .1 _))
-
-cast-here : tie.Need-cast-here Inv-loop μ-loop
-cast-here c = omega arith
-
-instruction-at-requires : tie.Need-instruction-at-requires Inv-loop μ-loop
-instruction-at-requires c κs = search needs
-
-latest-requires : tie.Need-latest-requires Inv-loop μ-loop
-latest-requires c κs = search needs
-
-operands-requires : tie.Need-operands-requires Inv-loop μ-loop
-operands-requires c κs = search needs
-
-next-pc-requires : tie.Need-next-pc-requires Inv-loop μ-loop
-next-pc-requires c κs = search needs
 
 loop-less : tie.Need-loop-less Inv-loop μ-loop
 loop-less c = omega (arith, c .next-pc .ensures .1)
 
 loop-again : tie.Need-loop-again Inv-loop μ-loop
 loop-again c =
-    let c₁ = c .before .before in
-    let c₂ = c₁ .before in
-    let c₃ = c₂ .before in
-    let c₄ = c₃ .before .before in
+    let c₁ = c .before .before in let c₂ = c₁ .before in let c₃ = c₂ .before in let c₄ = c₃ .before .before in
     (c₄ .loop .inv .0, trace-turn (omega arith) (c₃ .instruction-at .ensures) (c₂ .latest .ensures) (c₁ .operands .ensures) (c .next-pc .ensures) (c₄ .loop .inv .1))
 
 returns : tie.Need-returns Inv-loop μ-loop
 returns c = λ text p fs h v. trace-end (omega arith) (c .before .loop .inv .1) text (p .code) fs (h .code) (h .functions) v
 
 pub last-write-spec : {M : Type 1} → statement M
-last-write-spec =
-    tie.close
-    (tie.spec
-    Inv-loop
-    μ-loop
-    last-pc-requires
-    first-child-requires
+last-write-spec = tie.close (tie.spec Inv-loop μ-loop
+    (λ c. search needs) (λ c. search needs)  -- last-pc-requires, first-child-requires
     loop-holds
-    cast-here
-    instruction-at-requires
-    latest-requires
-    operands-requires
-    next-pc-requires
-    loop-less
-    loop-again
-    returns)
+    (λ c. omega arith) (λ c. search needs) (λ c. search needs)  -- cast-here, instruction-at-requires, latest-requires
+    (λ c. search needs) (λ c. search needs)  -- operands-requires, next-pc-requires
+    loop-less loop-again returns)

@@ -5,15 +5,11 @@ use Rattle.symbexec.specs.SymbExec.{symbexec}
 use Rattle.symbexec.proofs.symbexec_at.Statement.{statement}
 use Rattle.symbexec.proofs.symbexec_at.Tie as tie
 
-last-write-requires : tie.Need-last-write-requires
-last-write-requires c κs = search needs
-
-instruction-at-requires : tie.Need-instruction-at-requires
-instruction-at-requires c κs = search needs
-
 returns : tie.Need-returns
 unfolding symbexec
 returns c = λ text p fs h v. c .instruction-at .ensures text (p .code) (h .code) ∙ rw (c .before .last-write .ensures text p fs h v)
 
 pub symbexec-at-spec : {M : Type 1} → statement M
-symbexec-at-spec = tie.close (tie.spec last-write-requires instruction-at-requires returns)
+symbexec-at-spec = tie.close (tie.spec
+    (λ c. search needs) (λ c. search needs)  -- last-write-requires, instruction-at-requires
+    returns)

@@ -20,67 +20,25 @@ whole l z k e h =
     let f = eight z in
     sym (length-append l (drop k f) ∙ rw (e, length-take-le k f h, length-drop k f) (omega arith))
 
-word-requires : tie.Need-word-requires
-word-requires c κs = search needs
-
-cast-place : tie.Need-cast-place
-cast-place c = search needs
-
-after-requires : tie.Need-after-requires
-after-requires c κs = search needs
-
-long-requires : tie.Need-long-requires
-long-requires c κs = search needs
-
-after-requires-2 : tie.Need-after-requires-2
-after-requires-2 c κs = search needs
-
-long-requires-2 : tie.Need-long-requires-2
-long-requires-2 c κs = search needs
-
-after-requires-3 : tie.Need-after-requires-3
-after-requires-3 c κs = search needs
-
-byte-requires : tie.Need-byte-requires
-byte-requires c κs = search needs
-
-cast-within : tie.Need-cast-within
-cast-within c = search needs
-
-within-requires : tie.Need-within-requires
-within-requires c κs = search needs
-
-seven-requires : tie.Need-seven-requires
-seven-requires c κs = search needs
-
-array-borrow-prefix-records : tie.Need-array-borrow-prefix-records
-array-borrow-prefix-records c = search needs
-
 slice-aggregate-get-local-name-in : tie.Need-slice-aggregate-get-local-name-in
 slice-aggregate-get-local-name-in c = sym (length-take-le _ _ (omega arith))
 
-get-local-name-in-requires : tie.Need-get-local-name-in-requires
-get-local-name-in-requires c κs = search needs
-
-tell-name-requires : tie.Need-tell-name-requires
-tell-name-requires c κs = search needs
-
 slice-aggregate-tell-records : tie.Need-slice-aggregate-tell-records
 slice-aggregate-tell-records c =
-    whole (c .before .before .before .before .before .before .get-local-name-in .last .0) (c .before .before .before .before .before .before .before .before .before .seven .result)
-    (c .before .before .before .before .before .before .before .before .before .before .within .result) (c .before .before .before .before .before .records2 .given) (omega arith)
-
-tell-records-requires : tie.Need-tell-records-requires
-tell-records-requires c κs = search needs
-
-line-end-requires : tie.Need-line-end-requires
-line-end-requires c κs = search needs
-
-same-length : tie.Need-same-length
-same-length c = search needs
-
-returns : tie.Need-returns
-returns c = search needs
+    let c₁ = c .before .before .before .before .before in let c₂ = c₁ .before in let c₃ = c₂ .before .before .before in
+    let c₄ = c₃ .before in
+    whole (c₂ .get-local-name-in .last .0) (c₃ .seven .result)
+    (c₄ .within .result) (c₁ .records2 .given) (omega arith)
 
 pub ask-get-local-name-in-spec : {M : Type 1} → statement M
-ask-get-local-name-in-spec = tie.close (tie.spec word-requires cast-place after-requires long-requires after-requires-2 long-requires-2 after-requires-3 byte-requires cast-within within-requires seven-requires array-borrow-prefix-records slice-aggregate-get-local-name-in get-local-name-in-requires tell-name-requires slice-aggregate-tell-records tell-records-requires line-end-requires same-length returns)
+ask-get-local-name-in-spec = tie.close (tie.spec
+    (λ c. search needs) (λ c. search needs) (λ c. search needs)  -- word-requires, cast-place, after-requires
+    (λ c. search needs) (λ c. search needs) (λ c. search needs)  -- long-requires, after-requires-2, long-requires-2
+    (λ c. search needs) (λ c. search needs) (λ c. search needs)  -- after-requires-3, byte-requires, cast-within
+    (λ c. search needs) (λ c. search needs)  -- within-requires, seven-requires
+    (λ c. search needs)  -- array-borrow-prefix-records
+    slice-aggregate-get-local-name-in
+    (λ c. search needs) (λ c. search needs)  -- get-local-name-in-requires, tell-name-requires
+    slice-aggregate-tell-records
+    (λ c. search needs) (λ c. search needs)  -- tell-records-requires, line-end-requires
+    (λ c. search needs) (λ c. search needs))  -- same-length, returns

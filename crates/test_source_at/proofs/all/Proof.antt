@@ -13,53 +13,9 @@ Inv-loop cases words₀ text₀ s₀ words text s = (length words ≡ length wor
 abbrev μ-loop : tie.MeasureT-loop
 μ-loop cases words₀ text₀ s₀ words text s = length cases - s .next
 
-loop-holds : tie.Need-loop-holds Inv-loop μ-loop
-loop-holds c = search needs
-
-after-requires : tie.Need-after-requires Inv-loop μ-loop
-after-requires c κs = search needs
-
-case-at-requires : tie.Need-case-at-requires Inv-loop μ-loop
-case-at-requires c κs = search needs
-
-same-length : tie.Need-same-length Inv-loop μ-loop
-same-length c = search needs
-
-same-length-2 : tie.Need-same-length-2 Inv-loop μ-loop
-same-length-2 c = search needs
-
-returns : tie.Need-returns Inv-loop μ-loop
-returns c = search needs
-
-loop-less : tie.Need-loop-less Inv-loop μ-loop
-loop-less c = omega arith
-
-loop-again : tie.Need-loop-again Inv-loop μ-loop
-loop-again c = search needs
-
-same-length-3 : tie.Need-same-length-3 Inv-loop μ-loop
-same-length-3 c = search needs
-
-same-length-4 : tie.Need-same-length-4 Inv-loop μ-loop
-same-length-4 c = search needs
-
-returns-2 : tie.Need-returns-2 Inv-loop μ-loop
-returns-2 c = search needs
-
 pub all-spec : {M : Type 1} → statement M
-all-spec =
-    tie.close
-    (tie.spec
-    Inv-loop
-    μ-loop
-    loop-holds
-    after-requires
-    case-at-requires
-    same-length
-    same-length-2
-    returns
-    loop-less
-    loop-again
-    same-length-3
-    same-length-4
-    returns-2)
+all-spec = tie.close (tie.spec Inv-loop μ-loop
+    (λ c. search needs) (λ c. search needs) (λ c. search needs)  -- loop-holds, after-requires, case-at-requires
+    (λ c. search needs) (λ c. search needs) (λ c. search needs)  -- same-length, same-length-2, returns
+    (λ c. omega arith) (λ c. search needs) (λ c. search needs)  -- loop-less, loop-again, same-length-3
+    (λ c. search needs) (λ c. search needs))  -- same-length-4, returns-2

@@ -8,63 +8,22 @@ use Rattle.undump.proofs.Calls.{unnamed, refused-reading, refused-words
 use Rattle.undump.proofs.undump.Statement.{statement}
 use Rattle.undump.proofs.undump.Tie as tie
 
-name-ok-requires : tie.Need-name-ok-requires
-name-ok-requires c κs = search needs
-
-refused-requires : tie.Need-refused-requires
-refused-requires c κs = search needs
-
 returns : tie.Need-returns
 returns c =
-    let c₁ = c .before in
-    let c₂ = c₁ .before in
-    let c₃ = c₂ .before .before .before .before .before in
+    let c₁ = c .before in let c₂ = c₁ .before in let c₃ = c₂ .before .before .before .before .before in
     rw (c .refused .ensures) (unnamed (c₃ .args .chunk .now) (c₃ .args .name .now) (c₃ .args .words .now) (c₃ .args .text .now) (sym (c₂ .name-ok .ensures) ∙ not-true _ (c₁ .if1 .taken)))
-
-load-header-requires : tie.Need-load-header-requires
-load-header-requires c κs = search needs
-
-slice-aggregate-load-function : tie.Need-slice-aggregate-load-function
-slice-aggregate-load-function c = search needs
-
-slice-aggregate-load-function-2 : tie.Need-slice-aggregate-load-function-2
-slice-aggregate-load-function-2 c = search needs
-
-load-function-requires : tie.Need-load-function-requires
-load-function-requires c κs = search needs
-
-refused-requires-2 : tie.Need-refused-requires-2
-refused-requires-2 c κs = search needs
 
 returns-2 : tie.Need-returns-2
 returns-2 c =
-    let c₁ = c .before .before .before .before .before in
-    let c₂ = c₁ .before .before .before in
-    let c₃ = c₂ .before in
-    let c₄ = c₃ .before in
-    let c₅ = c₄ .before .before .before .before .before in
+    let c₁ = c .before .before .before .before .before in let c₂ = c₁ .before .before .before in let c₃ = c₂ .before in
+    let c₄ = c₃ .before in let c₅ = c₄ .before .before .before .before .before in
     rw (c .refused2 .ensures) (refused-reading (c₅ .args .name .now) (c₅ .args .words .now) (c₅ .args .text .now) (sym (c₄ .name-ok .ensures) ∙ not-false _ (c₃ .if1 .left)) (c₂ .load-header .ensures) (c₁ .load-function .ensures) (omega arith))
-
-least-requires : tie.Need-least-requires
-least-requires c κs = search needs
-
-refused-requires-3 : tie.Need-refused-requires-3
-refused-requires-3 c κs = search needs
 
 returns-3 : tie.Need-returns-3
 returns-3 c =
-    let c₁ = c .before .before .before .before .before .before .before in
-    let c₂ = c₁ .before .before .before in
-    let c₃ = c₂ .before in
-    let c₄ = c₃ .before in
-    let c₅ = c₄ .before .before .before .before .before in
+    let c₁ = c .before .before .before .before .before .before .before in let c₂ = c₁ .before .before .before in
+    let c₃ = c₂ .before in let c₄ = c₃ .before in let c₅ = c₄ .before .before .before .before .before in
     rw (c .refused3 .ensures) (refused-words (c₅ .args .name .now) (c₅ .args .words .now) (c₅ .args .text .now) (sym (c₄ .name-ok .ensures) ∙ not-false _ (c₃ .if1 .left)) (c₂ .load-header .ensures) (c₁ .load-function .ensures) (omega arith) (omega arith))
-
-least-requires-2 : tie.Need-least-requires-2
-least-requires-2 c κs = search needs
-
-refused-requires-4 : tie.Need-refused-requires-4
-refused-requires-4 c κs = search needs
 
 returns-4 : tie.Need-returns-4
 returns-4 c =
@@ -72,38 +31,15 @@ returns-4 c =
     let words = text .before .before in
     let read = words .before .before in
     let c₁ = read .before .before .before .before in
-    let c₂ = c₁ .before .before .before in
-    let c₃ = c₂ .before in
-    let c₄ = c₃ .before in
+    let c₂ = c₁ .before .before .before in let c₃ = c₂ .before in let c₄ = c₃ .before in
     let c₅ = c₄ .before .before .before .before .before in
     rw (c .refused4 .ensures) (refused-text (c₅ .args .name .now) (c₅ .args .words .now) (c₅ .args .text .now) (sym (c₄ .name-ok .ensures) ∙ not-false _ (c₃ .if1 .left)) (c₂ .load-header .ensures) (c₁ .load-function .ensures) (omega (arith, read .if2 .left)) (omega (arith, words .if3 .left, words .before .least .ensures)) (omega (arith, text .if4 .taken, text .before .least2 .ensures)))
-
-slice-relend-prefix-load-function : tie.Need-slice-relend-prefix-load-function
-slice-relend-prefix-load-function c = search needs
 
 slice-aggregate-load-function-3 : tie.Need-slice-aggregate-load-function-3
 slice-aggregate-load-function-3 c = sym (length-take-le _ _ (omega arith))
 
-slice-relend-prefix-load-function-2 : tie.Need-slice-relend-prefix-load-function-2
-slice-relend-prefix-load-function-2 c = search needs
-
 slice-aggregate-load-function-4 : tie.Need-slice-aggregate-load-function-4
 slice-aggregate-load-function-4 c = sym (length-take-le _ _ (omega arith))
-
-load-function-requires-2 : tie.Need-load-function-requires-2
-load-function-requires-2 c κs = search needs
-
-remaining-requires : tie.Need-remaining-requires
-remaining-requires c κs = search needs
-
-sub-read : tie.Need-sub-read
-sub-read c = search needs
-
-same-length : tie.Need-same-length
-same-length c = search needs
-
-same-length-2 : tie.Need-same-length-2
-same-length-2 c = search needs
 
 returns-5 : tie.Need-returns-5
 returns-5 c =
@@ -112,38 +48,26 @@ returns-5 c =
     let words = text .before .before in
     let read = words .before .before in
     let c₂ = read .before .before .before .before in
-    let c₃ = c₂ .before .before .before in
-    let c₄ = c₃ .before in
-    let c₅ = c₄ .before in
+    let c₃ = c₂ .before .before .before in let c₄ = c₃ .before in let c₅ = c₄ .before in
     let c₆ = c₅ .before .before .before .before .before in
     rw (c .remaining .ensures) (stored (c₆ .args .name .now) (c₆ .args .words .now) (c₆ .args .text .now) (sym (c₅ .name-ok .ensures) ∙ not-false _ (c₄ .if1 .left)) (c₃ .load-header .ensures) (c₂ .load-function .ensures) (omega (arith, read .if2 .left)) (omega (arith, words .if3 .left, words .before .least .ensures)) (omega (arith, text .if4 .left, text .before .least2 .ensures)) (c₁ .load-function2 .ensures))
 
 pub undump-spec : {M : Type 1} → statement M
-undump-spec =
-    tie.close
-    (tie.spec
-    name-ok-requires
-    refused-requires
+undump-spec = tie.close (tie.spec
+    (λ c. search needs) (λ c. search needs)  -- name-ok-requires, refused-requires
     returns
-    load-header-requires
-    slice-aggregate-load-function
-    slice-aggregate-load-function-2
-    load-function-requires
-    refused-requires-2
+    (λ c. search needs) (λ c. search needs)  -- load-header-requires, slice-aggregate-load-function
+    (λ c. search needs) (λ c. search needs)  -- slice-aggregate-load-function-2, load-function-requires
+    (λ c. search needs)  -- refused-requires-2
     returns-2
-    least-requires
-    refused-requires-3
+    (λ c. search needs) (λ c. search needs)  -- least-requires, refused-requires-3
     returns-3
-    least-requires-2
-    refused-requires-4
+    (λ c. search needs) (λ c. search needs)  -- least-requires-2, refused-requires-4
     returns-4
-    slice-relend-prefix-load-function
+    (λ c. search needs)  -- slice-relend-prefix-load-function
     slice-aggregate-load-function-3
-    slice-relend-prefix-load-function-2
+    (λ c. search needs)  -- slice-relend-prefix-load-function-2
     slice-aggregate-load-function-4
-    load-function-requires-2
-    remaining-requires
-    sub-read
-    same-length
-    same-length-2
+    (λ c. search needs) (λ c. search needs)  -- load-function-requires-2, remaining-requires
+    (λ c. search needs) (λ c. search needs) (λ c. search needs)  -- sub-read, same-length, same-length-2
     returns-5)

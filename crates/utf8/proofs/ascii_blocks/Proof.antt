@@ -16,20 +16,8 @@ abbrev μ-loop : tie.MeasureT-loop
 loop-holds : tie.Need-loop-holds Inv-loop μ-loop
 loop-holds c = text-none _ _ (c .before .pre)
 
-sub-loop : tie.Need-sub-loop Inv-loop μ-loop
-sub-loop c = omega arith
-
-is-ascii-block-requires : tie.Need-is-ascii-block-requires Inv-loop μ-loop
-is-ascii-block-requires c κs = omega arith
-
 returns : tie.Need-returns Inv-loop μ-loop
 returns c = c .before .before .before .loop .inv
-
-add-i : tie.Need-add-i Inv-loop μ-loop
-add-i c = omega arith
-
-loop-less : tie.Need-loop-less Inv-loop μ-loop
-loop-less c = omega arith
 
 loop-again : tie.Need-loop-again Inv-loop μ-loop
 loop-again c = text-join (c .before .before .before .loop .inv) (text-ascii 32 (omega arith) (c .before .is-ascii-block .ensures) (c .if1 .left))
@@ -38,16 +26,8 @@ returns-2 : tie.Need-returns-2 Inv-loop μ-loop
 returns-2 c = c .before .loop .inv
 
 pub ascii-blocks-spec : {M : Type 1} → statement M
-ascii-blocks-spec =
-    tie.close
-    (tie.spec
-    Inv-loop
-    μ-loop
-    loop-holds
-    sub-loop
-    is-ascii-block-requires
+ascii-blocks-spec = tie.close (tie.spec Inv-loop μ-loop loop-holds
+    (λ c. omega arith) (λ c. omega arith)  -- sub-loop, is-ascii-block-requires
     returns
-    add-i
-    loop-less
-    loop-again
-    returns-2)
+    (λ c. omega arith) (λ c. omega arith)  -- add-i, loop-less
+    loop-again returns-2)

@@ -13,23 +13,11 @@ Inv-loop bytes at i₀ i = Text bytes at i
 abbrev μ-loop : tie.MeasureT-loop
 μ-loop bytes at i₀ i = length bytes - i
 
-ascii-blocks-requires : tie.Need-ascii-blocks-requires Inv-loop μ-loop
-ascii-blocks-requires c κs = omega arith
-
 loop-holds : tie.Need-loop-holds Inv-loop μ-loop
 loop-holds c = c .ascii-blocks .ensures
 
-shared-slice-read-if1 : tie.Need-shared-slice-read-if1 Inv-loop μ-loop
-shared-slice-read-if1 c = omega arith
-
 returns : tie.Need-returns Inv-loop μ-loop
 returns c = c .before .before .before .loop .inv
-
-add-i : tie.Need-add-i Inv-loop μ-loop
-add-i c = omega arith
-
-loop-less : tie.Need-loop-less Inv-loop μ-loop
-loop-less c = omega arith
 
 loop-again : tie.Need-loop-again Inv-loop μ-loop
 loop-again c = text-join (c .before .before .before .loop .inv) (text-byte _ _ (omega arith) (c .if1 .left))
@@ -38,16 +26,10 @@ returns-2 : tie.Need-returns-2 Inv-loop μ-loop
 returns-2 c = c .before .loop .inv
 
 pub ascii-end-spec : {M : Type 1} → statement M
-ascii-end-spec =
-    tie.close
-    (tie.spec
-    Inv-loop
-    μ-loop
-    ascii-blocks-requires
+ascii-end-spec = tie.close (tie.spec Inv-loop μ-loop
+    (λ c. omega arith)  -- ascii-blocks-requires
     loop-holds
-    shared-slice-read-if1
+    (λ c. omega arith)  -- shared-slice-read-if1
     returns
-    add-i
-    loop-less
-    loop-again
-    returns-2)
+    (λ c. omega arith) (λ c. omega arith)  -- add-i, loop-less
+    loop-again returns-2)

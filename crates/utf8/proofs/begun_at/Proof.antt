@@ -17,64 +17,30 @@ Inv-loop bytes at n b low₀ high₀ k₀ low high k = RowLeft (ranges (n - 1) (
 abbrev μ-loop : tie.MeasureT-loop
 μ-loop bytes at n b low₀ high₀ k₀ low high k = n - k
 
-shared-slice-read-b : tie.Need-shared-slice-read-b Inv-loop μ-loop
-shared-slice-read-b c = search needs
-
-second-low-requires : tie.Need-second-low-requires Inv-loop μ-loop
-second-low-requires c κs = search needs
-
-second-high-requires : tie.Need-second-high-requires Inv-loop μ-loop
-second-high-requires c κs = search needs
-
 loop-holds : tie.Need-loop-holds Inv-loop μ-loop
 loop-holds c =
-    let c₁ = c .before in
-    let c₂ = c₁ .before .before .before in
+    let c₁ = c .before in let c₂ = c₁ .before .before .before in
     rw (c₁ .second-low .ensures, c .second-high .ensures) (left-start (c₂ .args .bytes .now) (c₂ .args .at) (c₂ .pre))
-
-add-in-range : tie.Need-add-in-range Inv-loop μ-loop
-add-in-range c = omega arith
-
-in-range-requires : tie.Need-in-range-requires Inv-loop μ-loop
-in-range-requires c κs = search needs
 
 returns : tie.Need-returns Inv-loop μ-loop
 returns c =
-    let c₁ = c .before in
-    let c₂ = c₁ .before .before in
-    let c₃ = c₂ .before .before .before .before .before in
+    let c₁ = c .before in let c₂ = c₁ .before .before in let c₃ = c₂ .before .before .before .before .before in
     left-stop (c₁ .in-range .ensures) (not-true _ (c .if1 .taken)) (rw (ranges-more (c₃ .args .n) (c₂ .loop .k) (c₂ .loop .low ‥ c₂ .loop .high) (omega arith)) at (c₂ .loop .inv))
-
-add-k : tie.Need-add-k Inv-loop μ-loop
-add-k c = omega arith
-
-loop-less : tie.Need-loop-less Inv-loop μ-loop
-loop-less c = omega arith
 
 loop-again : tie.Need-loop-again Inv-loop μ-loop
 loop-again c =
-    let c₁ = c .before in
-    let c₂ = c₁ .before .before in
-    let c₃ = c₂ .before .before .before .before .before in
+    let c₁ = c .before in let c₂ = c₁ .before .before in let c₃ = c₂ .before .before .before .before .before in
     left-more (c₁ .in-range .ensures) (not-false _ (c .if1 .left)) (rw (ranges-more (c₃ .args .n) (c₂ .loop .k) (c₂ .loop .low ‥ c₂ .loop .high) (omega arith)) at (c₂ .loop .inv))
 
 returns-2 : tie.Need-returns-2 Inv-loop μ-loop
 returns-2 c = left-done (rw (ranges-none (c .before .before .before .before .before .before .args .n) (c .before .loop .k) (c .before .loop .low ‥ c .before .loop .high) (omega arith)) at (c .before .loop .inv))
 
 pub begun-at-spec : {M : Type 1} → statement M
-begun-at-spec =
-    tie.close
-    (tie.spec
-    Inv-loop
-    μ-loop
-    shared-slice-read-b
-    second-low-requires
-    second-high-requires
+begun-at-spec = tie.close (tie.spec Inv-loop μ-loop
+    (λ c. search needs) (λ c. search needs)  -- shared-slice-read-b, second-low-requires
+    (λ c. search needs)  -- second-high-requires
     loop-holds
-    add-in-range
-    in-range-requires
+    (λ c. omega arith) (λ c. search needs)  -- add-in-range, in-range-requires
     returns
-    add-k
-    loop-less
-    loop-again
-    returns-2)
+    (λ c. omega arith) (λ c. omega arith)  -- add-k, loop-less
+    loop-again returns-2)

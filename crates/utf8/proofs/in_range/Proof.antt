@@ -9,9 +9,6 @@ use Rattle.utf8.proofs.in_range.Tie as tie
 returns : tie.Need-returns
 returns c = sym (begins-none _ _ _ (c .if1 .taken))
 
-shared-slice-read-b : tie.Need-shared-slice-read-b
-shared-slice-read-b c = search needs
-
 returns-2 : tie.Need-returns-2
 returns-2 c = rw (begins-some _ _ _ (c .before .before .if1 .left), lt-leb _ _ (c .if2 .taken))
 
@@ -19,4 +16,6 @@ returns-3 : tie.Need-returns-3
 returns-3 c = rw (begins-some _ _ _ (c .before .before .if1 .left), le-leb _ _ (c .if2 .left))
 
 pub in-range-spec : {M : Type 1} → statement M
-in-range-spec = tie.close (tie.spec returns shared-slice-read-b returns-2 returns-3)
+in-range-spec = tie.close (tie.spec returns
+    (λ c. search needs)  -- shared-slice-read-b
+    returns-2 returns-3)

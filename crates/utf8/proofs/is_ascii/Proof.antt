@@ -5,64 +5,31 @@ use Rattle.utf8.proofs.Ascii.{part-not, front-none, front-more, front-l
 use Rattle.utf8.proofs.is_ascii.Statement.{statement}
 use Rattle.utf8.proofs.is_ascii.Tie as tie
 
-is-ascii-each-requires : tie.Need-is-ascii-each-requires
-is-ascii-each-requires c κs = search needs
-
-returns : tie.Need-returns
-returns c = search needs
-
-is-ascii-each-requires-2 : tie.Need-is-ascii-each-requires-2
-is-ascii-each-requires-2 c κs = search needs
-
-returns-2 : tie.Need-returns-2
-returns-2 c = search needs
-
-is-ascii-four-requires : tie.Need-is-ascii-four-requires
-is-ascii-four-requires c κs = search needs
-
 returns-3 : tie.Need-returns-3
 returns-3 c = part-not _ 0 4 (c .before .is-ascii-four .ensures) (c .if3 .taken)
-
-is-ascii-four-requires-2 : tie.Need-is-ascii-four-requires-2
-is-ascii-four-requires-2 c κs = search needs
 
 returns-4 : tie.Need-returns-4
 returns-4 c =
     let c₁ = c .before .before in
     front-last 4 (front-more 4 front-none (c₁ .before .is-ascii-four .ensures) (c₁ .if3 .left)) (omega arith) (omega arith) (c .is-ascii-four2 .ensures)
 
-is-ascii-four-requires-3 : tie.Need-is-ascii-four-requires-3
-is-ascii-four-requires-3 c κs = search needs
-
 returns-5 : tie.Need-returns-5
 returns-5 c = part-not _ 4 4 (c .before .is-ascii-four3 .ensures) (c .if5 .taken)
 
-is-ascii-four-requires-4 : tie.Need-is-ascii-four-requires-4
-is-ascii-four-requires-4 c κs = search needs
-
 returns-6 : tie.Need-returns-6
 returns-6 c =
-    let c₁ = c .before .before in
-    let c₂ = c₁ .before .before .before in
+    let c₁ = c .before .before in let c₂ = c₁ .before .before .before in
     front-last 4
     (front-more 4
     (front-more 4 front-none (c₂ .before .is-ascii-four .ensures) (c₂ .if3 .left))
     (c₁ .before .is-ascii-four3 .ensures) (c₁ .if5 .left)) (omega arith) (omega arith) (c .is-ascii-four4 .ensures)
 
-is-ascii-four-requires-5 : tie.Need-is-ascii-four-requires-5
-is-ascii-four-requires-5 c κs = search needs
-
 returns-7 : tie.Need-returns-7
 returns-7 c = part-not _ 8 4 (c .before .is-ascii-four5 .ensures) (c .if7 .taken)
 
-is-ascii-four-requires-6 : tie.Need-is-ascii-four-requires-6
-is-ascii-four-requires-6 c κs = search needs
-
 returns-8 : tie.Need-returns-8
 returns-8 c =
-    let c₁ = c .before in
-    let c₂ = c₁ .before .before .before in
-    let c₃ = c₂ .before .before .before in
+    let c₁ = c .before in let c₂ = c₁ .before .before .before in let c₃ = c₂ .before .before .before in
     front-last 4
     (front-more 4
     (front-more 4
@@ -71,22 +38,18 @@ returns-8 c =
     (c₁ .before .is-ascii-four5 .ensures) (c₁ .if7 .left)) (omega arith) (omega arith) (c .is-ascii-four6 .ensures)
 
 pub is-ascii-spec : {M : Type 1} → statement M
-is-ascii-spec =
-    tie.close
-    (tie.spec
-    is-ascii-each-requires
-    returns
-    is-ascii-each-requires-2
-    returns-2
-    is-ascii-four-requires
+is-ascii-spec = tie.close (tie.spec
+    (λ c. search needs) (λ c. search needs)  -- is-ascii-each-requires, returns
+    (λ c. search needs) (λ c. search needs)  -- is-ascii-each-requires-2, returns-2
+    (λ c. search needs)  -- is-ascii-four-requires
     returns-3
-    is-ascii-four-requires-2
+    (λ c. search needs)  -- is-ascii-four-requires-2
     returns-4
-    is-ascii-four-requires-3
+    (λ c. search needs)  -- is-ascii-four-requires-3
     returns-5
-    is-ascii-four-requires-4
+    (λ c. search needs)  -- is-ascii-four-requires-4
     returns-6
-    is-ascii-four-requires-5
+    (λ c. search needs)  -- is-ascii-four-requires-5
     returns-7
-    is-ascii-four-requires-6
+    (λ c. search needs)  -- is-ascii-four-requires-6
     returns-8)

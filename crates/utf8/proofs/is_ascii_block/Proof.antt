@@ -16,18 +16,6 @@ abbrev μ-loop : tie.MeasureT-loop
 loop-holds : tie.Need-loop-holds Inv-loop μ-loop
 loop-holds c = (omega arith, greatest-none)
 
-add-b : tie.Need-add-b Inv-loop μ-loop
-add-b c = omega arith
-
-shared-slice-read-b : tie.Need-shared-slice-read-b Inv-loop μ-loop
-shared-slice-read-b c = omega arith
-
-add-i : tie.Need-add-i Inv-loop μ-loop
-add-i c = omega arith
-
-loop-less : tie.Need-loop-less Inv-loop μ-loop
-loop-less c = omega arith
-
 loop-again : tie.Need-loop-again Inv-loop μ-loop
 loop-again c = (omega arith, greatest-more (omega arith) (⊎-elim (λ w. omega arith) (λ w. omega arith) (c .if1 .came)) (c .before .before .before .loop .inv .1))
 
@@ -37,15 +25,7 @@ returns c =
     rw e at (c .before .loop .inv .1 .ascii)
 
 pub is-ascii-block-spec : {M : Type 1} → statement M
-is-ascii-block-spec =
-    tie.close
-    (tie.spec
-    Inv-loop
-    μ-loop
-    loop-holds
-    add-b
-    shared-slice-read-b
-    add-i
-    loop-less
-    loop-again
-    returns)
+is-ascii-block-spec = tie.close (tie.spec Inv-loop μ-loop loop-holds
+    (λ c. omega arith) (λ c. omega arith) (λ c. omega arith)  -- add-b, shared-slice-read-b, add-i
+    (λ c. omega arith)  -- loop-less
+    loop-again returns)

@@ -4,11 +4,10 @@ use Rattle.utf8.proofs.Texts.{text-whole}
 use Rattle.utf8.proofs.is_utf8.Statement.{statement}
 use Rattle.utf8.proofs.is_utf8.Tie as tie
 
-text-end-requires : tie.Need-text-end-requires
-text-end-requires c κs = search needs
-
 returns : tie.Need-returns
 returns c = text-whole (c .text-end .ensures)
 
 pub is-utf8-spec : {M : Type 1} → statement M
-is-utf8-spec = tie.close (tie.spec text-end-requires returns)
+is-utf8-spec = tie.close (tie.spec
+    (λ c. search needs)  -- text-end-requires
+    returns)

@@ -19,37 +19,14 @@ abbrev μ-loop : tie.MeasureT-loop
 loop-holds : tie.Need-loop-holds Inv-loop μ-loop
 loop-holds c = (omega arith, refl, rest-start)
 
-text-end-requires : tie.Need-text-end-requires Inv-loop μ-loop
-text-end-requires c κs = omega arith
-
-sub-put-bytes : tie.Need-sub-put-bytes Inv-loop μ-loop
-sub-put-bytes c = omega arith
-
-part-put-bytes-start : tie.Need-part-put-bytes-start Inv-loop μ-loop
-part-put-bytes-start c = omega arith
-
-part-put-bytes-end : tie.Need-part-put-bytes-end Inv-loop μ-loop
-part-put-bytes-end c = omega arith
-
-put-bytes-requires : tie.Need-put-bytes-requires Inv-loop μ-loop
-put-bytes-requires c κs = search needs
-
 same-length : tie.Need-same-length Inv-loop μ-loop
 same-length c = c .before .before .before .put-bytes .kept .0 ∙ c .before .before .before .before .before .before .before .loop .inv .1
 
 returns : tie.Need-returns Inv-loop μ-loop
 returns c =
-    let c₁ = c .before .before .before in
-    let c₂ = c₁ .before .before .before in
-    let c₃ = c₂ .before in
+    let c₁ = c .before .before .before in let c₂ = c₁ .before .before .before in let c₃ = c₂ .before in
     let c₄ = c₃ .before .before .before in
     rest-end (repair-none (c₄ .args .bytes .now) (c₂ .text-end .result) (omega arith)) (rest-put _ (repair-text (c₂ .text-end .ensures .text)) (c₃ .loop .inv .2) (c₁ .put-bytes .ensures))
-
-put-replacement-requires : tie.Need-put-replacement-requires Inv-loop μ-loop
-put-replacement-requires c κs = search needs
-
-step-at-requires : tie.Need-step-at-requires Inv-loop μ-loop
-step-at-requires c κs = search needs
 
 add-i : tie.Need-add-i Inv-loop μ-loop
 add-i c =
@@ -67,11 +44,8 @@ loop-less c =
 
 loop-again : tie.Need-loop-again Inv-loop μ-loop
 loop-again c =
-    let c₁ = c .before in
-    let c₂ = c₁ .before .before .before in
-    let c₃ = c₂ .before .before .before .before .before in
-    let c₄ = c₃ .before .before .before in
-    let c₅ = c₄ .before in
+    let c₁ = c .before in let c₂ = c₁ .before .before .before in let c₃ = c₂ .before .before .before .before .before in
+    let c₄ = c₃ .before .before .before in let c₅ = c₄ .before in
     let c₆ = c₅ .before .before .before in (
       step-fits (c₆ .args .bytes .now) (c₄ .text-end .result) (omega arith) (c₁ .step-at .ensures) .1,
       c₂ .put-replacement .kept .0 ∙ c₃ .put-bytes .kept .0 ∙ c₅ .loop .inv .1,
@@ -81,21 +55,9 @@ loop-again c =
     )
 
 pub repair-steps-spec : {M : Type 1} → statement M
-repair-steps-spec =
-    tie.close
-    (tie.spec
-    Inv-loop
-    μ-loop
-    loop-holds
-    text-end-requires
-    sub-put-bytes
-    part-put-bytes-start
-    part-put-bytes-end
-    put-bytes-requires
-    same-length
-    returns
-    put-replacement-requires
-    step-at-requires
-    add-i
-    loop-less
-    loop-again)
+repair-steps-spec = tie.close (tie.spec Inv-loop μ-loop loop-holds
+    (λ c. omega arith) (λ c. omega arith) (λ c. omega arith)  -- text-end-requires, sub-put-bytes, part-put-bytes-start
+    (λ c. omega arith) (λ c. search needs)  -- part-put-bytes-end, put-bytes-requires
+    same-length returns
+    (λ c. search needs) (λ c. search needs)  -- put-replacement-requires, step-at-requires
+    add-i loop-less loop-again)

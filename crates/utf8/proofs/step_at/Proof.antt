@@ -8,23 +8,13 @@ use Rattle.utf8.proofs.step_at.Tie as tie
 returns : tie.Need-returns
 returns c = step-none _ _ (c .if1 .taken)
 
-shared-slice-read-row-len : tie.Need-shared-slice-read-row-len
-shared-slice-read-row-len c = search needs
-
-row-len-requires : tie.Need-row-len-requires
-row-len-requires c κs = search needs
-
-begun-at-requires : tie.Need-begun-at-requires
-begun-at-requires c κs = search needs
-
 returns-2 : tie.Need-returns-2
 returns-2 c =
-    let c₁ = c .before in
-    let c₂ = c₁ .before in
-    let c₃ = c₂ .before in
-    let c₄ = c₃ .before .before in
+    let c₁ = c .before in let c₂ = c₁ .before in let c₃ = c₂ .before in let c₄ = c₃ .before .before in
     step-led (c₄ .args .bytes .now) (c₄ .args .at) _ _ (c₃ .if1 .left) (omega (arith, c₂ .shared-slice-known2 .given (c₄ .args .at))) (c₁ .row-len .ensures) (c .begun-at .ensures)
 
 pub step-at-spec : {M : Type 1} → statement M
-step-at-spec =
-    tie.close (tie.spec returns shared-slice-read-row-len row-len-requires begun-at-requires returns-2)
+step-at-spec = tie.close (tie.spec returns
+    (λ c. search needs) (λ c. search needs)  -- shared-slice-read-row-len, row-len-requires
+    (λ c. search needs)  -- begun-at-requires
+    returns-2)

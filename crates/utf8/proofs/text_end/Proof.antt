@@ -17,23 +17,8 @@ abbrev μ-loop : tie.MeasureT-loop
 loop-holds : tie.Need-loop-holds Inv-loop μ-loop
 loop-holds c = text-none _ _ (c .before .pre)
 
-shared-slice-read-if1 : tie.Need-shared-slice-read-if1 Inv-loop μ-loop
-shared-slice-read-if1 c = omega arith
-
-add-ascii-end : tie.Need-add-ascii-end Inv-loop μ-loop
-add-ascii-end c = omega arith
-
-ascii-end-requires : tie.Need-ascii-end-requires Inv-loop μ-loop
-ascii-end-requires c κs = omega arith
-
-loop-less : tie.Need-loop-less Inv-loop μ-loop
-loop-less c = omega arith
-
 loop-again : tie.Need-loop-again Inv-loop μ-loop
 loop-again c = text-join (text-join (c .before .before .before .before .loop .inv) (text-byte _ _ (omega arith) (c .before .if1 .taken))) (c .ascii-end .ensures)
-
-two-requires : tie.Need-two-requires Inv-loop μ-loop
-two-requires c κs = omega arith
 
 add-i : tie.Need-add-i Inv-loop μ-loop
 add-i c = omega (arith, c .before .two .ensures (c .if2 .taken))
@@ -44,9 +29,6 @@ loop-less-2 c = omega (arith, c .before .two .ensures (c .if2 .taken))
 loop-again-2 : tie.Need-loop-again-2 Inv-loop μ-loop
 loop-again-2 c = text-join (c .before .before .before .before .before .loop .inv) (c .before .two .ensures (c .if2 .taken))
 
-three-requires : tie.Need-three-requires Inv-loop μ-loop
-three-requires c κs = omega arith
-
 add-i-2 : tie.Need-add-i-2 Inv-loop μ-loop
 add-i-2 c = omega (arith, c .before .three .ensures (c .if3 .taken))
 
@@ -56,31 +38,24 @@ loop-less-3 c = omega (arith, c .before .three .ensures (c .if3 .taken))
 loop-again-3 : tie.Need-loop-again-3 Inv-loop μ-loop
 loop-again-3 c = text-join (c .before .before .before .before .before .before .before .loop .inv) (c .before .three .ensures (c .if3 .taken))
 
-step-at-requires : tie.Need-step-at-requires Inv-loop μ-loop
-step-at-requires c κs = search needs
-
 returns : tie.Need-returns Inv-loop μ-loop
 returns c =
-    let c₁ = c .before .before in
-    let c₂ = c₁ .before .before .before .before .before .before .before .before in
+    let c₁ = c .before .before in let c₂ = c₁ .before .before .before .before .before .before .before .before in
     text-stop (c₁ .step-at .ensures) (c .if4 .taken) (c₂ .loop .inv)
 
 add-i-3 : tie.Need-add-i-3 Inv-loop μ-loop
 add-i-3 c =
-    let c₁ = c .before .before .before in
-    let c₂ = c₁ .before .before .before .before .before .before .before in
+    let c₁ = c .before .before .before in let c₂ = c₁ .before .before .before .before .before .before .before in
     omega (arith, step-fits _ _ (c₂ .loop-test .taken) (c₁ .step-at .ensures))
 
 loop-less-4 : tie.Need-loop-less-4 Inv-loop μ-loop
 loop-less-4 c =
-    let c₁ = c .before .before .before in
-    let c₂ = c₁ .before .before .before .before .before .before .before in
+    let c₁ = c .before .before .before in let c₂ = c₁ .before .before .before .before .before .before .before in
     omega (arith, step-fits _ _ (c₂ .loop-test .taken) (c₁ .step-at .ensures))
 
 loop-again-4 : tie.Need-loop-again-4 Inv-loop μ-loop
 loop-again-4 c =
-    let c₁ = c .before in
-    let c₂ = c₁ .before .before in
+    let c₁ = c .before in let c₂ = c₁ .before .before in
     let c₃ = c₂ .before .before .before .before .before .before .before in
     text-join (c₃ .before .loop .inv) (text-step _ _ (c₃ .loop-test .taken) (c₂ .step-at .ensures) (c₁ .if4 .left))
 
@@ -88,28 +63,13 @@ returns-2 : tie.Need-returns-2 Inv-loop μ-loop
 returns-2 c = text-end (omega arith) (c .before .loop .inv)
 
 pub text-end-spec : {M : Type 1} → statement M
-text-end-spec =
-    tie.close
-    (tie.spec
-    Inv-loop
-    μ-loop
-    loop-holds
-    shared-slice-read-if1
-    add-ascii-end
-    ascii-end-requires
-    loop-less
+text-end-spec = tie.close (tie.spec Inv-loop μ-loop loop-holds
+    (λ c. omega arith) (λ c. omega arith)  -- shared-slice-read-if1, add-ascii-end
+    (λ c. omega arith) (λ c. omega arith)  -- ascii-end-requires, loop-less
     loop-again
-    two-requires
-    add-i
-    loop-less-2
-    loop-again-2
-    three-requires
-    add-i-2
-    loop-less-3
-    loop-again-3
-    step-at-requires
-    returns
-    add-i-3
-    loop-less-4
-    loop-again-4
-    returns-2)
+    (λ c. omega arith)  -- two-requires
+    add-i loop-less-2 loop-again-2
+    (λ c. omega arith)  -- three-requires
+    add-i-2 loop-less-3 loop-again-3
+    (λ c. search needs)  -- step-at-requires
+    returns add-i-3 loop-less-4 loop-again-4 returns-2)

@@ -11,23 +11,11 @@ use Rattle.utf8.proofs.Texts.{text-led}
 use Rattle.utf8.proofs.three.Statement.{statement}
 use Rattle.utf8.proofs.three.Tie as tie
 
-in-range-requires : tie.Need-in-range-requires
-in-range-requires c κs = search needs
-
 returns : tie.Need-returns
 returns c e = absurd (false≢true e)
 
-second-fits-requires : tie.Need-second-fits-requires
-second-fits-requires c κs = search needs
-
 returns-2 : tie.Need-returns-2
 returns-2 c e = absurd (false≢true e)
-
-add-in-range : tie.Need-add-in-range
-add-in-range c = search needs
-
-in-range-requires-2 : tie.Need-in-range-requires-2
-in-range-requires-2 c κs = search needs
 
 returns-3 : tie.Need-returns-3
 unfolding passes rowOf
@@ -40,13 +28,10 @@ returns-3 c e =
     (left-more (c .in-range2 .ensures) e (left-more (c₂ .second-fits .ensures) (not-false _ (c₁ .if2 .left)) (left-start (c₄ .args .bytes .now) (c₄ .args .at) (c₄ .pre))))
 
 pub three-spec : {M : Type 1} → statement M
-three-spec =
-    tie.close
-    (tie.spec
-    in-range-requires
+three-spec = tie.close (tie.spec
+    (λ c. search needs)  -- in-range-requires
     returns
-    second-fits-requires
+    (λ c. search needs)  -- second-fits-requires
     returns-2
-    add-in-range
-    in-range-requires-2
+    (λ c. search needs) (λ c. search needs)  -- add-in-range, in-range-requires-2
     returns-3)

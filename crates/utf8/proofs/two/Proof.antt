@@ -10,14 +10,8 @@ use Rattle.utf8.proofs.Texts.{text-led}
 use Rattle.utf8.proofs.two.Statement.{statement}
 use Rattle.utf8.proofs.two.Tie as tie
 
-in-range-requires : tie.Need-in-range-requires
-in-range-requires c κs = search needs
-
 returns : tie.Need-returns
 returns c e = absurd (false≢true e)
-
-second-fits-requires : tie.Need-second-fits-requires
-second-fits-requires c κs = search needs
 
 returns-2 : tie.Need-returns-2
 unfolding passes rowOf
@@ -27,4 +21,8 @@ returns-2 c e =
     text-led 2 0xc2 0xdf refl (omega arith) (c₁ .in-range .ensures) (c .before .if1 .left) (left-more (c .second-fits .ensures) e (left-start (c₂ .args .bytes .now) (c₂ .args .at) (c₂ .pre)))
 
 pub two-spec : {M : Type 1} → statement M
-two-spec = tie.close (tie.spec in-range-requires returns second-fits-requires returns-2)
+two-spec = tie.close (tie.spec
+    (λ c. search needs)  -- in-range-requires
+    returns
+    (λ c. search needs)  -- second-fits-requires
+    returns-2)

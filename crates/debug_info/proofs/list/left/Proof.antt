@@ -8,9 +8,6 @@ use Rattle.debug_info.proofs.list.left.Tie as tie
 returns : tie.Need-returns
 returns c = rw (le-ltb _ _ (c .if1 .taken))
 
-sub-result : tie.Need-sub-result
-sub-result c = search needs
-
 returns-2 : tie.Need-returns-2
 returns-2 c = rw (lt-ltb _ _ (c .before .if1 .left)) (omega arith)
 
@@ -18,4 +15,6 @@ returns-3 : tie.Need-returns-3
 returns-3 c = rw (lt-ltb _ _ (c .before .if1 .left))
 
 pub left-spec : {M : Type 1} → statement M
-left-spec = tie.close (tie.spec returns sub-result returns-2 returns-3)
+left-spec = tie.close (tie.spec returns
+    (λ c. search needs)  -- sub-result
+    returns-2 returns-3)

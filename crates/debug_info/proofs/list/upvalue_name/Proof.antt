@@ -6,17 +6,8 @@ use Rattle.debug_info.proofs.Lists.{looked-past, looked-up}
 use Rattle.debug_info.proofs.list.upvalue_name.Statement.{statement}
 use Rattle.debug_info.proofs.list.upvalue_name.Tie as tie
 
-word-at-requires : tie.Need-word-at-requires
-word-at-requires c κs = search needs
-
 returns : tie.Need-returns
 returns c = λ text l h. rw (looked-past string l h (c .before .word-at .ensures) (c .if1 .taken))
-
-item-at-requires : tie.Need-item-at-requires
-item-at-requires c κs = search needs
-
-name-at-requires : tie.Need-name-at-requires
-name-at-requires c κs = search needs
 
 returns-2 : tie.Need-returns-2
 returns-2 c = λ text l h.
@@ -24,5 +15,8 @@ returns-2 c = λ text l h.
     rw (x .is) (c .name-at .ensures text (x .value) (x .stands))
 
 pub upvalue-name-spec : {M : Type 1} → statement M
-upvalue-name-spec =
-    tie.close (tie.spec word-at-requires returns item-at-requires name-at-requires returns-2)
+upvalue-name-spec = tie.close (tie.spec
+    (λ c. search needs)  -- word-at-requires
+    returns
+    (λ c. search needs) (λ c. search needs)  -- item-at-requires, name-at-requires
+    returns-2)

@@ -3,18 +3,6 @@ use borrow.Author.Needs.{needs}
 use Rattle.debug_info.proofs.name.constant_name.Statement.{statement}
 use Rattle.debug_info.proofs.name.constant_name.Tie as tie
 
-enum-told : tie.Need-enum-told
-enum-told c = search needs
-
-enum-told-2 : tie.Need-enum-told-2
-enum-told-2 c = search needs
-
-enum-told-3 : tie.Need-enum-told-3
-enum-told-3 c = search needs
-
-enum-known-k : tie.Need-enum-known-k
-enum-known-k c = search needs
-
 returns : tie.Need-returns
 returns c = λ text. rw (c .enum-told .given .1)
 
@@ -28,6 +16,7 @@ returns-4 : tie.Need-returns-4
 returns-4 c = λ text. rw (c .before .k .given .1)
 
 pub constant-name-spec : {M : Type 1} → statement M
-constant-name-spec =
-    tie.close
-    (tie.spec enum-told enum-told-2 enum-told-3 enum-known-k returns returns-2 returns-3 returns-4)
+constant-name-spec = tie.close (tie.spec
+    (λ c. search needs) (λ c. search needs) (λ c. search needs)  -- enum-told, enum-told-2, enum-told-3
+    (λ c. search needs)  -- enum-known-k
+    returns returns-2 returns-3 returns-4)

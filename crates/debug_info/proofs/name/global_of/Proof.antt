@@ -3,27 +3,6 @@ use borrow.Author.Needs.{needs}
 use Rattle.debug_info.proofs.name.global_of.Statement.{statement}
 use Rattle.debug_info.proofs.name.global_of.Tie as tie
 
-enum-told : tie.Need-enum-told
-enum-told c = search needs
-
-nothing-requires : tie.Need-nothing-requires
-nothing-requires c κs = search needs
-
-enum-told-2 : tie.Need-enum-told-2
-enum-told-2 c = search needs
-
-nothing-requires-2 : tie.Need-nothing-requires-2
-nothing-requires-2 c κs = search needs
-
-enum-told-3 : tie.Need-enum-told-3
-enum-told-3 c = search needs
-
-nothing-requires-3 : tie.Need-nothing-requires-3
-nothing-requires-3 c κs = search needs
-
-enum-known-k : tie.Need-enum-known-k
-enum-known-k c = search needs
-
 returns : tie.Need-returns
 returns c = λ text. rw (c .before .enum-told .given .1) (c .nothing .ensures text)
 
@@ -37,17 +16,8 @@ returns-4 : tie.Need-returns-4
 returns-4 c = λ text. rw (c .before .k .given .1)
 
 pub global-of-spec : {M : Type 1} → statement M
-global-of-spec =
-    tie.close
-    (tie.spec
-    enum-told
-    nothing-requires
-    enum-told-2
-    nothing-requires-2
-    enum-told-3
-    nothing-requires-3
-    enum-known-k
-    returns
-    returns-2
-    returns-3
-    returns-4)
+global-of-spec = tie.close (tie.spec
+    (λ c. search needs) (λ c. search needs) (λ c. search needs)  -- enum-told, nothing-requires, enum-told-2
+    (λ c. search needs) (λ c. search needs) (λ c. search needs)  -- nothing-requires-2, enum-told-3, nothing-requires-3
+    (λ c. search needs)  -- enum-known-k
+    returns returns-2 returns-3 returns-4)

@@ -38,88 +38,40 @@ getobjname-below t =
 abbrev getobjname-calls : ℕ → getobjname-lts.Claims
 getobjname-calls t = (nothing-reads.Asked, nothing-reads.Learnt, active-local-reads.Asked, active-local-reads.Learnt, symbexec-at-reads.Asked, symbexec-at-reads.Learnt, moves-up-reads.Asked, moves-up-reads.Learnt, b-reads.Asked, b-reads.Learnt, getobjname-below t, getobjname.Post, wrote-reads.Asked, wrote-reads.Learnt)
 
-getobjname-array-read-if1 : (t : ℕ) → getobjname-lts.Need-array-read-if1 (getobjname-calls t) (getobjname-at t) getobjname.Post
-getobjname-array-read-if1 t c = omega arith
-
-getobjname-nothing-requires : (t : ℕ) → getobjname-lts.Need-nothing-requires (getobjname-calls t) (getobjname-at t) getobjname.Post
-getobjname-nothing-requires t c κs = search needs
-
 getobjname-returns : (t : ℕ) → getobjname-lts.Need-returns (getobjname-calls t) (getobjname-at t) getobjname.Post
 getobjname-returns t c = λ text p fs h v. search-again (objectOf text (c .nothing .result)) p fs _ _ _ _ (c .before .if1 .taken) (c .nothing .ensures text)
 
-getobjname-add-active-local : (t : ℕ) → getobjname-lts.Need-add-active-local (getobjname-calls t) (getobjname-at t) getobjname.Post
-getobjname-add-active-local t c = omega arith
-
-getobjname-active-local-requires : (t : ℕ) → getobjname-lts.Need-active-local-requires (getobjname-calls t) (getobjname-at t) getobjname.Post
-getobjname-active-local-requires t c κs = search needs
-
 getobjname-returns-2 : (t : ℕ) → getobjname-lts.Need-returns-2 (getobjname-calls t) (getobjname-at t) getobjname.Post
 getobjname-returns-2 t c =
-    let c₁ = c .before .before in
-    let c₂ = c₁ .before in
-    let c₃ = c₂ .before .before in
+    let c₁ = c .before .before in let c₂ = c₁ .before in let c₃ = c₂ .before .before in
     λ text p fs h v. search-local (objectOf text (c₁ .active-local .result)) p fs (c₃ .args .pc) (c₃ .args .reg) (c₃ .args .t5) (omega (arith, c₃ .fits)) (omega (arith, c₃ .good .1 .1 .1 .1 .0 .1 .0 .1, c₃ .pre .1)) (c₂ .if1 .left) (c₁ .active-local .ensures text (p .debug .locals) (h .locals)) (c .if2 .taken)
-
-getobjname-symbexec-at-requires : (t : ℕ) → getobjname-lts.Need-symbexec-at-requires (getobjname-calls t) (getobjname-at t) getobjname.Post
-getobjname-symbexec-at-requires t c κs = search needs
-
-getobjname-moves-up-requires : (t : ℕ) → getobjname-lts.Need-moves-up-requires (getobjname-calls t) (getobjname-at t) getobjname.Post
-getobjname-moves-up-requires t c κs = search needs
-
-getobjname-array-write-now : (t : ℕ) → getobjname-lts.Need-array-write-now (getobjname-calls t) (getobjname-at t) getobjname.Post
-getobjname-array-write-now t c = omega arith
-
-getobjname-b-requires : (t : ℕ) → getobjname-lts.Need-b-requires (getobjname-calls t) (getobjname-at t) getobjname.Post
-getobjname-b-requires t c κs = search needs
 
 getobjname-getobjname-requires : (t : ℕ) → getobjname-lts.Need-getobjname-requires (getobjname-calls t) (getobjname-at t) getobjname.Post
 getobjname-getobjname-requires t c κs =
-    let c₁ = c .before in
-    let c₂ = c₁ .before in
-    let c₃ = c₂ .before .before .before .before .before in
+    let c₁ = c .before in let c₂ = c₁ .before in let c₃ = c₂ .before .before .before .before .before in
     let c₄ = c₃ .before .before in
     (omega (arith, marked (c₄ .args .t5) (c₄ .args .reg) (omega (arith, c₄ .good .1 .1 .1 .1 .0 .1 .0 .1, c₄ .pre .1)) (c₃ .if1 .left), c₄ .pre .0), rw (c .b .ensures) (moves-below _ (sym (c₂ .moves-up .ensures) ∙ c₁ .if3 .taken)))
 
 getobjname-returns-3 : (t : ℕ) → getobjname-lts.Need-returns-3 (getobjname-calls t) (getobjname-at t) getobjname.Post
 getobjname-returns-3 t c =
-    let c₁ = c .before in
-    let c₂ = c₁ .before in
-    let c₃ = c₂ .before in
-    let c₄ = c₃ .before in
-    let c₅ = c₄ .before in
-    let c₆ = c₅ .before .before in
-    let c₇ = c₆ .before in
-    let c₈ = c₇ .before .before in
+    let c₁ = c .before in let c₂ = c₁ .before in let c₃ = c₂ .before in let c₄ = c₃ .before in let c₅ = c₄ .before in
+    let c₆ = c₅ .before .before in let c₇ = c₆ .before in let c₈ = c₇ .before .before in
     λ text p fs h v. search-moved (objectOf text (c .getobjname .result)) p fs (c₈ .args .pc) (c₈ .args .reg) (c₈ .args .t5) (omega (arith, c₈ .fits)) (omega (arith, c₈ .good .1 .1 .1 .1 .0 .1 .0 .1, c₈ .pre .1)) (c₇ .if1 .left) (c₆ .active-local .ensures text (p .debug .locals) (h .locals)) (c₅ .if2 .left) (c₄ .symbexec-at .ensures text p fs h v) (sym (c₃ .moves-up .ensures) ∙ c₂ .if3 .taken) (c₁ .b .ensures) (c .getobjname .ensures text p fs h v)
-
-getobjname-wrote-requires : (t : ℕ) → getobjname-lts.Need-wrote-requires (getobjname-calls t) (getobjname-at t) getobjname.Post
-getobjname-wrote-requires t c κs = search needs
 
 getobjname-returns-4 : (t : ℕ) → getobjname-lts.Need-returns-4 (getobjname-calls t) (getobjname-at t) getobjname.Post
 getobjname-returns-4 t c =
-    let c₁ = c .before in
-    let c₂ = c₁ .before in
-    let c₃ = c₂ .before in
-    let c₄ = c₃ .before in
-    let c₅ = c₄ .before .before in
-    let c₆ = c₅ .before in
-    let c₇ = c₆ .before .before in
+    let c₁ = c .before in let c₂ = c₁ .before in let c₃ = c₂ .before in let c₄ = c₃ .before in
+    let c₅ = c₄ .before .before in let c₆ = c₅ .before in let c₇ = c₆ .before .before in
     λ text p fs h v. search-wrote (objectOf text (c .wrote .result)) p fs (c₇ .args .pc) (c₇ .args .reg) (c₇ .args .t5) (omega (arith, c₇ .fits)) (omega (arith, c₇ .good .1 .1 .1 .1 .0 .1 .0 .1, c₇ .pre .1)) (c₆ .if1 .left) (c₅ .active-local .ensures text (p .debug .locals) (h .locals)) (c₄ .if2 .left) (c₃ .symbexec-at .ensures text p fs h v) (sym (c₂ .moves-up .ensures) ∙ c₁ .if3 .left) (c .wrote .ensures text p fs h)
 
 pub +getobjname-spec : {M : Type 1} → statement M
-+getobjname-spec = close μ-getobjname λ t. getobjname-lts.spec (getobjname-calls t) (getobjname-at t)
-    getobjname.Post
-    (getobjname-array-read-if1 t)
-    (getobjname-nothing-requires t)
++getobjname-spec = close μ-getobjname λ t. getobjname-lts.spec (getobjname-calls t) (getobjname-at t) getobjname.Post
+    (λ c. omega arith) (λ c. search needs)  -- array-read-if1, nothing-requires
     (getobjname-returns t)
-    (getobjname-add-active-local t)
-    (getobjname-active-local-requires t)
+    (λ c. omega arith) (λ c. search needs)  -- add-active-local, active-local-requires
     (getobjname-returns-2 t)
-    (getobjname-symbexec-at-requires t)
-    (getobjname-moves-up-requires t)
-    (getobjname-array-write-now t)
-    (getobjname-b-requires t)
-    (getobjname-getobjname-requires t)
-    (getobjname-returns-3 t)
-    (getobjname-wrote-requires t)
+    (λ c. search needs) (λ c. search needs)  -- symbexec-at-requires, moves-up-requires
+    (λ c. omega arith) (λ c. search needs)  -- array-write-now, b-requires
+    (getobjname-getobjname-requires t) (getobjname-returns-3 t)
+    (λ c. search needs)  -- wrote-requires
     (getobjname-returns-4 t)

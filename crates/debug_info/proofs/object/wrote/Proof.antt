@@ -6,39 +6,6 @@ use Rattle.debug_info.specs.Names.{wrote}
 use Rattle.debug_info.proofs.object.wrote.Statement.{statement}
 use Rattle.debug_info.proofs.object.wrote.Tie as tie
 
-opcode-requires : tie.Need-opcode-requires
-opcode-requires c κs = search needs
-
-bx-requires : tie.Need-bx-requires
-bx-requires c κs = search needs
-
-constant-of-requires : tie.Need-constant-of-requires
-constant-of-requires c κs = search needs
-
-global-of-requires : tie.Need-global-of-requires
-global-of-requires c κs = search needs
-
-c-requires : tie.Need-c-requires
-c-requires c κs = search needs
-
-operand-name-requires : tie.Need-operand-name-requires
-operand-name-requires c κs = search needs
-
-b-requires : tie.Need-b-requires
-b-requires c κs = search needs
-
-upvalue-name-requires : tie.Need-upvalue-name-requires
-upvalue-name-requires c κs = search needs
-
-c-requires-2 : tie.Need-c-requires-2
-c-requires-2 c κs = search needs
-
-operand-name-requires-2 : tie.Need-operand-name-requires-2
-operand-name-requires-2 c κs = search needs
-
-nothing-requires : tie.Need-nothing-requires
-nothing-requires c κs = search needs
-
 returns : tie.Need-returns
 unfolding wrote
 returns c = λ text p fs h. rw (sym (c .before .before .before .before .opcode .ensures) ∙ c .before .before .before .match .keys1, ← c .before .before .bx .ensures) (c .global-of .ensures text ∙ rw (c .before .constant-of .ensures text (p .constants) (h .constants)))
@@ -62,22 +29,10 @@ returns-5 c = λ text p fs h.
     rw (← c .before .before .opcode .ensures, ne-eqb _ _ (none .0 .0 .0 .1), ne-eqb _ _ (none .0 .0 .1), ne-eqb _ _ (none .0 .1), ne-eqb _ _ (none .1)) (c .nothing .ensures text)
 
 pub wrote-spec : {M : Type 1} → statement M
-wrote-spec =
-    tie.close
-    (tie.spec
-    opcode-requires
-    bx-requires
-    constant-of-requires
-    global-of-requires
-    c-requires
-    operand-name-requires
-    b-requires
-    upvalue-name-requires
-    c-requires-2
-    operand-name-requires-2
-    nothing-requires
-    returns
-    returns-2
-    returns-3
-    returns-4
-    returns-5)
+wrote-spec = tie.close (tie.spec
+    (λ c. search needs) (λ c. search needs) (λ c. search needs)  -- opcode-requires, bx-requires, constant-of-requires
+    (λ c. search needs) (λ c. search needs)  -- global-of-requires, c-requires
+    (λ c. search needs) (λ c. search needs)  -- operand-name-requires, b-requires
+    (λ c. search needs) (λ c. search needs)  -- upvalue-name-requires, c-requires-2
+    (λ c. search needs) (λ c. search needs)  -- operand-name-requires-2, nothing-requires
+    returns returns-2 returns-3 returns-4 returns-5)

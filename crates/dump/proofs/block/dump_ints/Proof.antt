@@ -20,32 +20,9 @@ abbrev μ-loop : tie.MeasureT-loop
 loop-holds : tie.Need-loop-holds Inv-loop μ-loop
 loop-holds c = (omega arith, refl, ints-start _ (c .before .before .args .l .now) _)
 
-mul-dump-int : tie.Need-mul-dump-int Inv-loop μ-loop
-mul-dump-int c = omega arith
-
-add-dump-int : tie.Need-add-dump-int Inv-loop μ-loop
-add-dump-int c = omega arith
-
-mul-dump-int-2 : tie.Need-mul-dump-int-2 Inv-loop μ-loop
-mul-dump-int-2 c = omega arith
-
-shared-slice-read-dump-int : tie.Need-shared-slice-read-dump-int Inv-loop μ-loop
-shared-slice-read-dump-int c = omega arith
-
-dump-int-requires : tie.Need-dump-int-requires Inv-loop μ-loop
-dump-int-requires c κs = search needs
-
-add-i : tie.Need-add-i Inv-loop μ-loop
-add-i c = omega arith
-
-loop-less : tie.Need-loop-less Inv-loop μ-loop
-loop-less c = omega arith
-
 loop-again : tie.Need-loop-again Inv-loop μ-loop
 loop-again c =
-    let c₁ = c .before .before in
-    let c₂ = c₁ .before .before .before .before in
-    let c₃ = c₂ .before .before .before in
+    let c₁ = c .before .before in let c₂ = c₁ .before .before .before .before in let c₃ = c₂ .before .before .before in
     (omega arith, c₁ .dump-int .kept .0 ∙ c₂ .loop .inv .1, ints-turn (c₃ .args .out .now) (c₃ .args .l .now) (c₃ .args .at) (c₂ .loop .i) (omega arith) (c₂ .loop .inv .2) (c₁ .dump-int .ensures))
 
 same-length : tie.Need-same-length Inv-loop μ-loop
@@ -55,19 +32,8 @@ returns : tie.Need-returns Inv-loop μ-loop
 returns c = let e : c .before .loop .i ≡ length (c .before .before .before .before .args .l .now) = omega arith in c .before .loop .inv .2 ∙ rw (e, take-length (c .before .before .before .before .args .l .now))
 
 pub dump-ints-spec : {M : Type 1} → statement M
-dump-ints-spec =
-    tie.close
-    (tie.spec
-    Inv-loop
-    μ-loop
-    loop-holds
-    mul-dump-int
-    add-dump-int
-    mul-dump-int-2
-    shared-slice-read-dump-int
-    dump-int-requires
-    add-i
-    loop-less
-    loop-again
-    same-length
-    returns)
+dump-ints-spec = tie.close (tie.spec Inv-loop μ-loop loop-holds
+    (λ c. omega arith) (λ c. omega arith) (λ c. omega arith)  -- mul-dump-int, add-dump-int, mul-dump-int-2
+    (λ c. omega arith) (λ c. search needs) (λ c. omega arith)  -- shared-slice-read-dump-int, dump-int-requires, add-i
+    (λ c. omega arith)  -- loop-less
+    loop-again same-length returns)

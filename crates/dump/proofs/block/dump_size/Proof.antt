@@ -4,39 +4,13 @@ use Rattle.dump.proofs.Blocks.{size-stored}
 use Rattle.dump.proofs.block.dump_size.Statement.{statement}
 use Rattle.dump.proofs.block.dump_size.Tie as tie
 
-cast-dump-int : tie.Need-cast-dump-int
-cast-dump-int c = search needs
-
-dump-int-requires : tie.Need-dump-int-requires
-dump-int-requires c κs = search needs
-
-add-dump-int : tie.Need-add-dump-int
-add-dump-int c = search needs
-
-cast-dump-int-2 : tie.Need-cast-dump-int-2
-cast-dump-int-2 c = search needs
-
-dump-int-requires-2 : tie.Need-dump-int-requires-2
-dump-int-requires-2 c κs = search needs
-
-same-length : tie.Need-same-length
-same-length c = search needs
-
 returns : tie.Need-returns
 returns c =
-    let c₁ = c .before .before in
-    let c₂ = c₁ .before .before .before .before in
-    let c₃ = c₂ .before .before .before in
+    let c₁ = c .before .before in let c₂ = c₁ .before .before .before .before in let c₃ = c₂ .before .before .before in
     size-stored (c₃ .args .out .now) (c₃ .args .at) (c₃ .args .n) (c₂ .dump-int .ensures) (c₁ .dump-int2 .ensures)
 
 pub dump-size-spec : {M : Type 1} → statement M
-dump-size-spec =
-    tie.close
-    (tie.spec
-    cast-dump-int
-    dump-int-requires
-    add-dump-int
-    cast-dump-int-2
-    dump-int-requires-2
-    same-length
+dump-size-spec = tie.close (tie.spec
+    (λ c. search needs) (λ c. search needs) (λ c. search needs)  -- cast-dump-int, dump-int-requires, add-dump-int
+    (λ c. search needs) (λ c. search needs) (λ c. search needs)  -- cast-dump-int-2, dump-int-requires-2, same-length
     returns)

@@ -82,15 +82,6 @@ count-constants-Inv-loop words text strip source allowance n p₀ i₀ p i = Loo
 abbrev count-constants-μ-loop : count-constants-lts.MeasureT-loop
 count-constants-μ-loop words text strip source allowance n p₀ i₀ p i = n - i
 
-count-constants-count-values-requires : (t : ℕ) → count-constants-lts.Need-count-values-requires (count-constants-calls t) (count-constants-at t) count-constants.Post count-constants-Inv-loop count-constants-μ-loop
-count-constants-count-values-requires t c κs = search needs
-
-count-constants-word-at-requires : (t : ℕ) → count-constants-lts.Need-word-at-requires (count-constants-calls t) (count-constants-at t) count-constants.Post count-constants-Inv-loop count-constants-μ-loop
-count-constants-word-at-requires t c κs = search needs
-
-count-constants-ahead-requires : (t : ℕ) → count-constants-lts.Need-ahead-requires (count-constants-calls t) (count-constants-at t) count-constants.Post count-constants-Inv-loop count-constants-μ-loop
-count-constants-ahead-requires t c κs = search needs
-
 count-constants-loop-holds : (t : ℕ) → count-constants-lts.Need-loop-holds (count-constants-calls t) (count-constants-at t) count-constants.Post count-constants-Inv-loop count-constants-μ-loop
 count-constants-loop-holds t c = loop-start
 
@@ -98,44 +89,17 @@ count-constants-count-function-requires :
     (t : ℕ) → count-constants-lts.Need-count-function-requires (count-constants-calls t) (count-constants-at t) count-constants.Post count-constants-Inv-loop count-constants-μ-loop
 count-constants-count-function-requires t c κs = (omega (arith, c .before .before .before .before .before .before .before .before .pre .0), tt)
 
-count-constants-add-i : (t : ℕ) → count-constants-lts.Need-add-i (count-constants-calls t) (count-constants-at t) count-constants.Post count-constants-Inv-loop count-constants-μ-loop
-count-constants-add-i t c = omega arith
-
-count-constants-loop-less : (t : ℕ) → count-constants-lts.Need-loop-less (count-constants-calls t) (count-constants-at t) count-constants.Post count-constants-Inv-loop count-constants-μ-loop
-count-constants-loop-less t c = omega arith
-
 count-constants-loop-again : (t : ℕ) → count-constants-lts.Need-loop-again (count-constants-calls t) (count-constants-at t) count-constants.Post count-constants-Inv-loop count-constants-μ-loop
 count-constants-loop-again t c = loop-turn (omega arith) (c .before .before .loop .inv) (all-more (c .count-function .ensures))
 
 count-constants-returns : (t : ℕ) → count-constants-lts.Need-returns (count-constants-calls t) (count-constants-at t) count-constants.Post count-constants-Inv-loop count-constants-μ-loop
 count-constants-returns t c =
-    let c₁ = c .before in
-    let c₂ = c₁ .before in
-    let c₃ = c₂ .before in
-    let c₄ = c₃ .before in
+    let c₁ = c .before in let c₂ = c₁ .before in let c₃ = c₂ .before in let c₄ = c₃ .before in
     let c₅ = c₄ .before .before .before .before in
     let a = c₅ .args in constants-dumped (a .allowance) (a .strip) (a .source .now) (λ ks. c₄ .count-values .ensures ks _) (c₃ .word-at .ensures) (word-counted (c₂ .ahead .ensures)) (loop-end (omega arith) (c₁ .loop .inv) all-none)
 
 count-function-returns : (t : ℕ) → count-function-lts.Need-returns (count-function-calls t) (count-function-at t) count-function.Post
 count-function-returns t c = λ f v. absurd (none-deep (c .if1 .taken) f v)
-
-count-function-own-source-requires : (t : ℕ) → count-function-lts.Need-own-source-requires (count-function-calls t) (count-function-at t) count-function.Post
-count-function-own-source-requires t c κs = search needs
-
-count-function-count-source-requires : (t : ℕ) → count-function-lts.Need-count-source-requires (count-function-calls t) (count-function-at t) count-function.Post
-count-function-count-source-requires t c κs = search needs
-
-count-function-ahead-requires : (t : ℕ) → count-function-lts.Need-ahead-requires (count-function-calls t) (count-function-at t) count-function.Post
-count-function-ahead-requires t c κs = search needs
-
-count-function-ahead-requires-2 : (t : ℕ) → count-function-lts.Need-ahead-requires-2 (count-function-calls t) (count-function-at t) count-function.Post
-count-function-ahead-requires-2 t c κs = search needs
-
-count-function-ahead-requires-3 : (t : ℕ) → count-function-lts.Need-ahead-requires-3 (count-function-calls t) (count-function-at t) count-function.Post
-count-function-ahead-requires-3 t c κs = search needs
-
-count-function-count-code-requires : (t : ℕ) → count-function-lts.Need-count-code-requires (count-function-calls t) (count-function-at t) count-function.Post
-count-function-count-code-requires t c κs = search needs
 
 count-function-sub-count-constants : (t : ℕ) → count-function-lts.Need-sub-count-constants (count-function-calls t) (count-function-at t) count-function.Post
 count-function-sub-count-constants t c = omega (arith, c .before .before .before .before .before .before .if1 .left)
@@ -143,54 +107,32 @@ count-function-sub-count-constants t c = omega (arith, c .before .before .before
 count-function-count-constants-requires :
     (t : ℕ) → count-function-lts.Need-count-constants-requires (count-function-calls t) (count-function-at t) count-function.Post
 count-function-count-constants-requires t c κs =
-    let c₁ = c .before .before .before .before .before .before in
-    let c₂ = c₁ .before .before .before .before in
+    let c₁ = c .before .before .before .before .before .before in let c₂ = c₁ .before .before .before .before in
     (omega (arith, c₂ .pre .0, c₁ .if1 .left), tt)
-
-count-function-count-debug-requires : (t : ℕ) → count-function-lts.Need-count-debug-requires (count-function-calls t) (count-function-at t) count-function.Post
-count-function-count-debug-requires t c κs = search needs
 
 count-function-returns-2 : (t : ℕ) → count-function-lts.Need-returns-2 (count-function-calls t) (count-function-at t) count-function.Post
 count-function-returns-2 t c =
-    let c₁ = c .before in
-    let c₂ = c₁ .before in
-    let c₃ = c₂ .before in
-    let c₄ = c₃ .before in
-    let c₅ = c₄ .before in
-    let c₆ = c₅ .before in
-    let c₇ = c₆ .before in
-    let c₈ = c₇ .before in
-    let c₉ = c₈ .before .before .before .before in
+    let c₁ = c .before in let c₂ = c₁ .before in let c₃ = c₂ .before in let c₄ = c₃ .before in let c₅ = c₄ .before in
+    let c₆ = c₅ .before in let c₇ = c₆ .before in let c₈ = c₇ .before in let c₉ = c₈ .before .before .before .before in
     let a = c₉ .args in
     let n = a .allowance - 1 in
     let e : a .allowance ≡ suc n = omega (arith, c₈ .if1 .left) in
     rw e (function-dumped n (a .strip) (a .root) (a .outer .now) (c₇ .own-source .result .now) (c₇ .own-source .ensures) (c₆ .count-source .ensures) (word-counted (c₅ .ahead .ensures)) (word-counted (c₄ .ahead2 .ensures)) (λ p t v. packed-counted (c₃ .ahead3 .ensures) p t) (c₂ .count-code .ensures) (c₁ .count-constants .ensures) (λ g. c .count-debug .ensures g _))
 
 pub +count-constants+count-function-spec : {M : Type 1} → statement M
-+count-constants+count-function-spec =
-    close μ-count-constants μ-count-function (λ t. count-constants-lts.spec (count-constants-calls t) (count-constants-at t)
-    count-constants.Post
-    count-constants-Inv-loop
++count-constants+count-function-spec = close μ-count-constants μ-count-function (λ t. count-constants-lts.spec
+    (count-constants-calls t) (count-constants-at t) count-constants.Post count-constants-Inv-loop
     count-constants-μ-loop
-    (count-constants-count-values-requires t)
-    (count-constants-word-at-requires t)
-    (count-constants-ahead-requires t)
-    (count-constants-loop-holds t)
-    (count-constants-count-function-requires t)
-    (count-constants-add-i t)
-    (count-constants-loop-less t)
-    (count-constants-loop-again t)
-    (count-constants-returns t))
-    λ t. count-function-lts.spec (count-function-calls t) (count-function-at t)
-    count-function.Post
+    (λ c. search needs) (λ c. search needs)  -- count-values-requires, word-at-requires
+    (λ c. search needs)  -- ahead-requires
+    (count-constants-loop-holds t) (count-constants-count-function-requires t)
+    (λ c. omega arith) (λ c. omega arith)  -- add-i, loop-less
+    (count-constants-loop-again t) (count-constants-returns t))
+    λ t. count-function-lts.spec (count-function-calls t) (count-function-at t) count-function.Post
     (count-function-returns t)
-    (count-function-own-source-requires t)
-    (count-function-count-source-requires t)
-    (count-function-ahead-requires t)
-    (count-function-ahead-requires-2 t)
-    (count-function-ahead-requires-3 t)
-    (count-function-count-code-requires t)
-    (count-function-sub-count-constants t)
-    (count-function-count-constants-requires t)
-    (count-function-count-debug-requires t)
+    (λ c. search needs) (λ c. search needs)  -- own-source-requires, count-source-requires
+    (λ c. search needs) (λ c. search needs) (λ c. search needs)  -- ahead-requires, ahead-requires-2, ahead-requires-3
+    (λ c. search needs)  -- count-code-requires
+    (count-function-sub-count-constants t) (count-function-count-constants-requires t)
+    (λ c. search needs)  -- count-debug-requires
     (count-function-returns-2 t)

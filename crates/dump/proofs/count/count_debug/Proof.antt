@@ -5,35 +5,16 @@ use Rattle.dump.proofs.Counts.{no-debug-counted}
 use Rattle.dump.proofs.count.count_debug.Statement.{statement}
 use Rattle.dump.proofs.count.count_debug.Tie as tie
 
-after-debug-requires : tie.Need-after-debug-requires
-after-debug-requires c κs = search needs
-
-further-requires : tie.Need-further-requires
-further-requires c κs = search needs
-
 returns : tie.Need-returns
 returns c = λ d t. debug-stripped (c .before .before .if1 .taken) (c .before .after-debug .ensures) (no-debug-counted (c .further .ensures)) d
-
-count-code-requires : tie.Need-count-code-requires
-count-code-requires c κs = search needs
-
-count-locals-requires : tie.Need-count-locals-requires
-count-locals-requires c κs = search needs
-
-count-names-requires : tie.Need-count-names-requires
-count-names-requires c κs = search needs
 
 returns-2 : tie.Need-returns-2
 returns-2 c = λ d t. debug-dumped (c .before .before .before .if1 .left) (c .before .before .count-code .ensures) (λ l. c .before .count-locals .ensures l t) (λ l. c .count-names .ensures l t) d
 
 pub count-debug-spec : {M : Type 1} → statement M
-count-debug-spec =
-    tie.close
-    (tie.spec
-    after-debug-requires
-    further-requires
+count-debug-spec = tie.close (tie.spec
+    (λ c. search needs) (λ c. search needs)  -- after-debug-requires, further-requires
     returns
-    count-code-requires
-    count-locals-requires
-    count-names-requires
+    (λ c. search needs) (λ c. search needs)  -- count-code-requires, count-locals-requires
+    (λ c. search needs)  -- count-names-requires
     returns-2)

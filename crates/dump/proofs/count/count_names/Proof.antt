@@ -21,35 +21,11 @@ Inv-loop words n p₀ i₀ p i = ((t : List ℕ) → Loop (DumpsAll words t Any 
 abbrev μ-loop : tie.MeasureT-loop
 μ-loop words n p₀ i₀ p i = n - i
 
-word-at-requires : tie.Need-word-at-requires Inv-loop μ-loop
-word-at-requires c κs = search needs
-
-ahead-requires : tie.Need-ahead-requires Inv-loop μ-loop
-ahead-requires c κs = search needs
-
-cast-is-within : tie.Need-cast-is-within Inv-loop μ-loop
-cast-is-within c = omega arith
-
-mul-is-within : tie.Need-mul-is-within Inv-loop μ-loop
-mul-is-within c = omega arith
-
-is-within-requires : tie.Need-is-within-requires Inv-loop μ-loop
-is-within-requires c κs = search needs
-
 returns : tie.Need-returns Inv-loop μ-loop
 returns c = list-none string dumpText 2 (λ a to. refl) (c .before .before .before .word-at .ensures) (c .before .before .ahead .ensures) (c .before .is-within .ensures .not (not-true _ (c .if1 .taken)))
 
 loop-holds : tie.Need-loop-holds Inv-loop μ-loop
 loop-holds c = ((λ t. loop-start), omega (arith, c .before .is-within .ensures .is (not-false _ (c .if1 .left))), omega arith)
-
-count-name-requires : tie.Need-count-name-requires Inv-loop μ-loop
-count-name-requires c κs = search needs
-
-add-i : tie.Need-add-i Inv-loop μ-loop
-add-i c = omega arith
-
-loop-less : tie.Need-loop-less Inv-loop μ-loop
-loop-less c = omega arith
 
 loop-again : tie.Need-loop-again Inv-loop μ-loop
 loop-again c = ((λ t. loop-turn (omega arith) (c .before .before .loop .inv .0 t) (all-more (λ v k. c .count-name .ensures .1 v t))), omega (arith, c .count-name .ensures .0), omega arith)
@@ -58,20 +34,9 @@ returns-2 : tie.Need-returns-2 Inv-loop μ-loop
 returns-2 c = λ l t. counted (c .before .before .before .before .before .word-at .ensures) (word-counted (c .before .before .before .before .ahead .ensures)) (loop-end (omega arith) (c .before .loop .inv .0 t) all-none) l (every-any l)
 
 pub count-names-spec : {M : Type 1} → statement M
-count-names-spec =
-    tie.close
-    (tie.spec
-    Inv-loop
-    μ-loop
-    word-at-requires
-    ahead-requires
-    cast-is-within
-    mul-is-within
-    is-within-requires
-    returns
-    loop-holds
-    count-name-requires
-    add-i
-    loop-less
-    loop-again
-    returns-2)
+count-names-spec = tie.close (tie.spec Inv-loop μ-loop
+    (λ c. search needs) (λ c. search needs) (λ c. omega arith)  -- word-at-requires, ahead-requires, cast-is-within
+    (λ c. omega arith) (λ c. search needs)  -- mul-is-within, is-within-requires
+    returns loop-holds
+    (λ c. search needs) (λ c. omega arith) (λ c. omega arith)  -- count-name-requires, add-i, loop-less
+    loop-again returns-2)

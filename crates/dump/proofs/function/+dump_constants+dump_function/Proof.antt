@@ -82,20 +82,14 @@ dump-constants-μ-loop words text strip source out₀ allowance n p₀ i₀ out 
 dump-constants-dump-values-requires : (t : ℕ) → dump-constants-lts.Need-dump-values-requires (dump-constants-calls t) (dump-constants-at t) dump-constants.Post dump-constants-Inv-loop dump-constants-μ-loop
 dump-constants-dump-values-requires t c κs = let a = c .before .before .before .before .before .args in values-ready (a .allowance) (a .strip) (a .source .now) (c .before .before .before .before .before .pre .1)
 
-dump-constants-word-at-requires : (t : ℕ) → dump-constants-lts.Need-word-at-requires (dump-constants-calls t) (dump-constants-at t) dump-constants.Post dump-constants-Inv-loop dump-constants-μ-loop
-dump-constants-word-at-requires t c κs = search needs
-
 dump-constants-dump-word-requires : (t : ℕ) → dump-constants-lts.Need-dump-word-requires (dump-constants-calls t) (dump-constants-at t) dump-constants.Post dump-constants-Inv-loop dump-constants-μ-loop
 dump-constants-dump-word-requires t c κs =
-    let c₁ = c .before .before .before .before in
-    let c₂ = c₁ .before .before .before .before .before .before in
+    let c₁ = c .before .before .before .before in let c₂ = c₁ .before .before .before .before .before .before in
     count-fits functionPiece (λ f. dumpFunction f (c₂ .args .strip) (c₂ .args .source .now) (c₂ .args .source .now)) (children-ready (c₂ .args .allowance) (c₂ .args .strip) (c₂ .args .source .now) (c₂ .pre .1) (c₁ .dump-values .ensures))
 
 dump-constants-loop-holds : (t : ℕ) → dump-constants-lts.Need-loop-holds (dump-constants-calls t) (dump-constants-at t) dump-constants.Post dump-constants-Inv-loop dump-constants-μ-loop
 dump-constants-loop-holds t c =
-    let c₁ = c .before .before in
-    let c₂ = c₁ .before .before in
-    let c₃ = c₂ .before .before .before in
+    let c₁ = c .before .before in let c₂ = c₁ .before .before in let c₃ = c₂ .before .before .before in
     let c₄ = c₃ .before .before .before .before .before .before in
     (refl, loop-start, left-start (λ f. Valid f (c₄ .args .allowance)) functionPiece (λ f. dumpFunction f (c₄ .args .strip) (c₄ .args .source .now) (c₄ .args .source .now)) (λ l h. h) (c₂ .word-at .ensures) (children-ready (c₄ .args .allowance) (c₄ .args .strip) (c₄ .args .source .now) (c₄ .pre .1) (c₃ .dump-values .ensures)) (c₁ .dump-word .ensures))
 
@@ -105,45 +99,29 @@ dump-constants-dump-function-requires t c κs =
     let c₂ = c₁ .before .before .before .before .before .before .before .before .before .before .before .before .before .before in
     (omega (arith, c₂ .pre .0), left-item (λ f. Valid f (c₂ .args .allowance)) functionPiece (λ f. dumpFunction f (c₂ .args .strip) (c₂ .args .source .now) (c₂ .args .source .now)) (omega arith) (c₁ .loop .inv .2))
 
-dump-constants-add-i : (t : ℕ) → dump-constants-lts.Need-add-i (dump-constants-calls t) (dump-constants-at t) dump-constants.Post dump-constants-Inv-loop dump-constants-μ-loop
-dump-constants-add-i t c = omega arith
-
-dump-constants-loop-less : (t : ℕ) → dump-constants-lts.Need-loop-less (dump-constants-calls t) (dump-constants-at t) dump-constants.Post dump-constants-Inv-loop dump-constants-μ-loop
-dump-constants-loop-less t c = omega arith
-
 dump-constants-loop-again : (t : ℕ) → dump-constants-lts.Need-loop-again (dump-constants-calls t) (dump-constants-at t) dump-constants.Post dump-constants-Inv-loop dump-constants-μ-loop
 dump-constants-loop-again t c =
-    let c₁ = c .before .before in
-    let c₂ = c₁ .before .before .before in
+    let c₁ = c .before .before in let c₂ = c₁ .before .before .before in
     let a = c₂ .before .before .before .before .before .before .before .before .before .before .before .before .before .before .args in
     (c₁ .dump-function .kept .1 .1 .1 .1 .1 .0 ∙ c₂ .loop .inv .0, loop-turn (omega arith) (c₂ .loop .inv .1) (all-more {bytes = λ f. dumpFunction f (a .strip) (a .source .now) (a .source .now)} (c₁ .dump-function .ensures)), left-more (λ f. Valid f (a .allowance)) functionPiece (λ f. dumpFunction f (a .strip) (a .source .now) (a .source .now)) (omega arith) (c₂ .loop .inv .2) (c₁ .dump-function .ensures))
 
 dump-constants-same-length : (t : ℕ) → dump-constants-lts.Need-same-length (dump-constants-calls t) (dump-constants-at t) dump-constants.Post dump-constants-Inv-loop dump-constants-μ-loop
 dump-constants-same-length t c =
-    let c₁ = c .before in
-    let c₂ = c₁ .before .before .before in
-    let c₃ = c₂ .before .before .before .before .before in
+    let c₁ = c .before in let c₂ = c₁ .before .before .before in let c₃ = c₂ .before .before .before .before .before in
     c₁ .loop .inv .0 ∙ c₂ .dump-word .kept .1 .0 ∙ c₃ .dump-values .kept .1 .1 .0
 
 dump-constants-returns : (t : ℕ) → dump-constants-lts.Need-returns (dump-constants-calls t) (dump-constants-at t) dump-constants.Post dump-constants-Inv-loop dump-constants-μ-loop
 dump-constants-returns t c =
-    let c₁ = c .before in
-    let c₂ = c₁ .before .before .before in
-    let c₃ = c₂ .before .before in
-    let c₄ = c₃ .before .before .before in
-    let c₅ = c₄ .before .before .before .before .before .before in
+    let c₁ = c .before in let c₂ = c₁ .before .before .before in let c₃ = c₂ .before .before in
+    let c₄ = c₃ .before .before .before in let c₅ = c₄ .before .before .before .before .before .before in
     constants-dumped (c₅ .args .allowance) (c₅ .args .strip) (c₅ .args .source .now) (c₄ .dump-values .ensures) (c₃ .word-at .ensures) (c₂ .dump-word .ensures) (loop-end (omega arith) (c₁ .loop .inv .1) all-none)
 
 dump-function-returns : (t : ℕ) → dump-function-lts.Need-returns (dump-function-calls t) (dump-function-at t) dump-function.Post
 dump-function-returns t c = λ f v. absurd (none-deep (c .if1 .taken) f v)
 
-dump-function-own-source-requires : (t : ℕ) → dump-function-lts.Need-own-source-requires (dump-function-calls t) (dump-function-at t) dump-function.Post
-dump-function-own-source-requires t c κs = search needs
-
 dump-function-dump-source-requires : (t : ℕ) → dump-function-lts.Need-dump-source-requires (dump-function-calls t) (dump-function-at t) dump-function.Post
 dump-function-dump-source-requires t c κs =
-    let c₁ = c .before in
-    let c₂ = c₁ .before .before .before .before .before .before in
+    let c₁ = c .before in let c₂ = c₁ .before .before .before .before .before .before in
     let a = c₂ .args in
     let r = c₂ .pre .1 in
     let n = a .allowance - 1 in
@@ -151,8 +129,7 @@ dump-function-dump-source-requires t c κs =
 
 dump-function-dump-word-requires : (t : ℕ) → dump-function-lts.Need-dump-word-requires (dump-function-calls t) (dump-function-at t) dump-function.Post
 dump-function-dump-word-requires t c κs =
-    let c₁ = c .before .before .before in
-    let c₂ = c₁ .before .before in
+    let c₁ = c .before .before .before in let c₂ = c₁ .before .before in
     let c₃ = c₂ .before .before .before .before .before .before in
     let a = c₃ .args in
     let r = c₃ .pre .1 in
@@ -161,9 +138,7 @@ dump-function-dump-word-requires t c κs =
 
 dump-function-dump-word-requires-2 : (t : ℕ) → dump-function-lts.Need-dump-word-requires-2 (dump-function-calls t) (dump-function-at t) dump-function.Post
 dump-function-dump-word-requires-2 t c κs =
-    let c₁ = c .before .before .before in
-    let c₂ = c₁ .before .before .before .before in
-    let c₃ = c₂ .before .before in
+    let c₁ = c .before .before .before in let c₂ = c₁ .before .before .before .before in let c₃ = c₂ .before .before in
     let c₄ = c₃ .before .before .before .before .before .before in
     let a = c₄ .args in
     let r = c₄ .pre .1 in
@@ -172,10 +147,8 @@ dump-function-dump-word-requires-2 t c κs =
 
 dump-function-dump-packed-requires : (t : ℕ) → dump-function-lts.Need-dump-packed-requires (dump-function-calls t) (dump-function-at t) dump-function.Post
 dump-function-dump-packed-requires t c κs =
-    let c₁ = c .before .before .before in
-    let c₂ = c₁ .before .before .before .before in
-    let c₃ = c₂ .before .before .before .before in
-    let c₄ = c₃ .before .before in
+    let c₁ = c .before .before .before in let c₂ = c₁ .before .before .before .before in
+    let c₃ = c₂ .before .before .before .before in let c₄ = c₃ .before .before in
     let c₅ = c₄ .before .before .before .before .before .before in
     let a = c₅ .args in
     let r = c₅ .pre .1 in
@@ -184,13 +157,9 @@ dump-function-dump-packed-requires t c κs =
 
 dump-function-dump-code-requires : (t : ℕ) → dump-function-lts.Need-dump-code-requires (dump-function-calls t) (dump-function-at t) dump-function.Post
 dump-function-dump-code-requires t c κs =
-    let c₁ = c .before .before .before in
-    let c₂ = c₁ .before .before .before .before in
-    let c₃ = c₂ .before .before .before .before in
-    let c₄ = c₃ .before .before .before .before in
-    let c₅ = c₄ .before .before in
-    let c₆ = c₅ .before in
-    let c₇ = c₆ .before .before .before .before .before in
+    let c₁ = c .before .before .before in let c₂ = c₁ .before .before .before .before in
+    let c₃ = c₂ .before .before .before .before in let c₄ = c₃ .before .before .before .before in
+    let c₅ = c₄ .before .before in let c₆ = c₅ .before in let c₇ = c₆ .before .before .before .before .before in
     let a = c₇ .args in
     let r = c₇ .pre .1 in
     let n = a .allowance - 1 in
@@ -205,13 +174,9 @@ dump-function-sub-dump-constants t c =
 
 dump-function-dump-constants-requires : (t : ℕ) → dump-function-lts.Need-dump-constants-requires (dump-function-calls t) (dump-function-at t) dump-function.Post
 dump-function-dump-constants-requires t c κs =
-    let c₁ = c .before .before .before in
-    let c₂ = c₁ .before .before .before .before in
-    let c₃ = c₂ .before .before .before .before in
-    let c₄ = c₃ .before .before .before .before in
-    let c₅ = c₄ .before .before .before .before in
-    let c₆ = c₅ .before .before in
-    let c₇ = c₆ .before in
+    let c₁ = c .before .before .before in let c₂ = c₁ .before .before .before .before in
+    let c₃ = c₂ .before .before .before .before in let c₄ = c₃ .before .before .before .before in
+    let c₅ = c₄ .before .before .before .before in let c₆ = c₅ .before .before in let c₇ = c₆ .before in
     let c₈ = c₇ .before .before .before .before .before in
     let a = c₈ .args in
     let r = c₈ .pre .1 in
@@ -222,15 +187,10 @@ dump-function-dump-constants-requires t c κs =
 
 dump-function-dump-debug-requires : (t : ℕ) → dump-function-lts.Need-dump-debug-requires (dump-function-calls t) (dump-function-at t) dump-function.Post
 dump-function-dump-debug-requires t c κs =
-    let c₁ = c .before .before .before in
-    let c₂ = c₁ .before .before .before .before in
-    let c₃ = c₂ .before .before .before .before in
-    let c₄ = c₃ .before .before .before .before in
-    let c₅ = c₄ .before .before .before .before in
-    let c₆ = c₅ .before .before .before .before in
-    let c₇ = c₆ .before .before in
-    let c₈ = c₇ .before in
-    let c₉ = c₈ .before .before .before .before .before in
+    let c₁ = c .before .before .before in let c₂ = c₁ .before .before .before .before in
+    let c₃ = c₂ .before .before .before .before in let c₄ = c₃ .before .before .before .before in
+    let c₅ = c₄ .before .before .before .before in let c₆ = c₅ .before .before .before .before in
+    let c₇ = c₆ .before .before in let c₈ = c₇ .before in let c₉ = c₈ .before .before .before .before .before in
     let a = c₉ .args in
     let r = c₉ .pre .1 in
     let n = a .allowance - 1 in
@@ -240,58 +200,35 @@ dump-function-dump-debug-requires t c κs =
 
 dump-function-same-length : (t : ℕ) → dump-function-lts.Need-same-length (dump-function-calls t) (dump-function-at t) dump-function.Post
 dump-function-same-length t c =
-    let c₁ = c .before .before in
-    let c₂ = c₁ .before .before .before .before in
-    let c₃ = c₂ .before .before .before .before in
-    let c₄ = c₃ .before .before .before .before in
-    let c₅ = c₄ .before .before .before .before in
-    let c₆ = c₅ .before .before .before .before in
+    let c₁ = c .before .before in let c₂ = c₁ .before .before .before .before in
+    let c₃ = c₂ .before .before .before .before in let c₄ = c₃ .before .before .before .before in
+    let c₅ = c₄ .before .before .before .before in let c₆ = c₅ .before .before .before .before in
     let c₇ = c₆ .before .before .before .before in
     c₁ .dump-debug .kept .1 .1 .1 .0 ∙ c₂ .dump-constants .kept .1 .1 .1 .1 .0 ∙ c₃ .dump-code .kept .1 .0 ∙ c₄ .dump-packed .kept .1 .0 ∙ c₅ .dump-word2 .kept .1 .0 ∙ c₆ .dump-word .kept .1 .0 ∙ c₇ .dump-source .kept .1 .1 .1 .1 .0
 
 dump-function-returns-2 : (t : ℕ) → dump-function-lts.Need-returns-2 (dump-function-calls t) (dump-function-at t) dump-function.Post
 dump-function-returns-2 t c =
-    let c₁ = c .before .before in
-    let c₂ = c₁ .before .before .before .before in
-    let c₃ = c₂ .before .before .before .before in
-    let c₄ = c₃ .before .before .before .before in
-    let c₅ = c₄ .before .before .before .before in
-    let c₆ = c₅ .before .before .before .before in
-    let c₇ = c₆ .before .before .before .before in
-    let c₈ = c₇ .before .before in
-    let c₉ = c₈ .before in
+    let c₁ = c .before .before in let c₂ = c₁ .before .before .before .before in
+    let c₃ = c₂ .before .before .before .before in let c₄ = c₃ .before .before .before .before in
+    let c₅ = c₄ .before .before .before .before in let c₆ = c₅ .before .before .before .before in
+    let c₇ = c₆ .before .before .before .before in let c₈ = c₇ .before .before in let c₉ = c₈ .before in
     let c₁₀ = c₉ .before .before .before .before .before in
     let n = c₁₀ .args .allowance - 1 in
     let e : c₁₀ .args .allowance ≡ suc n = omega (arith, c₉ .if1 .left) in
     rw e (function-dumped n (c₁₀ .args .strip) (c₁₀ .args .root) (c₁₀ .args .outer .now) (c₈ .own-source .result .now) (c₈ .own-source .ensures) (c₇ .dump-source .ensures) (c₆ .dump-word .ensures) (c₅ .dump-word2 .ensures) (c₄ .dump-packed .ensures) (c₃ .dump-code .ensures) (c₂ .dump-constants .ensures) (c₁ .dump-debug .ensures))
 
 pub +dump-constants+dump-function-spec : {M : Type 1} → statement M
-+dump-constants+dump-function-spec =
-    close μ-dump-constants μ-dump-function (λ t. dump-constants-lts.spec (dump-constants-calls t) (dump-constants-at t)
-    dump-constants.Post
-    dump-constants-Inv-loop
-    dump-constants-μ-loop
++dump-constants+dump-function-spec = close μ-dump-constants μ-dump-function (λ t. dump-constants-lts.spec
+    (dump-constants-calls t) (dump-constants-at t) dump-constants.Post dump-constants-Inv-loop dump-constants-μ-loop
     (dump-constants-dump-values-requires t)
-    (dump-constants-word-at-requires t)
-    (dump-constants-dump-word-requires t)
-    (dump-constants-loop-holds t)
-    (dump-constants-dump-function-requires t)
-    (dump-constants-add-i t)
-    (dump-constants-loop-less t)
-    (dump-constants-loop-again t)
-    (dump-constants-same-length t)
-    (dump-constants-returns t))
-    λ t. dump-function-lts.spec (dump-function-calls t) (dump-function-at t)
-    dump-function.Post
+    (λ c. search needs)  -- word-at-requires
+    (dump-constants-dump-word-requires t) (dump-constants-loop-holds t) (dump-constants-dump-function-requires t)
+    (λ c. omega arith) (λ c. omega arith)  -- add-i, loop-less
+    (dump-constants-loop-again t) (dump-constants-same-length t) (dump-constants-returns t))
+    λ t. dump-function-lts.spec (dump-function-calls t) (dump-function-at t) dump-function.Post
     (dump-function-returns t)
-    (dump-function-own-source-requires t)
-    (dump-function-dump-source-requires t)
-    (dump-function-dump-word-requires t)
-    (dump-function-dump-word-requires-2 t)
-    (dump-function-dump-packed-requires t)
-    (dump-function-dump-code-requires t)
-    (dump-function-sub-dump-constants t)
-    (dump-function-dump-constants-requires t)
-    (dump-function-dump-debug-requires t)
-    (dump-function-same-length t)
+    (λ c. search needs)  -- own-source-requires
+    (dump-function-dump-source-requires t) (dump-function-dump-word-requires t) (dump-function-dump-word-requires-2 t)
+    (dump-function-dump-packed-requires t) (dump-function-dump-code-requires t) (dump-function-sub-dump-constants t)
+    (dump-function-dump-constants-requires t) (dump-function-dump-debug-requires t) (dump-function-same-length t)
     (dump-function-returns-2 t)

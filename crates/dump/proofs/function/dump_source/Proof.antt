@@ -7,13 +7,9 @@ use Rattle.dump.proofs.Functions.{source-dumped}
 use Rattle.dump.proofs.function.dump_source.Statement.{statement}
 use Rattle.dump.proofs.function.dump_source.Tie as tie
 
-is-elided-requires : tie.Need-is-elided-requires
-is-elided-requires c κs = search needs
-
 put-source-requires : tie.Need-put-source-requires
 put-source-requires c κs =
-    let c₁ = c .before in
-    let c₂ = c₁ .before .before .before .before .before in
+    let c₁ = c .before in let c₂ = c₁ .before .before .before .before .before in
     rw (c₁ .is-elided .ensures (c₂ .pre .value) (c₂ .pre .text) (c₂ .pre .fits .to) (c₂ .pre .fits .stands) (c₂ .pre .filled-in)) (c₂ .pre .fits .room)
 
 add-t12 : tie.Need-add-t12
@@ -21,16 +17,14 @@ add-t12 c =
     let c₁ = c .before .before .before .before .before .before .before .before .before in
     omega (arith, source-within (c₁ .pre .value) _ (c₁ .pre .fits))
 
-same-length : tie.Need-same-length
-same-length c = search needs
-
 returns : tie.Need-returns
 returns c =
-    let c₁ = c .before .before in
-    let c₂ = c₁ .before .before in
-    let c₃ = c₂ .before .before .before .before .before in
+    let c₁ = c .before .before in let c₂ = c₁ .before .before in let c₃ = c₂ .before .before .before .before .before in
     source-dumped (c₃ .args .root) (c₃ .args .outer .now) (c₃ .args .source .now) (c₂ .is-elided .ensures) skips-on (c₁ .put-source .ensures)
 
 pub dump-source-spec : {M : Type 1} → statement M
-dump-source-spec =
-    tie.close (tie.spec is-elided-requires put-source-requires add-t12 same-length returns)
+dump-source-spec = tie.close (tie.spec
+    (λ c. search needs)  -- is-elided-requires
+    put-source-requires add-t12
+    (λ c. search needs)  -- same-length
+    returns)

@@ -10,24 +10,19 @@ returns c =
     let c₁ = c .before .before .before .before in
     λ s t to h e. elided-root (c₁ .args .root) (c₁ .args .source .now) (c₁ .args .outer .now) (c .if1 .taken)
 
-word-at-requires : tie.Need-word-at-requires
-word-at-requires c κs = search needs
-
 returns-2 : tie.Need-returns-2
 returns-2 c =
-    let c₁ = c .before in
-    let c₂ = c₁ .before in
-    let c₃ = c₂ .before .before .before .before in
+    let c₁ = c .before in let c₂ = c₁ .before in let c₃ = c₂ .before .before .before .before in
     λ s t to h e. elided-inherited (c₃ .args .root) (c₃ .args .source .now) (c₃ .args .outer .now) s (c₂ .if1 .left) (c₁ .word-at .ensures) (c .if2 .taken) h e
-
-same-requires : tie.Need-same-requires
-same-requires c κs = search needs
 
 returns-3 : tie.Need-returns-3
 returns-3 c =
-    let c₁ = c .before .before .before in
-    let c₂ = c₁ .before .before .before .before in
+    let c₁ = c .before .before .before in let c₂ = c₁ .before .before .before .before in
     λ s t to h e. elided-compared _ (c₂ .args .root) (c₂ .args .source .now) (c₂ .args .outer .now) (c₁ .if1 .left) (c .same .ensures)
 
 pub is-elided-spec : {M : Type 1} → statement M
-is-elided-spec = tie.close (tie.spec returns word-at-requires returns-2 same-requires returns-3)
+is-elided-spec = tie.close (tie.spec returns
+    (λ c. search needs)  -- word-at-requires
+    returns-2
+    (λ c. search needs)  -- same-requires
+    returns-3)

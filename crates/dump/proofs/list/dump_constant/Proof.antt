@@ -7,13 +7,9 @@ use Rattle.dump.proofs.StepNeeds.{constant-within}
 use Rattle.dump.proofs.list.dump_constant.Statement.{statement}
 use Rattle.dump.proofs.list.dump_constant.Tie as tie
 
-constant-at-requires : tie.Need-constant-at-requires
-constant-at-requires c κs = search needs
-
 put-constant-requires : tie.Need-put-constant-requires
 put-constant-requires c κs =
-    let c₁ = c .before in
-    let c₂ = c₁ .before .before .before .before in
+    let c₁ = c .before in let c₂ = c₁ .before .before .before .before in
     rw (c₁ .constant-at .ensures .value (c₂ .pre .value) _ (c₂ .pre .fits .to) (c₂ .pre .fits .stands)) (c₂ .pre .fits .room)
 
 add-t10 : tie.Need-add-t10
@@ -21,12 +17,12 @@ add-t10 c =
     let c₁ = c .before .before .before .before .before .before .before .before in
     omega (arith, constant-within (c₁ .pre .value) _ (c₁ .pre .fits))
 
-same-length : tie.Need-same-length
-same-length c = search needs
-
 returns : tie.Need-returns
 returns c = constant-dumped _ skips-on (λ k to h. c .before .before .before .before .constant-at .ensures .value k _ to h) (c .before .before .put-constant .ensures)
 
 pub dump-constant-spec : {M : Type 1} → statement M
-dump-constant-spec =
-    tie.close (tie.spec constant-at-requires put-constant-requires add-t10 same-length returns)
+dump-constant-spec = tie.close (tie.spec
+    (λ c. search needs)  -- constant-at-requires
+    put-constant-requires add-t10
+    (λ c. search needs)  -- same-length
+    returns)

@@ -8,12 +8,6 @@ use Rattle.dump.proofs.list.dump_debug.Tie as tie
 put-no-debug-requires : tie.Need-put-no-debug-requires
 put-no-debug-requires c κs = no-debug-fits (c .before .if1 .taken) (c .before .before .before .before .before .pre)
 
-after-debug-requires : tie.Need-after-debug-requires
-after-debug-requires c κs = search needs
-
-same-length : tie.Need-same-length
-same-length c = search needs
-
 returns : tie.Need-returns
 returns c = debug-stripped (c .before .before .before .before .before .if1 .taken) (c .after-debug .ensures) (c .before .before .before .put-no-debug .ensures)
 
@@ -22,40 +16,24 @@ dump-code-requires c κs = lines-ready (c .before .if1 .left) (c .before .before
 
 dump-locals-requires : tie.Need-dump-locals-requires
 dump-locals-requires c κs =
-    let c₁ = c .before .before .before in
-    let c₂ = c₁ .before .before in
-    let c₃ = c₂ .before .before .before .before in
+    let c₁ = c .before .before .before in let c₂ = c₁ .before .before in let c₃ = c₂ .before .before .before .before in
     locals-ready (c₂ .if1 .left) (c₃ .pre) (c₁ .dump-code .ensures)
 
 dump-names-requires : tie.Need-dump-names-requires
 dump-names-requires c κs =
-    let c₁ = c .before .before .before in
-    let c₂ = c₁ .before .before .before .before in
-    let c₃ = c₂ .before .before in
+    let c₁ = c .before .before .before in let c₂ = c₁ .before .before .before .before in let c₃ = c₂ .before .before in
     let c₄ = c₃ .before .before .before .before in
     names-ready (c₃ .if1 .left) (c₄ .pre) (c₂ .dump-code .ensures) (c₁ .dump-locals .ensures)
 
-same-length-2 : tie.Need-same-length-2
-same-length-2 c = search needs
-
 returns-2 : tie.Need-returns-2
 returns-2 c =
-    let c₁ = c .before .before in
-    let c₂ = c₁ .before .before .before .before in
-    let c₃ = c₂ .before .before .before .before in
-    let c₄ = c₃ .before .before in
+    let c₁ = c .before .before in let c₂ = c₁ .before .before .before .before in
+    let c₃ = c₂ .before .before .before .before in let c₄ = c₃ .before .before in
     debug-dumped (c₄ .if1 .left) (c₃ .dump-code .ensures) (c₂ .dump-locals .ensures) (c₁ .dump-names .ensures)
 
 pub dump-debug-spec : {M : Type 1} → statement M
-dump-debug-spec =
-    tie.close
-    (tie.spec
-    put-no-debug-requires
-    after-debug-requires
-    same-length
-    returns
-    dump-code-requires
-    dump-locals-requires
-    dump-names-requires
-    same-length-2
+dump-debug-spec = tie.close (tie.spec put-no-debug-requires
+    (λ c. search needs) (λ c. search needs)  -- after-debug-requires, same-length
+    returns dump-code-requires dump-locals-requires dump-names-requires
+    (λ c. search needs)  -- same-length-2
     returns-2)

@@ -10,28 +10,22 @@ dump-name-requires c κs = local-name (c .before .before .before .before .pre)
 
 dump-word-requires : tie.Need-dump-word-requires
 dump-word-requires c κs =
-    let c₁ = c .before .before .before in
-    let c₂ = c₁ .before .before .before .before .before in
+    let c₁ = c .before .before .before in let c₂ = c₁ .before .before .before .before .before in
     local-start (c₂ .pre) (c₁ .dump-name .ensures)
 
 dump-word-requires-2 : tie.Need-dump-word-requires-2
 dump-word-requires-2 c κs =
-    let c₁ = c .before .before .before in
-    let c₂ = c₁ .before .before .before .before in
+    let c₁ = c .before .before .before in let c₂ = c₁ .before .before .before .before in
     let c₃ = c₂ .before .before .before .before .before in
     local-end (c₃ .pre) (c₂ .dump-name .ensures) (c₁ .dump-word .ensures)
 
-same-length : tie.Need-same-length
-same-length c = search needs
-
 returns : tie.Need-returns
 returns c =
-    let c₁ = c .before .before in
-    let c₂ = c₁ .before .before .before .before in
+    let c₁ = c .before .before in let c₂ = c₁ .before .before .before .before in
     let c₃ = c₂ .before .before .before .before in
     local-dumped (c₃ .dump-name .ensures) (c₂ .dump-word .ensures) (c₁ .dump-word2 .ensures)
 
 pub dump-local-spec : {M : Type 1} → statement M
-dump-local-spec =
-    tie.close
-    (tie.spec dump-name-requires dump-word-requires dump-word-requires-2 same-length returns)
+dump-local-spec = tie.close (tie.spec dump-name-requires dump-word-requires dump-word-requires-2
+    (λ c. search needs)  -- same-length
+    returns)

@@ -11,76 +11,42 @@ use Rattle.dump.proofs.StepNeeds.{part-short}
 use Rattle.dump.proofs.list.dump_name.Statement.{statement}
 use Rattle.dump.proofs.list.dump_name.Tie as tie
 
-mul-part : tie.Need-mul-part
-mul-part c = search needs
-
-shared-slice-read-part : tie.Need-shared-slice-read-part
-shared-slice-read-part c = search needs
-
 cast-part : tie.Need-cast-part
 cast-part c = omega (arith, c .before .before .before .shared-slice-known .given (c .before .before .before .before .args .s .at))
-
-add-part : tie.Need-add-part
-add-part c = search needs
-
-mul-part-2 : tie.Need-mul-part-2
-mul-part-2 c = search needs
-
-shared-slice-read-part-2 : tie.Need-shared-slice-read-part-2
-shared-slice-read-part-2 c = search needs
 
 cast-part-2 : tie.Need-cast-part-2
 cast-part-2 c = omega (arith, c .before .before .before .before .shared-slice-known .given (c .before .before .before .before .before .args .s .at + 1))
 
-part-requires : tie.Need-part-requires
-part-requires c κs = search needs
-
 dump-string-requires : tie.Need-dump-string-requires
 dump-string-requires c κs =
-    let c₁ = c .before in
-    let c₂ = c₁ .before .before .before .before .before .before in
+    let c₁ = c .before in let c₂ = c₁ .before .before .before .before .before .before in
     omega (arith, part-short (c₂ .args .text .now) (getD (c₂ .args .words .now) (c₂ .args .s .at) 0) (getD (c₂ .args .words .now) (c₂ .args .s .at + 1) 0) (c₁ .part .ensures), (c₂ .pre))
-
-add-t8 : tie.Need-add-t8
-add-t8 c = search needs
 
 add-t16 : tie.Need-add-t16
 add-t16 c =
-    let c₁ = c .before .before .before .before in
-    let c₂ = c₁ .before .before .before .before .before .before in
+    let c₁ = c .before .before .before .before in let c₂ = c₁ .before .before .before .before .before .before in
     omega (arith, part-short (c₂ .args .text .now) (getD (c₂ .args .words .now) (c₂ .args .s .at) 0) (getD (c₂ .args .words .now) (c₂ .args .s .at + 1) 0) (c₁ .part .ensures), (c₂ .pre))
 
 add-t12 : tie.Need-add-t12
 add-t12 c =
-    let c₁ = c .before .before .before .before in
-    let c₂ = c₁ .before .before .before .before .before .before in
+    let c₁ = c .before .before .before .before in let c₂ = c₁ .before .before .before .before .before .before in
     omega (arith, part-short (c₂ .args .text .now) (getD (c₂ .args .words .now) (c₂ .args .s .at) 0) (getD (c₂ .args .words .now) (c₂ .args .s .at + 1) 0) (c₁ .part .ensures), (c₂ .pre))
-
-same-length : tie.Need-same-length
-same-length c = search needs
 
 returns : tie.Need-returns
 returns c =
-    let c₁ = c .before .before in
-    let c₂ = c₁ .before .before in
+    let c₁ = c .before .before in let c₂ = c₁ .before .before in
     let c₃ = c₂ .before .before .before .before .before .before in
     name-dumped skips-on (λ s to h. string-here s h refl skips-on refl (c₂ .part .ensures)) (string-fits (c₂ .part .result .now) (omega (arith, part-short (c₃ .args .text .now) (getD (c₃ .args .words .now) (c₃ .args .s .at) 0) (getD (c₃ .args .words .now) (c₃ .args .s .at + 1) 0) (c₂ .part .ensures), (c₃ .pre))) refl (c₁ .dump-string .ensures))
 
 pub dump-name-spec : {M : Type 1} → statement M
-dump-name-spec =
-    tie.close
-    (tie.spec
-    mul-part
-    shared-slice-read-part
+dump-name-spec = tie.close (tie.spec
+    (λ c. search needs) (λ c. search needs)  -- mul-part, shared-slice-read-part
     cast-part
-    add-part
-    mul-part-2
-    shared-slice-read-part-2
+    (λ c. search needs) (λ c. search needs) (λ c. search needs)  -- add-part, mul-part-2, shared-slice-read-part-2
     cast-part-2
-    part-requires
+    (λ c. search needs)  -- part-requires
     dump-string-requires
-    add-t8
-    add-t16
-    add-t12
-    same-length
+    (λ c. search needs)  -- add-t8
+    add-t16 add-t12
+    (λ c. search needs)  -- same-length
     returns)

@@ -7,43 +7,15 @@ use Rattle.dump.proofs.Steps.{no-debug}
 use Rattle.dump.proofs.list.put_no_debug.Statement.{statement}
 use Rattle.dump.proofs.list.put_no_debug.Tie as tie
 
-dump-int-requires : tie.Need-dump-int-requires
-dump-int-requires c κs = search needs
-
-add-dump-int : tie.Need-add-dump-int
-add-dump-int c = search needs
-
-dump-int-requires-2 : tie.Need-dump-int-requires-2
-dump-int-requires-2 c κs = search needs
-
-add-dump-int-2 : tie.Need-add-dump-int-2
-add-dump-int-2 c = search needs
-
-dump-int-requires-3 : tie.Need-dump-int-requires-3
-dump-int-requires-3 c κs = search needs
-
-add-result : tie.Need-add-result
-add-result c = search needs
-
-same-length : tie.Need-same-length
-same-length c = search needs
-
 returns : tie.Need-returns
 returns c =
-    let c₁ = c .before .before in
-    let c₂ = c₁ .before .before .before .before in
+    let c₁ = c .before .before in let c₂ = c₁ .before .before .before .before in
     let c₃ = c₂ .before .before .before .before in
     no-debug (int-fits 0 (omega arith) refl (c₃ .dump-int .ensures)) (int-fits 0 (omega arith) (omega arith) (c₂ .dump-int2 .ensures)) (int-fits 0 (omega arith) (omega arith) (c₁ .dump-int3 .ensures))
 
 pub put-no-debug-spec : {M : Type 1} → statement M
-put-no-debug-spec =
-    tie.close
-    (tie.spec
-    dump-int-requires
-    add-dump-int
-    dump-int-requires-2
-    add-dump-int-2
-    dump-int-requires-3
-    add-result
-    same-length
+put-no-debug-spec = tie.close (tie.spec
+    (λ c. search needs) (λ c. search needs) (λ c. search needs)  -- dump-int-requires, add-dump-int, dump-int-requires-2
+    (λ c. search needs) (λ c. search needs) (λ c. search needs)  -- add-dump-int-2, dump-int-requires-3, add-result
+    (λ c. search needs)  -- same-length
     returns)

@@ -49,16 +49,12 @@ cast-raised-2 c =
     rw (widened (c .fits .sbx), toZ-ofZ {w = w64} (sum-fits (c .fits .sbx)))
     (raised (c .args .sbx) (c .fits .sbx) .natural, fits-natAbs {w = w64} tt (sum-fits (c .fits .sbx)))
 
-cast-a-bx : tie.Need-cast-a-bx
-cast-a-bx c = search needs
-
-a-bx-requires : tie.Need-a-bx-requires
-a-bx-requires c κs = search needs
-
 returns : tie.Need-returns
 returns c =
     let fits = c .before .fits .sbx in
     c .a-bx .ensures ∙ (rw (widened fits, toZ-ofZ {w = w64} (sum-fits fits), raised (c .before .args .sbx) fits .bx))
 
 pub a-sbx-spec : {M : Type 1} → statement M
-a-sbx-spec = tie.close (tie.spec cast-raised add-raised cast-raised-2 cast-a-bx a-bx-requires returns)
+a-sbx-spec = tie.close (tie.spec cast-raised add-raised cast-raised-2
+    (λ c. search needs) (λ c. search needs)  -- cast-a-bx, a-bx-requires
+    returns)

@@ -5,17 +5,10 @@ use Rattle.instructions.specs.OpCodes.{orMove}
 use Rattle.instructions.proofs.Instruction.opcode.Statement.{statement}
 use Rattle.instructions.proofs.Instruction.opcode.Tie as tie
 
-field-requires : tie.Need-field-requires
-field-requires c κs = search needs
-
-cast-or-move : tie.Need-cast-or-move
-cast-or-move c = search needs
-
-or-move-requires : tie.Need-or-move-requires
-or-move-requires c κs = search needs
-
 returns : tie.Need-returns
 returns c = c .or-move .ensures ∙ ap orMove (c .before .field .ensures)
 
 pub opcode-spec : {M : Type 1} → statement M
-opcode-spec = tie.close (tie.spec field-requires cast-or-move or-move-requires returns)
+opcode-spec = tie.close (tie.spec
+    (λ c. search needs) (λ c. search needs) (λ c. search needs)  -- field-requires, cast-or-move, or-move-requires
+    returns)

@@ -22,12 +22,6 @@ mag-sub false a b = omega arith
 sub-fits : (a b : ℕ) → a + b < 2 ^ 31 → SFits w32 (subℕ a b)
 sub-fits a b h = record { sfits = omega (arith, mag-sub (ltb a b) a b) }
 
-bx-requires : tie.Need-bx-requires
-bx-requires c κs = search needs
-
-cast-result : tie.Need-cast-result
-cast-result c = search needs
-
 sub-result : tie.Need-sub-result
 sub-result c =
     let bx = c .bx .result in
@@ -42,4 +36,6 @@ returns c =
     (toZ-ofZ {w = w32} (sub-fits bx MAXARG-sBx (omega arith)) ∙ ap (λ (x : ℕ). subℕ x MAXARG-sBx) (c .bx .ensures))
 
 pub sbx-spec : {M : Type 1} → statement M
-sbx-spec = tie.close (tie.spec bx-requires cast-result sub-result returns)
+sbx-spec = tie.close (tie.spec
+    (λ c. search needs) (λ c. search needs)  -- bx-requires, cast-result
+    sub-result returns)

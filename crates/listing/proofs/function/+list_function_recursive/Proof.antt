@@ -61,13 +61,6 @@ list-function-recursive-μ-loop words text outer full out₀ begins₀ lines₀ 
 list-function-recursive-returns : (t : ℕ) → list-function-recursive-lts.Need-returns (list-function-recursive-calls t) (list-function-recursive-at t) list-function-recursive.Post list-function-recursive-Inv-loop list-function-recursive-μ-loop
 list-function-recursive-returns t c = (c .before .before .before .before .before .before .before .pre .1, λ f v. absurd (none-deep (c .if1 .taken) f v))
 
-list-function-recursive-source-of-requires :
-    (t : ℕ) → list-function-recursive-lts.Need-source-of-requires (list-function-recursive-calls t) (list-function-recursive-at t)
-    list-function-recursive.Post
-    list-function-recursive-Inv-loop
-    list-function-recursive-μ-loop
-list-function-recursive-source-of-requires t c κs = search needs
-
 list-function-recursive-sub-format-function :
     (t : ℕ) → list-function-recursive-lts.Need-sub-format-function (list-function-recursive-calls t) (list-function-recursive-at t)
     list-function-recursive.Post
@@ -84,39 +77,8 @@ list-function-recursive-format-function-requires t c κs =
     let c₁ = c .before .before .before .before .before .before .before .before .before .before .before in
     c₁ .pre .1
 
-list-function-recursive-functions-at-requires :
-    (t : ℕ) → list-function-recursive-lts.Need-functions-at-requires (list-function-recursive-calls t) (list-function-recursive-at t)
-    list-function-recursive.Post
-    list-function-recursive-Inv-loop
-    list-function-recursive-μ-loop
-list-function-recursive-functions-at-requires t c κs = search needs
-
-list-function-recursive-word-at-requires :
-    (t : ℕ) → list-function-recursive-lts.Need-word-at-requires (list-function-recursive-calls t) (list-function-recursive-at t)
-    list-function-recursive.Post
-    list-function-recursive-Inv-loop
-    list-function-recursive-μ-loop
-list-function-recursive-word-at-requires t c κs = search needs
-
-list-function-recursive-skip-requires : (t : ℕ) → list-function-recursive-lts.Need-skip-requires (list-function-recursive-calls t) (list-function-recursive-at t) list-function-recursive.Post list-function-recursive-Inv-loop list-function-recursive-μ-loop
-list-function-recursive-skip-requires t c κs = search needs
-
-list-function-recursive-further-requires :
-    (t : ℕ) → list-function-recursive-lts.Need-further-requires (list-function-recursive-calls t) (list-function-recursive-at t)
-    list-function-recursive.Post
-    list-function-recursive-Inv-loop
-    list-function-recursive-μ-loop
-list-function-recursive-further-requires t c κs = search needs
-
 list-function-recursive-loop-holds : (t : ℕ) → list-function-recursive-lts.Need-loop-holds (list-function-recursive-calls t) (list-function-recursive-at t) list-function-recursive.Post list-function-recursive-Inv-loop list-function-recursive-μ-loop
 list-function-recursive-loop-holds t c = (refl, refl, refl, c .before .before .before .before .before .before .before .before .before .before .format-function .ensures .0, loop-start)
-
-list-function-recursive-put-byte-requires :
-    (t : ℕ) → list-function-recursive-lts.Need-put-byte-requires (list-function-recursive-calls t) (list-function-recursive-at t)
-    list-function-recursive.Post
-    list-function-recursive-Inv-loop
-    list-function-recursive-μ-loop
-list-function-recursive-put-byte-requires t c κs = search needs
 
 list-function-recursive-sub-list-function-recursive :
     (t : ℕ) → list-function-recursive-lts.Need-sub-list-function-recursive (list-function-recursive-calls t) (list-function-recursive-at t)
@@ -138,17 +100,10 @@ list-function-recursive-list-function-recursive-requires t c κs =
     let c₃ = c₂ .before .before .before .before .before .before .before in
     (omega (arith, c₃ .pre .0, c₂ .if1 .left), c₁ .loop .inv .3)
 
-list-function-recursive-add-i : (t : ℕ) → list-function-recursive-lts.Need-add-i (list-function-recursive-calls t) (list-function-recursive-at t) list-function-recursive.Post list-function-recursive-Inv-loop list-function-recursive-μ-loop
-list-function-recursive-add-i t c = omega arith
-
-list-function-recursive-loop-less : (t : ℕ) → list-function-recursive-lts.Need-loop-less (list-function-recursive-calls t) (list-function-recursive-at t) list-function-recursive.Post list-function-recursive-Inv-loop list-function-recursive-μ-loop
-list-function-recursive-loop-less t c = omega arith
-
 list-function-recursive-loop-again : (t : ℕ) → list-function-recursive-lts.Need-loop-again (list-function-recursive-calls t) (list-function-recursive-at t) list-function-recursive.Post list-function-recursive-Inv-loop list-function-recursive-μ-loop
 list-function-recursive-loop-again t c =
     let c₁ = c .before .before .before .before .before .before in
-    let c₂ = c₁ .before .before .before .before .before .before in
-    let c₃ = c₂ .before .before .before in
+    let c₂ = c₁ .before .before .before .before .before .before in let c₃ = c₂ .before .before .before in
     let l = c₃ .loop .inv in
     let x = c₁ .list-function-recursive in
     let y = c₂ .put-byte in (
@@ -158,13 +113,6 @@ list-function-recursive-loop-again t c =
       x .ensures .0,
       loop-turn (omega arith) (l .4) (lists-more (y .ensures) (x .ensures .1)),
     )
-
-list-function-recursive-after-debug-requires :
-    (t : ℕ) → list-function-recursive-lts.Need-after-debug-requires (list-function-recursive-calls t) (list-function-recursive-at t)
-    list-function-recursive.Post
-    list-function-recursive-Inv-loop
-    list-function-recursive-μ-loop
-list-function-recursive-after-debug-requires t c κs = search needs
 
 list-function-recursive-same-length : (t : ℕ) → list-function-recursive-lts.Need-same-length (list-function-recursive-calls t) (list-function-recursive-at t) list-function-recursive.Post list-function-recursive-Inv-loop list-function-recursive-μ-loop
 list-function-recursive-same-length t c =
@@ -186,14 +134,9 @@ list-function-recursive-same-length-3 t c =
 
 list-function-recursive-returns-2 : (t : ℕ) → list-function-recursive-lts.Need-returns-2 (list-function-recursive-calls t) (list-function-recursive-at t) list-function-recursive.Post list-function-recursive-Inv-loop list-function-recursive-μ-loop
 list-function-recursive-returns-2 t c =
-    let c₁ = c .before .before in
-    let c₂ = c₁ .before in
-    let c₃ = c₂ .before in
-    let c₄ = c₃ .before in
-    let c₅ = c₄ .before in
-    let c₆ = c₅ .before .before .before .before .before .before .before in
-    let c₇ = c₆ .before .before .before .before in
-    let c₈ = c₇ .before in
+    let c₁ = c .before .before in let c₂ = c₁ .before in let c₃ = c₂ .before in let c₄ = c₃ .before in
+    let c₅ = c₄ .before in let c₆ = c₅ .before .before .before .before .before .before .before in
+    let c₇ = c₆ .before .before .before .before in let c₈ = c₇ .before in
     let c₉ = c₈ .before .before .before .before .before .before .before in
     let allowance = c₉ .args .allowance in
     let n = allowance - 1 in
@@ -201,25 +144,18 @@ list-function-recursive-returns-2 t c =
     (c₁ .loop .inv .3, rw e (lists-function n (c₇ .source-of .ensures) (c₆ .format-function .ensures .1) (c₅ .functions-at .ensures) (c₄ .word-at .ensures) (c₃ .skip .ensures) (c₂ .further .ensures) (loop-end (omega arith) (c₁ .loop .inv .4) lists-none) (c .after-debug .ensures)))
 
 pub +list-function-recursive-spec : {M : Type 1} → statement M
-+list-function-recursive-spec =
-    close μ-list-function-recursive λ t. list-function-recursive-lts.spec (list-function-recursive-calls t) (list-function-recursive-at t) list-function-recursive.Post list-function-recursive-Inv-loop list-function-recursive-μ-loop
-    (list-function-recursive-returns t)
-    (list-function-recursive-source-of-requires t)
-    (list-function-recursive-sub-format-function t)
-    (list-function-recursive-format-function-requires t)
-    (list-function-recursive-functions-at-requires t)
-    (list-function-recursive-word-at-requires t)
-    (list-function-recursive-skip-requires t)
-    (list-function-recursive-further-requires t)
++list-function-recursive-spec = close μ-list-function-recursive λ t. list-function-recursive-lts.spec
+    (list-function-recursive-calls t) (list-function-recursive-at t) list-function-recursive.Post
+    list-function-recursive-Inv-loop list-function-recursive-μ-loop (list-function-recursive-returns t)
+    (λ c. search needs)  -- source-of-requires
+    (list-function-recursive-sub-format-function t) (list-function-recursive-format-function-requires t)
+    (λ c. search needs) (λ c. search needs)  -- functions-at-requires, word-at-requires
+    (λ c. search needs) (λ c. search needs)  -- skip-requires, further-requires
     (list-function-recursive-loop-holds t)
-    (list-function-recursive-put-byte-requires t)
-    (list-function-recursive-sub-list-function-recursive t)
-    (list-function-recursive-list-function-recursive-requires t)
-    (list-function-recursive-add-i t)
-    (list-function-recursive-loop-less t)
+    (λ c. search needs)  -- put-byte-requires
+    (list-function-recursive-sub-list-function-recursive t) (list-function-recursive-list-function-recursive-requires t)
+    (λ c. omega arith) (λ c. omega arith)  -- add-i, loop-less
     (list-function-recursive-loop-again t)
-    (list-function-recursive-after-debug-requires t)
-    (list-function-recursive-same-length t)
-    (list-function-recursive-same-length-2 t)
-    (list-function-recursive-same-length-3 t)
-    (list-function-recursive-returns-2 t)
+    (λ c. search needs)  -- after-debug-requires
+    (list-function-recursive-same-length t) (list-function-recursive-same-length-2 t)
+    (list-function-recursive-same-length-3 t) (list-function-recursive-returns-2 t)

@@ -5,36 +5,10 @@ use Rattle.proto.proofs.ListPlaces.{lists-stand}
 use Rattle.listing.proofs.function.format_function.Statement.{statement}
 use Rattle.listing.proofs.function.format_function.Tie as tie
 
-lists-on-way-requires : tie.Need-lists-on-way-requires
-lists-on-way-requires c κs = search needs
-
-head-at-requires : tie.Need-head-at-requires
-head-at-requires c κs = search needs
-
-format-header-requires : tie.Need-format-header-requires
-format-header-requires c κs = search needs
-
-format-code-requires : tie.Need-format-code-requires
-format-code-requires c κs = search needs
-
-format-lists-requires : tie.Need-format-lists-requires
-format-lists-requires c κs = search needs
-
-same-length : tie.Need-same-length
-same-length c = search needs
-
-same-length-2 : tie.Need-same-length-2
-same-length-2 c = search needs
-
-same-length-3 : tie.Need-same-length-3
-same-length-3 c = search needs
-
 returns : tie.Need-returns
 returns c =
-    let c₁ = c .before .before in
-    let c₂ = c₁ .before .before .before .before in
-    let c₃ = c₂ .before .before .before .before in
-    let c₄ = c₃ .before .before in
+    let c₁ = c .before .before in let c₂ = c₁ .before .before .before .before in
+    let c₃ = c₂ .before .before .before .before in let c₄ = c₃ .before .before in
     let c₅ = c₄ .before .before .before .before .before in
     let c₆ = c₅ .before .before .before .before .before .before .before .before .before in
     let t = c₆ .args .text .now in
@@ -50,15 +24,9 @@ returns c =
     )
 
 pub format-function-spec : {M : Type 1} → statement M
-format-function-spec =
-    tie.close
-    (tie.spec
-    lists-on-way-requires
-    head-at-requires
-    format-header-requires
-    format-code-requires
-    format-lists-requires
-    same-length
-    same-length-2
-    same-length-3
+format-function-spec = tie.close (tie.spec
+    (λ c. search needs) (λ c. search needs)  -- lists-on-way-requires, head-at-requires
+    (λ c. search needs) (λ c. search needs)  -- format-header-requires, format-code-requires
+    (λ c. search needs) (λ c. search needs) (λ c. search needs)  -- format-lists-requires, same-length, same-length-2
+    (λ c. search needs)  -- same-length-3
     returns)

@@ -5,40 +5,23 @@ use Rattle.lent.proofs.Writes.{put-then, put-none}
 use Rattle.listing.proofs.function.format_lists.Statement.{statement}
 use Rattle.listing.proofs.function.format_lists.Tie as tie
 
-format-constants-requires : tie.Need-format-constants-requires
-format-constants-requires c κs = search needs
-
-format-locals-requires : tie.Need-format-locals-requires
-format-locals-requires c κs = search needs
-
-format-upvalues-requires : tie.Need-format-upvalues-requires
-format-upvalues-requires c κs = search needs
-
 same-length : tie.Need-same-length
 same-length c =
-    let c₁ = c .before .before in
-    let c₂ = c₁ .before .before .before .before in
+    let c₁ = c .before .before in let c₂ = c₁ .before .before .before .before in
     let c₃ = c₂ .before .before .before .before in
     c₁ .format-upvalues .kept .1 .1 .1 .1 .0 ∙ c₂ .format-locals .kept .1 .1 .1 .1 .0 ∙ c₃ .format-constants .kept .1 .1 .1 .1 .0
 
 returns : tie.Need-returns
 returns c =
-    let c₁ = c .before .before in
-    let c₂ = c₁ .before .before .before .before in
-    let c₃ = c₂ .before .before .before .before in
-    let c₄ = c₃ .before .before in
+    let c₁ = c .before .before in let c₂ = c₁ .before .before .before .before in
+    let c₃ = c₂ .before .before .before .before in let c₄ = c₃ .before .before in
     λ p fs l. rw (c₄ .if1 .taken) (put-then (put-then (c₃ .format-constants .ensures .shows (p .constants) (l .constants)) (c₂ .format-locals .ensures .shows (p .debug .locals) (l .locals))) (c₁ .format-upvalues .ensures .shows (p .debug .upvalues) (l .upvalues)))
 
 returns-2 : tie.Need-returns-2
 returns-2 c = λ p fs l. rw (c .if1 .left) put-none
 
 pub format-lists-spec : {M : Type 1} → statement M
-format-lists-spec =
-    tie.close
-    (tie.spec
-    format-constants-requires
-    format-locals-requires
-    format-upvalues-requires
-    same-length
-    returns
-    returns-2)
+format-lists-spec = tie.close (tie.spec
+    (λ c. search needs) (λ c. search needs)  -- format-constants-requires, format-locals-requires
+    (λ c. search needs)  -- format-upvalues-requires
+    same-length returns returns-2)

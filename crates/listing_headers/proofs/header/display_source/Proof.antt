@@ -5,18 +5,6 @@ use Rattle.listing_headers.proofs.Headers.{display-cut, display-whole}
 use Rattle.listing_headers.proofs.header.display_source.Statement.{statement}
 use Rattle.listing_headers.proofs.header.display_source.Tie as tie
 
-shared-slice-read-if2 : tie.Need-shared-slice-read-if2
-shared-slice-read-if2 c = search needs
-
-sub-result : tie.Need-sub-result
-sub-result c = search needs
-
-part-result-start : tie.Need-part-result-start
-part-result-start c = search needs
-
-part-result-end : tie.Need-part-result-end
-part-result-end c = search needs
-
 returns : tie.Need-returns
 returns c = display-cut (c .before .before .before .before .args .source .now) (c .before .before .before .if1 .taken) (c .before .if2 .taken)
 
@@ -27,13 +15,7 @@ returns-3 : tie.Need-returns-3
 returns-3 c = display-whole (c .before .args .source .now) (λ h e. omega arith)
 
 pub display-source-spec : {M : Type 1} → statement M
-display-source-spec =
-    tie.close
-    (tie.spec
-    shared-slice-read-if2
-    sub-result
-    part-result-start
-    part-result-end
-    returns
-    returns-2
-    returns-3)
+display-source-spec = tie.close (tie.spec
+    (λ c. search needs) (λ c. search needs) (λ c. search needs)  -- shared-slice-read-if2, sub-result, part-result-start
+    (λ c. search needs)  -- part-result-end
+    returns returns-2 returns-3)

@@ -4,18 +4,11 @@ use Rattle.lent.proofs.Writes.{put-then}
 use Rattle.listing_headers.proofs.header.format_header.Statement.{statement}
 use Rattle.listing_headers.proofs.header.format_header.Tie as tie
 
-header-kind-requires : tie.Need-header-kind-requires
-header-kind-requires c κs = search needs
-
-header-counts-requires : tie.Need-header-counts-requires
-header-counts-requires c κs = search needs
-
-same-length : tie.Need-same-length
-same-length c = search needs
-
 returns : tie.Need-returns
 returns c = λ p fs t e l. put-then (c .before .before .before .before .before .before .header-kind .ensures p fs t e l) (c .before .before .header-counts .ensures p fs t e l)
 
 pub format-header-spec : {M : Type 1} → statement M
-format-header-spec =
-    tie.close (tie.spec header-kind-requires header-counts-requires same-length returns)
+format-header-spec = tie.close (tie.spec
+    (λ c. search needs) (λ c. search needs)  -- header-kind-requires, header-counts-requires
+    (λ c. search needs)  -- same-length
+    returns)

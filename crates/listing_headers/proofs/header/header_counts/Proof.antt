@@ -11,75 +11,22 @@ use Rattle.listing_headers.specs.Header.{headerCounts}
 use Rattle.listing_headers.proofs.header.header_counts.Statement.{statement}
 use Rattle.listing_headers.proofs.header.header_counts.Tie as tie
 
-put-params-requires : tie.Need-put-params-requires
-put-params-requires c κs = search needs
-
-slice-aggregate-put-and-amount : tie.Need-slice-aggregate-put-and-amount
-slice-aggregate-put-and-amount c = search needs
-
-put-and-amount-requires : tie.Need-put-and-amount-requires
-put-and-amount-requires c κs = search needs
-
-slice-aggregate-put-and-amount-2 : tie.Need-slice-aggregate-put-and-amount-2
-slice-aggregate-put-and-amount-2 c = search needs
-
-put-and-amount-requires-2 : tie.Need-put-and-amount-requires-2
-put-and-amount-requires-2 c κs = search needs
-
-word-at-requires : tie.Need-word-at-requires
-word-at-requires c κs = search needs
-
-slice-aggregate-put-and-amount-3 : tie.Need-slice-aggregate-put-and-amount-3
-slice-aggregate-put-and-amount-3 c = search needs
-
-put-and-amount-requires-3 : tie.Need-put-and-amount-requires-3
-put-and-amount-requires-3 c κs = search needs
-
-word-at-requires-2 : tie.Need-word-at-requires-2
-word-at-requires-2 c κs = search needs
-
-slice-aggregate-put-and-amount-4 : tie.Need-slice-aggregate-put-and-amount-4
-slice-aggregate-put-and-amount-4 c = search needs
-
-put-and-amount-requires-4 : tie.Need-put-and-amount-requires-4
-put-and-amount-requires-4 c κs = search needs
-
-word-at-requires-3 : tie.Need-word-at-requires-3
-word-at-requires-3 c κs = search needs
-
-slice-aggregate-put-and-amount-5 : tie.Need-slice-aggregate-put-and-amount-5
-slice-aggregate-put-and-amount-5 c = search needs
-
-put-and-amount-requires-5 : tie.Need-put-and-amount-requires-5
-put-and-amount-requires-5 c κs = search needs
-
-put-byte-requires : tie.Need-put-byte-requires
-put-byte-requires c κs = search needs
-
 same-length : tie.Need-same-length
 same-length c =
-    let c₁ = c .before .before in
-    let c₂ = c₁ .before .before .before .before in
+    let c₁ = c .before .before in let c₂ = c₁ .before .before .before .before in
     let c₃ = c₂ .before .before .before .before .before .before in
     let c₄ = c₃ .before .before .before .before .before .before in
     let c₅ = c₄ .before .before .before .before .before .before in
-    let c₆ = c₅ .before .before .before .before .before in
-    let c₇ = c₆ .before .before .before .before .before in
+    let c₆ = c₅ .before .before .before .before .before in let c₇ = c₆ .before .before .before .before .before in
     c₁ .put-byte .kept .0 ∙ c₂ .put-and-amount5 .kept .1 .1 .0 ∙ c₃ .put-and-amount4 .kept .1 .1 .0 ∙ c₄ .put-and-amount3 .kept .1 .1 .0 ∙ c₅ .put-and-amount2 .kept .1 .1 .0 ∙ c₆ .put-and-amount .kept .1 .1 .0 ∙ c₇ .put-params .kept .1 .1 .0
 
 returns : tie.Need-returns
 unfolding headerCounts
 returns c =
-    let c₁ = c .before .before in
-    let c₂ = c₁ .before .before .before .before in
-    let c₃ = c₂ .before .before .before in
-    let c₄ = c₃ .before .before .before in
-    let c₅ = c₄ .before .before .before in
-    let c₆ = c₅ .before .before .before in
-    let c₇ = c₆ .before .before .before in
-    let c₈ = c₇ .before .before .before in
-    let c₉ = c₈ .before .before .before .before .before in
-    let c₁₀ = c₉ .before .before .before .before .before in
+    let c₁ = c .before .before in let c₂ = c₁ .before .before .before .before in let c₃ = c₂ .before .before .before in
+    let c₄ = c₃ .before .before .before in let c₅ = c₄ .before .before .before in let c₆ = c₅ .before .before .before in
+    let c₇ = c₆ .before .before .before in let c₈ = c₇ .before .before .before in
+    let c₉ = c₈ .before .before .before .before .before in let c₁₀ = c₉ .before .before .before .before .before in
     λ p fs t e l.
     let locals = c₇ .word-at .ensures ∙ list-count localPiece (p .debug .locals) (l .locals .stands) in
     let constants = c₅ .word-at2 .ensures ∙ list-count constantPiece (p .constants) (l .constants .stands) in
@@ -88,23 +35,13 @@ returns c =
     (put-then (put-then (put-then (put-then (put-then (put-then (c₁₀ .put-params .ensures) (c₉ .put-and-amount .ensures)) (c₈ .put-and-amount2 .ensures)) (c₆ .put-and-amount3 .ensures)) (c₄ .put-and-amount4 .ensures)) (c₂ .put-and-amount5 .ensures)) (c₁ .put-byte .ensures))
 
 pub header-counts-spec : {M : Type 1} → statement M
-header-counts-spec =
-    tie.close
-    (tie.spec
-    put-params-requires
-    slice-aggregate-put-and-amount
-    put-and-amount-requires
-    slice-aggregate-put-and-amount-2
-    put-and-amount-requires-2
-    word-at-requires
-    slice-aggregate-put-and-amount-3
-    put-and-amount-requires-3
-    word-at-requires-2
-    slice-aggregate-put-and-amount-4
-    put-and-amount-requires-4
-    word-at-requires-3
-    slice-aggregate-put-and-amount-5
-    put-and-amount-requires-5
-    put-byte-requires
-    same-length
-    returns)
+header-counts-spec = tie.close (tie.spec
+    (λ c. search needs) (λ c. search needs)  -- put-params-requires, slice-aggregate-put-and-amount
+    (λ c. search needs) (λ c. search needs)  -- put-and-amount-requires, slice-aggregate-put-and-amount-2
+    (λ c. search needs) (λ c. search needs)  -- put-and-amount-requires-2, word-at-requires
+    (λ c. search needs) (λ c. search needs)  -- slice-aggregate-put-and-amount-3, put-and-amount-requires-3
+    (λ c. search needs) (λ c. search needs)  -- word-at-requires-2, slice-aggregate-put-and-amount-4
+    (λ c. search needs) (λ c. search needs)  -- put-and-amount-requires-4, word-at-requires-3
+    (λ c. search needs) (λ c. search needs)  -- slice-aggregate-put-and-amount-5, put-and-amount-requires-5
+    (λ c. search needs)  -- put-byte-requires
+    same-length returns)

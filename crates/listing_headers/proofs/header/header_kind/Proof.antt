@@ -8,37 +8,16 @@ use Rattle.listing_headers.specs.Header.{headerKind}
 use Rattle.listing_headers.proofs.header.header_kind.Statement.{statement}
 use Rattle.listing_headers.proofs.header.header_kind.Tie as tie
 
-put-kind-requires : tie.Need-put-kind-requires
-put-kind-requires c κs = search needs
-
-put-source-lines-requires : tie.Need-put-source-lines-requires
-put-source-lines-requires c κs = search needs
-
-word-at-requires : tie.Need-word-at-requires
-word-at-requires c κs = search needs
-
-put-code-size-requires : tie.Need-put-code-size-requires
-put-code-size-requires c κs = search needs
-
-same-length : tie.Need-same-length
-same-length c = search needs
-
 returns : tie.Need-returns
 unfolding headerKind
 returns c =
-    let c₁ = c .before .before in
-    let c₂ = c₁ .before .before in
-    let c₃ = c₂ .before .before .before in
+    let c₁ = c .before .before in let c₂ = c₁ .before .before in let c₃ = c₂ .before .before .before in
     let c₄ = c₃ .before .before .before .before in
     λ p fs t e l. rw (← ap (λ (h : Head). h .«line_defined») e, ← ap (λ (h : Head). h .«last_line_defined») e, ← (c₂ .word-at .ensures ∙ ints-count (p .code) (l .code .stands))) (put-then (put-then (c₄ .put-kind .ensures) (c₃ .put-source-lines .ensures)) (c₁ .put-code-size .ensures))
 
 pub header-kind-spec : {M : Type 1} → statement M
-header-kind-spec =
-    tie.close
-    (tie.spec
-    put-kind-requires
-    put-source-lines-requires
-    word-at-requires
-    put-code-size-requires
-    same-length
+header-kind-spec = tie.close (tie.spec
+    (λ c. search needs) (λ c. search needs)  -- put-kind-requires, put-source-lines-requires
+    (λ c. search needs) (λ c. search needs)  -- word-at-requires, put-code-size-requires
+    (λ c. search needs)  -- same-length
     returns)

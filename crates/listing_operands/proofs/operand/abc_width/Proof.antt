@@ -4,49 +4,14 @@ use Rattle.digits.proofs.Rooms.{width-then}
 use Rattle.listing_operands.proofs.operand.abc_width.Statement.{statement}
 use Rattle.listing_operands.proofs.operand.abc_width.Tie as tie
 
-a-requires : tie.Need-a-requires
-a-requires c κs = search needs
-
-width-requires : tie.Need-width-requires
-width-requires c κs = search needs
-
-b-requires : tie.Need-b-requires
-b-requires c κs = search needs
-
-arg-width-requires : tie.Need-arg-width-requires
-arg-width-requires c κs = search needs
-
-add-result : tie.Need-add-result
-add-result c = search needs
-
-c-requires : tie.Need-c-requires
-c-requires c κs = search needs
-
-arg-width-requires-2 : tie.Need-arg-width-requires-2
-arg-width-requires-2 c κs = search needs
-
-add-result-2 : tie.Need-add-result-2
-add-result-2 c = search needs
-
 returns : tie.Need-returns
 returns c =
-    let c₁ = c .before in
-    let c₂ = c₁ .before in
-    let c₃ = c₂ .before in
-    let c₄ = c₃ .before in
-    let c₅ = c₄ .before in
+    let c₁ = c .before in let c₂ = c₁ .before in let c₃ = c₂ .before in let c₄ = c₃ .before in let c₅ = c₄ .before in
     rw (← c₅ .a .ensures, ← c₃ .b .ensures, ← c₁ .c .ensures) (width-then (width-then (c₄ .width .ensures) (c₂ .arg-width .ensures)) (c .arg-width2 .ensures))
 
 pub abc-width-spec : {M : Type 1} → statement M
-abc-width-spec =
-    tie.close
-    (tie.spec
-    a-requires
-    width-requires
-    b-requires
-    arg-width-requires
-    add-result
-    c-requires
-    arg-width-requires-2
-    add-result-2
+abc-width-spec = tie.close (tie.spec
+    (λ c. search needs) (λ c. search needs) (λ c. search needs)  -- a-requires, width-requires, b-requires
+    (λ c. search needs) (λ c. search needs) (λ c. search needs)  -- arg-width-requires, add-result, c-requires
+    (λ c. search needs) (λ c. search needs)  -- arg-width-requires-2, add-result-2
     returns)

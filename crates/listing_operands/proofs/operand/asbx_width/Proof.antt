@@ -6,43 +6,17 @@ use Rattle.digits.proofs.Rooms.{width-byte, width-then, width-within}
 use Rattle.listing_operands.proofs.operand.asbx_width.Statement.{statement}
 use Rattle.listing_operands.proofs.operand.asbx_width.Tie as tie
 
-bx-requires : tie.Need-bx-requires
-bx-requires c κs = search needs
-
-cast-difference-width : tie.Need-cast-difference-width
-cast-difference-width c = search needs
-
-difference-width-requires : tie.Need-difference-width-requires
-difference-width-requires c κs = search needs
-
 returns : tie.Need-returns
 returns c = rw (eq-eqb _ _ (c .if1 .taken), ← c .before .before .bx .ensures) (width-within 22 (omega arith) (c .before .difference-width .ensures))
-
-a-requires : tie.Need-a-requires
-a-requires c κs = search needs
-
-width-requires : tie.Need-width-requires
-width-requires c κs = search needs
-
-add-result : tie.Need-add-result
-add-result c = search needs
-
-add-result-2 : tie.Need-add-result-2
-add-result-2 c = search needs
 
 returns-2 : tie.Need-returns-2
 returns-2 c = rw (ne-eqb _ _ (c .before .before .if1 .left), ← c .before .a .ensures, ← c .before .before .before .before .bx .ensures) (width-then (width-then (c .width .ensures) width-byte) (c .before .before .before .difference-width .ensures))
 
 pub asbx-width-spec : {M : Type 1} → statement M
-asbx-width-spec =
-    tie.close
-    (tie.spec
-    bx-requires
-    cast-difference-width
-    difference-width-requires
+asbx-width-spec = tie.close (tie.spec
+    (λ c. search needs) (λ c. search needs)  -- bx-requires, cast-difference-width
+    (λ c. search needs)  -- difference-width-requires
     returns
-    a-requires
-    width-requires
-    add-result
-    add-result-2
+    (λ c. search needs) (λ c. search needs) (λ c. search needs)  -- a-requires, width-requires, add-result
+    (λ c. search needs)  -- add-result-2
     returns-2)

@@ -6,70 +6,24 @@ use Rattle.digits.proofs.Rooms.{fit-then, fit-within}
 use Rattle.listing_operands.proofs.operand.store_asbx.Statement.{statement}
 use Rattle.listing_operands.proofs.operand.store_asbx.Tie as tie
 
-bx-requires : tie.Need-bx-requires
-bx-requires c κs = search needs
-
-cast-store-difference : tie.Need-cast-store-difference
-cast-store-difference c = search needs
-
-store-difference-requires : tie.Need-store-difference-requires
-store-difference-requires c κs = search needs
-
-same-length : tie.Need-same-length
-same-length c = search needs
-
 returns : tie.Need-returns
 returns c =
-    let c₁ = c .before .before in
-    let c₂ = c₁ .before .before in
-    let c₃ = c₂ .before in
+    let c₁ = c .before .before in let c₂ = c₁ .before .before in let c₃ = c₂ .before in
     rw (eq-eqb _ _ (c₃ .if1 .taken), ← c₂ .bx .ensures) (fit-within 22 (omega arith) (c₁ .store-difference .ensures))
-
-a-requires : tie.Need-a-requires
-a-requires c κs = search needs
-
-store-decimal-requires : tie.Need-store-decimal-requires
-store-decimal-requires c κs = search needs
-
-store-byte-requires : tie.Need-store-byte-requires
-store-byte-requires c κs = search needs
-
-bx-requires-2 : tie.Need-bx-requires-2
-bx-requires-2 c κs = search needs
-
-cast-store-difference-2 : tie.Need-cast-store-difference-2
-cast-store-difference-2 c = search needs
-
-store-difference-requires-2 : tie.Need-store-difference-requires-2
-store-difference-requires-2 c κs = search needs
-
-same-length-2 : tie.Need-same-length-2
-same-length-2 c = search needs
 
 returns-2 : tie.Need-returns-2
 returns-2 c =
-    let c₁ = c .before .before in
-    let c₂ = c₁ .before .before in
-    let c₃ = c₂ .before .before .before in
-    let c₄ = c₃ .before .before .before .before in
-    let c₅ = c₄ .before in
-    let c₆ = c₅ .before .before in
+    let c₁ = c .before .before in let c₂ = c₁ .before .before in let c₃ = c₂ .before .before .before in
+    let c₄ = c₃ .before .before .before .before in let c₅ = c₄ .before in let c₆ = c₅ .before .before in
     rw (ne-eqb _ _ (c₆ .if1 .left), ← c₅ .a .ensures, ← c₂ .bx2 .ensures) (fit-then (fit-then (c₄ .store-decimal .ensures) (c₃ .store-byte .ensures)) (c₁ .store-difference2 .ensures))
 
 pub store-asbx-spec : {M : Type 1} → statement M
-store-asbx-spec =
-    tie.close
-    (tie.spec
-    bx-requires
-    cast-store-difference
-    store-difference-requires
-    same-length
+store-asbx-spec = tie.close (tie.spec
+    (λ c. search needs) (λ c. search needs)  -- bx-requires, cast-store-difference
+    (λ c. search needs) (λ c. search needs)  -- store-difference-requires, same-length
     returns
-    a-requires
-    store-decimal-requires
-    store-byte-requires
-    bx-requires-2
-    cast-store-difference-2
-    store-difference-requires-2
-    same-length-2
+    (λ c. search needs) (λ c. search needs)  -- a-requires, store-decimal-requires
+    (λ c. search needs) (λ c. search needs)  -- store-byte-requires, bx-requires-2
+    (λ c. search needs) (λ c. search needs)  -- cast-store-difference-2, store-difference-requires-2
+    (λ c. search needs)  -- same-length-2
     returns-2)

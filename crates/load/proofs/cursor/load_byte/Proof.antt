@@ -9,11 +9,10 @@ use Rattle.load.proofs.cursor.load_byte.Tie as tie
 returns : tie.Need-returns
 returns c = passed (omega arith) refl
 
-read-byte-requires : tie.Need-read-byte-requires
-read-byte-requires c κs = search needs
-
 returns-2 : tie.Need-returns-2
 returns-2 c = reads (omega arith) (c .read-byte .ensures)
 
 pub load-byte-spec : {M : Type 1} → statement M
-load-byte-spec = tie.close (tie.spec returns read-byte-requires returns-2)
+load-byte-spec = tie.close (tie.spec returns
+    (λ c. search needs)  -- read-byte-requires
+    returns-2)

@@ -5,26 +5,8 @@ use Rattle.load.proofs.Strings.{constant-refused, constant-nil, constan
 use Rattle.load.proofs.cursor.load_constant.Statement.{statement}
 use Rattle.load.proofs.cursor.load_constant.Tie as tie
 
-load-byte-requires : tie.Need-load-byte-requires
-load-byte-requires c κs = search needs
-
 returns : tie.Need-returns
 returns c = constant-refused (c .before .before .before .load-byte .ensures) (omega arith)
-
-load-byte-requires-2 : tie.Need-load-byte-requires-2
-load-byte-requires-2 c κs = search needs
-
-load-int-requires : tie.Need-load-int-requires
-load-int-requires c κs = search needs
-
-load-int-requires-2 : tie.Need-load-int-requires-2
-load-int-requires-2 c κs = search needs
-
-load-string-requires : tie.Need-load-string-requires
-load-string-requires c κs = search needs
-
-refused-requires : tie.Need-refused-requires
-refused-requires c κs = search needs
 
 returns-2 : tie.Need-returns-2
 returns-2 c = constant-nil (c .before .before .before .before .load-byte .ensures) (omega arith) (omega arith)
@@ -42,18 +24,10 @@ returns-6 : tie.Need-returns-6
 returns-6 c = constant-bad (c .before .before .before .before .before .load-byte .ensures) (omega arith) (λ e. omega arith) (λ e. omega arith) (λ e. omega arith) (λ e. omega arith) (c .refused .ensures)
 
 pub load-constant-spec : {M : Type 1} → statement M
-load-constant-spec =
-    tie.close
-    (tie.spec
-    load-byte-requires
+load-constant-spec = tie.close (tie.spec
+    (λ c. search needs)  -- load-byte-requires
     returns
-    load-byte-requires-2
-    load-int-requires
-    load-int-requires-2
-    load-string-requires
-    refused-requires
-    returns-2
-    returns-3
-    returns-4
-    returns-5
-    returns-6)
+    (λ c. search needs) (λ c. search needs)  -- load-byte-requires-2, load-int-requires
+    (λ c. search needs) (λ c. search needs)  -- load-int-requires-2, load-string-requires
+    (λ c. search needs)  -- refused-requires
+    returns-2 returns-3 returns-4 returns-5 returns-6)

@@ -5,14 +5,8 @@ use Rattle.load.proofs.Steps.{count-refused, count-large, count-taken}
 use Rattle.load.proofs.cursor.load_count.Statement.{statement}
 use Rattle.load.proofs.cursor.load_count.Tie as tie
 
-load-int-requires : tie.Need-load-int-requires
-load-int-requires c κs = search needs
-
 returns : tie.Need-returns
 returns c = count-refused (c .before .before .load-int .ensures) (omega arith)
-
-refused-requires : tie.Need-refused-requires
-refused-requires c κs = search needs
 
 returns-2 : tie.Need-returns-2
 returns-2 c = count-large (c .before .before .before .before .before .load-int .ensures) (omega arith) (omega arith) (c .refused .ensures)
@@ -21,5 +15,8 @@ returns-3 : tie.Need-returns-3
 returns-3 c = count-taken (c .before .before .before .before .load-int .ensures) (omega arith) (omega arith)
 
 pub load-count-spec : {M : Type 1} → statement M
-load-count-spec =
-    tie.close (tie.spec load-int-requires returns refused-requires returns-2 returns-3)
+load-count-spec = tie.close (tie.spec
+    (λ c. search needs)  -- load-int-requires
+    returns
+    (λ c. search needs)  -- refused-requires
+    returns-2 returns-3)

@@ -9,11 +9,10 @@ use Rattle.load.proofs.cursor.load_int.Tie as tie
 returns : tie.Need-returns
 returns c = passed (omega arith) refl
 
-read-int-requires : tie.Need-read-int-requires
-read-int-requires c κs = search needs
-
 returns-2 : tie.Need-returns-2
 returns-2 c = reads (omega arith) (c .read-int .ensures)
 
 pub load-int-spec : {M : Type 1} → statement M
-load-int-spec = tie.close (tie.spec returns read-int-requires returns-2)
+load-int-spec = tie.close (tie.spec returns
+    (λ c. search needs)  -- read-int-requires
+    returns-2)

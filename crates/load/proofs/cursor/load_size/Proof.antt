@@ -9,11 +9,10 @@ use Rattle.load.proofs.cursor.load_size.Tie as tie
 returns : tie.Need-returns
 returns c = passed (omega arith) refl
 
-read-size-requires : tie.Need-read-size-requires
-read-size-requires c κs = search needs
-
 returns-2 : tie.Need-returns-2
 returns-2 c = reads (omega arith) (c .read-size .ensures)
 
 pub load-size-spec : {M : Type 1} → statement M
-load-size-spec = tie.close (tie.spec returns read-size-requires returns-2)
+load-size-spec = tie.close (tie.spec returns
+    (λ c. search needs)  -- read-size-requires
+    returns-2)

@@ -20,55 +20,9 @@ loop-holds : tie.Need-loop-holds Inv-loop μ-loop
 unfolding fours
 loop-holds c = (omega arith, refl, refl)
 
-mul-j : tie.Need-mul-j Inv-loop μ-loop
-mul-j c = omega arith
-
-add-j : tie.Need-add-j Inv-loop μ-loop
-add-j c = omega arith
-
-shared-slice-read-joined : tie.Need-shared-slice-read-joined Inv-loop μ-loop
-shared-slice-read-joined c = omega arith
-
-add-joined : tie.Need-add-joined Inv-loop μ-loop
-add-joined c = omega arith
-
-shared-slice-read-joined-2 : tie.Need-shared-slice-read-joined-2 Inv-loop μ-loop
-shared-slice-read-joined-2 c = omega arith
-
-add-joined-2 : tie.Need-add-joined-2 Inv-loop μ-loop
-add-joined-2 c = omega arith
-
-shared-slice-read-joined-3 : tie.Need-shared-slice-read-joined-3 Inv-loop μ-loop
-shared-slice-read-joined-3 c = omega arith
-
-add-joined-3 : tie.Need-add-joined-3 Inv-loop μ-loop
-add-joined-3 c = omega arith
-
-shared-slice-read-joined-4 : tie.Need-shared-slice-read-joined-4 Inv-loop μ-loop
-shared-slice-read-joined-4 c = omega arith
-
-joined-requires : tie.Need-joined-requires Inv-loop μ-loop
-joined-requires c κs = search needs
-
-add-words : tie.Need-add-words Inv-loop μ-loop
-add-words c = omega arith
-
-mul-words : tie.Need-mul-words Inv-loop μ-loop
-mul-words c = omega arith
-
-slice-write-words : tie.Need-slice-write-words Inv-loop μ-loop
-slice-write-words c = omega arith
-
-add-i : tie.Need-add-i Inv-loop μ-loop
-add-i c = omega arith
-
-loop-less : tie.Need-loop-less Inv-loop μ-loop
-loop-less c = omega arith
-
 loop-again : tie.Need-loop-again Inv-loop μ-loop
 loop-again c =
-    let c₁ = c .before .before .before .before .before .before in
-    let c₂ = c₁ .before .before .before in
+    let c₁ = c .before .before .before .before .before .before in let c₂ = c₁ .before .before .before in
     (omega arith, simp length-set (c₁ .loop .inv .1), fill-more (c₂ .args .chunk .now) (c₂ .args .words .now) (c₂ .args .from) (c₂ .args .at) (c₁ .loop .i) (c .joined .ensures) (c₁ .loop .inv .2))
 
 same-length : tie.Need-same-length Inv-loop μ-loop
@@ -80,27 +34,11 @@ returns c =
     rw (← e) (c .before .loop .inv .2)
 
 pub fill-spec : {M : Type 1} → statement M
-fill-spec =
-    tie.close
-    (tie.spec
-    Inv-loop
-    μ-loop
-    loop-holds
-    mul-j
-    add-j
-    shared-slice-read-joined
-    add-joined
-    shared-slice-read-joined-2
-    add-joined-2
-    shared-slice-read-joined-3
-    add-joined-3
-    shared-slice-read-joined-4
-    joined-requires
-    add-words
-    mul-words
-    slice-write-words
-    add-i
-    loop-less
-    loop-again
-    same-length
-    returns)
+fill-spec = tie.close (tie.spec Inv-loop μ-loop loop-holds
+    (λ c. omega arith) (λ c. omega arith) (λ c. omega arith)  -- mul-j, add-j, shared-slice-read-joined
+    (λ c. omega arith) (λ c. omega arith) (λ c. omega arith)  -- add-joined, shared-slice-read-joined-2, add-joined-2
+    (λ c. omega arith) (λ c. omega arith)  -- shared-slice-read-joined-3, add-joined-3
+    (λ c. omega arith) (λ c. search needs) (λ c. omega arith)  -- shared-slice-read-joined-4, joined-requires, add-words
+    (λ c. omega arith) (λ c. omega arith) (λ c. omega arith)  -- mul-words, slice-write-words, add-i
+    (λ c. omega arith)  -- loop-less
+    loop-again same-length returns)

@@ -7,50 +7,13 @@ use Rattle.load.specs.declared.Load.{Load}
 use Rattle.load.proofs.ints.load_ints.Statement.{statement}
 use Rattle.load.proofs.ints.load_ints.Tie as tie
 
-copy-count-requires : tie.Need-copy-count-requires
-copy-count-requires c κs = search needs
-
-same-length : tie.Need-same-length
-same-length c = search needs
-
 returns : tie.Need-returns
 returns c = λ t. ints-refused (c .before .before .before .before .before .copy-count .ensures t) (omega arith)
 
-cast-n : tie.Need-cast-n
-cast-n c = search needs
-
-remaining-requires : tie.Need-remaining-requires
-remaining-requires c κs = search needs
-
-mul-if2 : tie.Need-mul-if2
-mul-if2 c = search needs
-
-refused-requires : tie.Need-refused-requires
-refused-requires c κs = search needs
-
-at-requires : tie.Need-at-requires
-at-requires c κs = search needs
-
-same-length-2 : tie.Need-same-length-2
-same-length-2 c = search needs
-
 returns-2 : tie.Need-returns-2
 returns-2 c =
-    let c₁ = c .before in
-    let c₂ = c₁ .before .before .before .before .before .before .before .before .before in
+    let c₁ = c .before in let c₂ = c₁ .before .before .before .before .before .before .before .before .before in
     λ t. ints-short (c₂ .copy-count .ensures t) (omega arith) (omega arith) (ap (λ (l : Load). l .cursor .refusal) (c .at .ensures) ∙ c₁ .refused .ensures)
-
-put-ints-requires : tie.Need-put-ints-requires
-put-ints-requires c κs = omega arith
-
-mul-t12 : tie.Need-mul-t12
-mul-t12 c = search needs
-
-add-t13 : tie.Need-add-t13
-add-t13 c = search needs
-
-same-length-3 : tie.Need-same-length-3
-same-length-3 c = search needs
 
 returns-3 : tie.Need-returns-3
 returns-3 c =
@@ -59,21 +22,12 @@ returns-3 c =
     λ t. ints-loaded (c₂ .copy-count .ensures t) (omega arith) (omega arith) refl refl refl (c₁ .put-ints .ensures)
 
 pub load-ints-spec : {M : Type 1} → statement M
-load-ints-spec =
-    tie.close
-    (tie.spec
-    copy-count-requires
-    same-length
+load-ints-spec = tie.close (tie.spec
+    (λ c. search needs) (λ c. search needs)  -- copy-count-requires, same-length
     returns
-    cast-n
-    remaining-requires
-    mul-if2
-    refused-requires
-    at-requires
-    same-length-2
+    (λ c. search needs) (λ c. search needs) (λ c. search needs)  -- cast-n, remaining-requires, mul-if2
+    (λ c. search needs) (λ c. search needs) (λ c. search needs)  -- refused-requires, at-requires, same-length-2
     returns-2
-    put-ints-requires
-    mul-t12
-    add-t13
-    same-length-3
+    (λ c. omega arith) (λ c. search needs) (λ c. search needs)  -- put-ints-requires, mul-t12, add-t13
+    (λ c. search needs)  -- same-length-3
     returns-3)

@@ -4,35 +4,14 @@ use Rattle.load_function.proofs.Lists.{local-loaded}
 use Rattle.load_function.proofs.list.load_local.Statement.{statement}
 use Rattle.load_function.proofs.list.load_local.Tie as tie
 
-load-name-requires : tie.Need-load-name-requires
-load-name-requires c κs = search needs
-
-copy-int-requires : tie.Need-copy-int-requires
-copy-int-requires c κs = search needs
-
-copy-int-requires-2 : tie.Need-copy-int-requires-2
-copy-int-requires-2 c κs = search needs
-
-same-length : tie.Need-same-length
-same-length c = search needs
-
-same-length-2 : tie.Need-same-length-2
-same-length-2 c = search needs
-
 returns : tie.Need-returns
 returns c =
-    let c₁ = c .before .before in
-    let c₂ = c₁ .before .before .before .before in
+    let c₁ = c .before .before in let c₂ = c₁ .before .before .before .before in
     let c₃ = c₂ .before .before .before .before .before .before in
     local-loaded (c₃ .load-name .ensures) (c₂ .copy-int .ensures _) (c₁ .copy-int2 .ensures _)
 
 pub load-local-spec : {M : Type 1} → statement M
-load-local-spec =
-    tie.close
-    (tie.spec
-    load-name-requires
-    copy-int-requires
-    copy-int-requires-2
-    same-length
-    same-length-2
+load-local-spec = tie.close (tie.spec
+    (λ c. search needs) (λ c. search needs)  -- load-name-requires, copy-int-requires
+    (λ c. search needs) (λ c. search needs) (λ c. search needs)  -- copy-int-requires-2, same-length, same-length-2
     returns)

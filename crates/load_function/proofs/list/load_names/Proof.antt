@@ -23,9 +23,6 @@ Inv-loop chunk words₀ text₀ n p₀ i₀ words text p i =
 abbrev μ-loop : tie.MeasureT-loop
 μ-loop chunk words₀ text₀ n p₀ i₀ words text p i = n - i
 
-copy-count-requires : tie.Need-copy-count-requires Inv-loop μ-loop
-copy-count-requires c κs = search needs
-
 loop-holds : tie.Need-loop-holds Inv-loop μ-loop
 loop-holds c = (omega arith, refl, refl, loop-start)
 
@@ -38,19 +35,9 @@ same-length-2 c = c .before .before .before .loop .inv .2
 returns : tie.Need-returns Inv-loop μ-loop
 returns c = list-loaded (many loadText) (c .before .before .before .before .before .before .before .copy-count .ensures _) (loop-stop (omega arith) (c .before .before .before .loop .inv .3) (λ k. passed (omega arith) refl))
 
-load-name-requires : tie.Need-load-name-requires Inv-loop μ-loop
-load-name-requires c κs = search needs
-
-add-i : tie.Need-add-i Inv-loop μ-loop
-add-i c = omega arith
-
-loop-less : tie.Need-loop-less Inv-loop μ-loop
-loop-less c = omega arith
-
 loop-again : tie.Need-loop-again Inv-loop μ-loop
 loop-again c =
-    let c₁ = c .before .before .before .before in
-    let c₂ = c₁ .before .before .before .before .before .before in
+    let c₁ = c .before .before .before .before in let c₂ = c₁ .before .before .before .before .before .before in
     (omega arith, c₁ .load-name .kept .1 .0 ∙ c₂ .loop .inv .1, c₁ .load-name .kept .1 .1 .0 ∙ c₂ .loop .inv .2, loop-turn (omega arith) (c₂ .loop .inv .3) (loads-more (items loadText repair string) (c₁ .load-name .ensures)))
 
 same-length-3 : tie.Need-same-length-3 Inv-loop μ-loop
@@ -63,20 +50,8 @@ returns-2 : tie.Need-returns-2 Inv-loop μ-loop
 returns-2 c = list-loaded (many loadText) (c .before .before .before .before .before .copy-count .ensures _) (loop-end (omega arith) (c .before .loop .inv .3) (loads-none (items loadText repair string)))
 
 pub load-names-spec : {M : Type 1} → statement M
-load-names-spec =
-    tie.close
-    (tie.spec
-    Inv-loop
-    μ-loop
-    copy-count-requires
-    loop-holds
-    same-length
-    same-length-2
-    returns
-    load-name-requires
-    add-i
-    loop-less
-    loop-again
-    same-length-3
-    same-length-4
-    returns-2)
+load-names-spec = tie.close (tie.spec Inv-loop μ-loop
+    (λ c. search needs)  -- copy-count-requires
+    loop-holds same-length same-length-2 returns
+    (λ c. search needs) (λ c. omega arith) (λ c. omega arith)  -- load-name-requires, add-i, loop-less
+    loop-again same-length-3 same-length-4 returns-2)

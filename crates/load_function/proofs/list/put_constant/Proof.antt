@@ -5,107 +5,42 @@ use Rattle.load.proofs.Loads.{string-part}
 use Rattle.load_function.proofs.list.put_constant.Statement.{statement}
 use Rattle.load_function.proofs.list.put_constant.Tie as tie
 
-enum-told : tie.Need-enum-told
-enum-told c = search needs
-
-put3-requires : tie.Need-put3-requires
-put3-requires c κs = search needs
-
-enum-known-k : tie.Need-enum-known-k
-enum-known-k c = search needs
-
-bit-requires : tie.Need-bit-requires
-bit-requires c κs = search needs
-
-put3-requires-2 : tie.Need-put3-requires-2
-put3-requires-2 c κs = search needs
-
-enum-known-k-2 : tie.Need-enum-known-k-2
-enum-known-k-2 c = search needs
-
-put3-requires-3 : tie.Need-put3-requires-3
-put3-requires-3 c κs = search needs
-
-enum-known-k-3 : tie.Need-enum-known-k-3
-enum-known-k-3 c = search needs
-
 add-end : tie.Need-add-end
 add-end c = let w = rw (c .before .k3 .given .1) at (c .before .before .before .before .before .before .pre) in omega arith
-
-sub-put-bytes : tie.Need-sub-put-bytes
-sub-put-bytes c = search needs
-
-part-put-bytes-start : tie.Need-part-put-bytes-start
-part-put-bytes-start c = search needs
 
 part-put-bytes-end : tie.Need-part-put-bytes-end
 part-put-bytes-end c = let w = rw (c .before .before .k3 .given .1) at (c .before .before .before .before .before .before .before .pre) in omega arith
 
-put-bytes-requires : tie.Need-put-bytes-requires
-put-bytes-requires c κs = search needs
-
-put-tagged-requires : tie.Need-put-tagged-requires
-put-tagged-requires c κs = search needs
-
-same-length : tie.Need-same-length
-same-length c = search needs
-
 returns : tie.Need-returns
 returns c = (c .before .before .put3 .ensures .0, rw (c .before .before .before .before .enum-told .given .1) (c .before .before .put3 .ensures .1 _))
 
-same-length-2 : tie.Need-same-length-2
-same-length-2 c = search needs
-
 returns-2 : tie.Need-returns-2
 returns-2 c =
-    let c₁ = c .before .before in
-    let c₂ = c₁ .before in
-    let c₃ = c₂ .before .before .before in
+    let c₁ = c .before .before in let c₂ = c₁ .before in let c₃ = c₂ .before .before .before in
     (c₁ .put32 .ensures .0, rw (c₃ .k .given .1, ← c₂ .bit .ensures) (c₁ .put32 .ensures .1 _))
-
-same-length-3 : tie.Need-same-length-3
-same-length-3 c = search needs
 
 returns-3 : tie.Need-returns-3
 returns-3 c = (c .before .before .put33 .ensures .0, rw (c .before .before .before .before .before .k2 .given .1) (c .before .before .put33 .ensures .1 _))
 
-same-length-4 : tie.Need-same-length-4
-same-length-4 c = search needs
-
-same-length-5 : tie.Need-same-length-5
-same-length-5 c = search needs
-
 returns-4 : tie.Need-returns-4
 returns-4 c =
-    let c₁ = c .before .before in
-    let c₂ = c₁ .before .before .before .before in
+    let c₁ = c .before .before in let c₂ = c₁ .before .before .before .before in
     let c₃ = c₂ .before .before .before .before in
     (c₁ .put-tagged .ensures .0, rw (c₃ .k3 .given .1) (c₁ .put-tagged .ensures .1 _ _ _ (rw string-part at (c₂ .put-bytes .ensures))))
 
 pub put-constant-spec : {M : Type 1} → statement M
-put-constant-spec =
-    tie.close
-    (tie.spec
-    enum-told
-    put3-requires
-    enum-known-k
-    bit-requires
-    put3-requires-2
-    enum-known-k-2
-    put3-requires-3
-    enum-known-k-3
+put-constant-spec = tie.close (tie.spec
+    (λ c. search needs) (λ c. search needs) (λ c. search needs)  -- enum-told, put3-requires, enum-known-k
+    (λ c. search needs) (λ c. search needs) (λ c. search needs)  -- bit-requires, put3-requires-2, enum-known-k-2
+    (λ c. search needs) (λ c. search needs)  -- put3-requires-3, enum-known-k-3
     add-end
-    sub-put-bytes
-    part-put-bytes-start
+    (λ c. search needs) (λ c. search needs)  -- sub-put-bytes, part-put-bytes-start
     part-put-bytes-end
-    put-bytes-requires
-    put-tagged-requires
-    same-length
+    (λ c. search needs) (λ c. search needs) (λ c. search needs)  -- put-bytes-requires, put-tagged-requires, same-length
     returns
-    same-length-2
+    (λ c. search needs)  -- same-length-2
     returns-2
-    same-length-3
+    (λ c. search needs)  -- same-length-3
     returns-3
-    same-length-4
-    same-length-5
+    (λ c. search needs) (λ c. search needs)  -- same-length-4, same-length-5
     returns-4)

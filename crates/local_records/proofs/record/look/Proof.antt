@@ -10,26 +10,28 @@ returns : tie.Need-returns
 returns c = look-late (c .before .before .args .r) (c .before .before .args .remaining) (c .before .before .args .pc) (c .if1 .taken)
 
 returns-2 : tie.Need-returns-2
-returns-2 c = look-over (c .before .before .before .before .args .r) (c .before .before .before .before .args .remaining) (c .before .before .before .before .args .pc) (c .before .before .if1 .left) (c .if2 .taken)
-
-cast-t5 : tie.Need-cast-t5
-cast-t5 c = search needs
-
-cast-t6 : tie.Need-cast-t6
-cast-t6 c = search needs
+returns-2 c =
+    let c₁ = c .before .before in let c₂ = c₁ .before .before in
+    look-over (c₂ .args .r) (c₂ .args .remaining) (c₂ .args .pc) (c₁ .if1 .left) (c .if2 .taken)
 
 returns-3 : tie.Need-returns-3
-returns-3 c = look-found (c .before .before .before .before .before .before .before .args .r) (c .before .before .before .before .before .before .before .args .remaining) (c .before .before .before .before .before .before .before .args .pc) (c .before .before .before .before .before .if1 .left) (c .before .before .before .if2 .left) (c .before .before .if3 .taken)
-
-sub-t8 : tie.Need-sub-t8
-sub-t8 c = search needs
+returns-3 c =
+    let c₁ = c .before .before in let c₂ = c₁ .before in let c₃ = c₂ .before .before in let c₄ = c₃ .before .before in
+    look-found (c₄ .args .r) (c₄ .args .remaining) (c₄ .args .pc) (c₃ .if1 .left) (c₂ .if2 .left) (c₁ .if3 .taken)
 
 returns-4 : tie.Need-returns-4
-returns-4 c = look-more (c .before .before .before .before .before .before .args .r) (c .before .before .before .before .before .before .args .remaining) (c .before .before .before .before .before .before .args .pc) (c .before .before .before .before .if1 .left) (c .before .before .if2 .left) (c .before .if3 .left) (omega arith)
+returns-4 c =
+    let c₁ = c .before in let c₂ = c₁ .before in let c₃ = c₂ .before .before in let c₄ = c₃ .before .before in
+    look-more (c₄ .args .r) (c₄ .args .remaining) (c₄ .args .pc) (c₃ .if1 .left) (c₂ .if2 .left) (c₁ .if3 .left) (omega arith)
 
 returns-5 : tie.Need-returns-5
-returns-5 c = look-more (c .before .before .before .before .before .before .args .r) (c .before .before .before .before .before .before .args .remaining) (c .before .before .before .before .before .before .args .pc) (c .before .before .before .before .if1 .left) (c .before .before .if2 .left) (c .before .if3 .left) (omega arith)
+returns-5 c =
+    let c₁ = c .before in let c₂ = c₁ .before in let c₃ = c₂ .before .before in let c₄ = c₃ .before .before in
+    look-more (c₄ .args .r) (c₄ .args .remaining) (c₄ .args .pc) (c₃ .if1 .left) (c₂ .if2 .left) (c₁ .if3 .left) (omega arith)
 
 pub look-spec : {M : Type 1} → statement M
-look-spec =
-    tie.close (tie.spec returns returns-2 cast-t5 cast-t6 returns-3 sub-t8 returns-4 returns-5)
+look-spec = tie.close (tie.spec returns returns-2
+    (λ c. search needs) (λ c. search needs)  -- cast-t5, cast-t6
+    returns-3
+    (λ c. search needs)  -- sub-t8
+    returns-4 returns-5)

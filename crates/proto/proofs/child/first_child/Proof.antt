@@ -5,14 +5,10 @@ use Rattle.proto.proofs.Children.{child-first}
 use Rattle.proto.proofs.child.first_child.Statement.{statement}
 use Rattle.proto.proofs.child.first_child.Tie as tie
 
-skip-requires : tie.Need-skip-requires
-skip-requires c κs = search needs
-
-further-requires : tie.Need-further-requires
-further-requires c κs = search needs
-
 returns : tie.Need-returns
 returns c = (refl, child-first (c .before .skip .ensures) (c .further .ensures))
 
 pub first-child-spec : {M : Type 1} → statement M
-first-child-spec = tie.close (tie.spec skip-requires further-requires returns)
+first-child-spec = tie.close (tie.spec
+    (λ c. search needs) (λ c. search needs)  -- skip-requires, further-requires
+    returns)

@@ -8,9 +8,6 @@ use Rattle.proto.proofs.Items.{skips-on, constant-none, constant-nil, c
 use Rattle.proto.proofs.constant.constant_at.Statement.{statement}
 use Rattle.proto.proofs.constant.constant_at.Tie as tie
 
-is-within-requires : tie.Need-is-within-requires
-is-within-requires c κs = search needs
-
 returns : tie.Need-returns
 returns c = constant-none (c .before .is-within .ensures .not (not-true _ (c .if1 .taken)))
 
@@ -40,14 +37,12 @@ shared-slice-read-b c = omega (arith, c .before .before .before .before .is-with
 
 cast-t16 : tie.Need-cast-t16
 cast-t16 c =
-    let c₁ = c .before .before .before .before .before .before in
-    let c₂ = c₁ .before in
+    let c₁ = c .before .before .before .before .before .before in let c₂ = c₁ .before in
     omega (arith, c₁ .shared-slice-known .given (c₂ .args .at + 1))
 
 cast-t17 : tie.Need-cast-t17
 cast-t17 c =
-    let c₁ = c .before .before .before .before .before .before in
-    let c₂ = c₁ .before in
+    let c₁ = c .before .before .before .before .before .before in let c₂ = c₁ .before in
     omega (arith, c₁ .shared-slice-known .given (c₂ .args .at + 2))
 
 returns-2 : tie.Need-returns-2
@@ -63,22 +58,7 @@ returns-5 : tie.Need-returns-5
 returns-5 c = constant-str refl skips-on refl skips-on refl (c .match .rest .0 .0 .1) (c .match .rest .0 .1) (c .match .rest .1)
 
 pub constant-at-spec : {M : Type 1} → statement M
-constant-at-spec =
-    tie.close
-    (tie.spec
-    is-within-requires
-    returns
-    mul-kind
-    shared-slice-read-kind
-    add-a
-    mul-a
-    shared-slice-read-a
-    add-b
-    mul-b
-    shared-slice-read-b
-    cast-t16
-    cast-t17
-    returns-2
-    returns-3
-    returns-4
-    returns-5)
+constant-at-spec = tie.close (tie.spec
+    (λ c. search needs)  -- is-within-requires
+    returns mul-kind shared-slice-read-kind add-a mul-a shared-slice-read-a add-b mul-b shared-slice-read-b cast-t16
+    cast-t17 returns-2 returns-3 returns-4 returns-5)

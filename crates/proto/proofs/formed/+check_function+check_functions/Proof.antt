@@ -73,30 +73,8 @@ check-function-calls t = (wrong-reads.Asked, wrong-reads.Learnt, check-source-re
 abbrev check-functions-calls : ℕ → check-functions-lts.Claims
 check-functions-calls t = (word-at-reads.Asked, word-at-reads.Learnt, check-word-reads.Asked, check-word-reads.Learnt, check-function-below t, check-function.Post)
 
-check-function-wrong-requires : (t : ℕ) → check-function-lts.Need-wrong-requires (check-function-calls t) (check-function-at t) check-function.Post
-check-function-wrong-requires t c κs = search needs
-
 check-function-returns : (t : ℕ) → check-function-lts.Need-returns (check-function-calls t) (check-function-at t) check-function.Post
 check-function-returns t c = function-deep (c .before .if1 .taken) (c .wrong .ensures)
-
-check-function-check-source-requires : (t : ℕ) → check-function-lts.Need-check-source-requires (check-function-calls t) (check-function-at t) check-function.Post
-check-function-check-source-requires t c κs = search needs
-
-check-function-check-word-requires : (t : ℕ) → check-function-lts.Need-check-word-requires (check-function-calls t) (check-function-at t) check-function.Post
-check-function-check-word-requires t c κs = search needs
-
-check-function-check-word-requires-2 : (t : ℕ) → check-function-lts.Need-check-word-requires-2 (check-function-calls t) (check-function-at t) check-function.Post
-check-function-check-word-requires-2 t c κs = search needs
-
-check-function-check-word-requires-3 : (t : ℕ) → check-function-lts.Need-check-word-requires-3 (check-function-calls t) (check-function-at t) check-function.Post
-check-function-check-word-requires-3 t c κs = search needs
-
-check-function-check-ints-requires : (t : ℕ) → check-function-lts.Need-check-ints-requires (check-function-calls t) (check-function-at t) check-function.Post
-check-function-check-ints-requires t c κs = search needs
-
-check-function-check-constants-requires :
-    (t : ℕ) → check-function-lts.Need-check-constants-requires (check-function-calls t) (check-function-at t) check-function.Post
-check-function-check-constants-requires t c κs = search needs
 
 check-function-sub-check-functions : (t : ℕ) → check-function-lts.Need-sub-check-functions (check-function-calls t) (check-function-at t) check-function.Post
 check-function-sub-check-functions t c = omega (arith, c .before .before .before .before .before .before .if1 .left)
@@ -104,12 +82,8 @@ check-function-sub-check-functions t c = omega (arith, c .before .before .before
 check-function-check-functions-requires :
     (t : ℕ) → check-function-lts.Need-check-functions-requires (check-function-calls t) (check-function-at t) check-function.Post
 check-function-check-functions-requires t c κs =
-    let c₁ = c .before .before .before .before .before .before in
-    let c₂ = c₁ .before .before .before in
+    let c₁ = c .before .before .before .before .before .before in let c₂ = c₁ .before .before .before in
     (omega (arith, c₂ .pre .0, c₁ .if1 .left), c₂ .pre .1)
-
-check-function-check-ints-requires-2 : (t : ℕ) → check-function-lts.Need-check-ints-requires-2 (check-function-calls t) (check-function-at t) check-function.Post
-check-function-check-ints-requires-2 t c κs = search needs
 
 check-function-check-locals-requires : (t : ℕ) → check-function-lts.Need-check-locals-requires (check-function-calls t) (check-function-at t) check-function.Post
 check-function-check-locals-requires t c κs =
@@ -123,16 +97,8 @@ check-function-check-names-requires t c κs =
 
 check-function-returns-2 : (t : ℕ) → check-function-lts.Need-returns-2 (check-function-calls t) (check-function-at t) check-function.Post
 check-function-returns-2 t c =
-    let c₁ = c .before in
-    let c₂ = c₁ .before in
-    let c₃ = c₂ .before in
-    let c₄ = c₃ .before in
-    let c₅ = c₄ .before in
-    let c₆ = c₅ .before in
-    let c₇ = c₆ .before in
-    let c₈ = c₇ .before in
-    let c₉ = c₈ .before in
-    let c₁₀ = c₉ .before in
+    let c₁ = c .before in let c₂ = c₁ .before in let c₃ = c₂ .before in let c₄ = c₃ .before in let c₅ = c₄ .before in
+    let c₆ = c₅ .before in let c₇ = c₆ .before in let c₈ = c₇ .before in let c₉ = c₈ .before in let c₁₀ = c₉ .before in
     let c₁₁ = c₁₀ .before .before .before in
     let n = c₁₁ .args .allowance - 1 in
     let e : c₁₁ .args .allowance ≡ suc n = omega (arith, c₁₀ .if1 .left) in
@@ -144,20 +110,12 @@ check-functions-Inv-loop words text ascii allowance n p₀ i₀ p i = Loop (Chec
 abbrev check-functions-μ-loop : check-functions-lts.MeasureT-loop
 check-functions-μ-loop words text ascii allowance n p₀ i₀ p i = n - i
 
-check-functions-word-at-requires : (t : ℕ) → check-functions-lts.Need-word-at-requires (check-functions-calls t) (check-functions-at t) check-functions.Post check-functions-Inv-loop check-functions-μ-loop
-check-functions-word-at-requires t c κs = search needs
-
-check-functions-check-word-requires : (t : ℕ) → check-functions-lts.Need-check-word-requires (check-functions-calls t) (check-functions-at t) check-functions.Post check-functions-Inv-loop check-functions-μ-loop
-check-functions-check-word-requires t c κs = search needs
-
 check-functions-loop-holds : (t : ℕ) → check-functions-lts.Need-loop-holds (check-functions-calls t) (check-functions-at t) check-functions.Post check-functions-Inv-loop check-functions-μ-loop
 check-functions-loop-holds t c = loop-start
 
 check-functions-returns : (t : ℕ) → check-functions-lts.Need-returns (check-functions-calls t) (check-functions-at t) check-functions.Post check-functions-Inv-loop check-functions-μ-loop
 check-functions-returns t c =
-    let c₁ = c .before .before .before in
-    let c₂ = c₁ .before in
-    let c₃ = c₂ .before in
+    let c₁ = c .before .before .before in let c₂ = c₁ .before in let c₃ = c₂ .before in
     let c₄ = c₃ .before .before .before in
     children-checked (c₄ .args .allowance) (counted (c₃ .word-at .ensures) (c₂ .check-word .ensures _) (loop-stop (omega arith) (c₁ .loop .inv) (λ k. all-stopped (not-true _ (c .if1 .taken)) _)))
 
@@ -165,51 +123,28 @@ check-functions-check-function-requires :
     (t : ℕ) → check-functions-lts.Need-check-function-requires (check-functions-calls t) (check-functions-at t) check-functions.Post check-functions-Inv-loop check-functions-μ-loop
 check-functions-check-function-requires t c κs = let p = c .before .before .before .before .before .before .before .before .pre in (omega (arith, p .0), p .1)
 
-check-functions-add-i : (t : ℕ) → check-functions-lts.Need-add-i (check-functions-calls t) (check-functions-at t) check-functions.Post check-functions-Inv-loop check-functions-μ-loop
-check-functions-add-i t c = omega arith
-
-check-functions-loop-less : (t : ℕ) → check-functions-lts.Need-loop-less (check-functions-calls t) (check-functions-at t) check-functions.Post check-functions-Inv-loop check-functions-μ-loop
-check-functions-loop-less t c = omega arith
-
 check-functions-loop-again : (t : ℕ) → check-functions-lts.Need-loop-again (check-functions-calls t) (check-functions-at t) check-functions.Post check-functions-Inv-loop check-functions-μ-loop
 check-functions-loop-again t c = loop-turn (omega arith) (c .before .before .before .before .loop .inv) (all-more (c .check-function .ensures))
 
 check-functions-returns-2 : (t : ℕ) → check-functions-lts.Need-returns-2 (check-functions-calls t) (check-functions-at t) check-functions.Post check-functions-Inv-loop check-functions-μ-loop
 check-functions-returns-2 t c =
-    let c₁ = c .before in
-    let c₂ = c₁ .before in
-    let c₃ = c₂ .before in
-    let c₄ = c₃ .before .before .before in
+    let c₁ = c .before in let c₂ = c₁ .before in let c₃ = c₂ .before in let c₄ = c₃ .before .before .before in
     children-checked (c₄ .args .allowance) (counted (c₃ .word-at .ensures) (c₂ .check-word .ensures _) (loop-end (omega arith) (c₁ .loop .inv) all-none))
 
 pub +check-function+check-functions-spec : {M : Type 1} → statement M
-+check-function+check-functions-spec =
-    close μ-check-function μ-check-functions (λ t. check-function-lts.spec (check-function-calls t) (check-function-at t)
-    check-function.Post
-    (check-function-wrong-requires t)
++check-function+check-functions-spec = close μ-check-function μ-check-functions (λ t. check-function-lts.spec
+    (check-function-calls t) (check-function-at t) check-function.Post
+    (λ c. search needs)  -- wrong-requires
     (check-function-returns t)
-    (check-function-check-source-requires t)
-    (check-function-check-word-requires t)
-    (check-function-check-word-requires-2 t)
-    (check-function-check-word-requires-3 t)
-    (check-function-check-ints-requires t)
-    (check-function-check-constants-requires t)
-    (check-function-sub-check-functions t)
-    (check-function-check-functions-requires t)
-    (check-function-check-ints-requires-2 t)
-    (check-function-check-locals-requires t)
-    (check-function-check-names-requires t)
-    (check-function-returns-2 t))
-    λ t. check-functions-lts.spec (check-functions-calls t) (check-functions-at t)
-    check-functions.Post
-    check-functions-Inv-loop
-    check-functions-μ-loop
-    (check-functions-word-at-requires t)
-    (check-functions-check-word-requires t)
-    (check-functions-loop-holds t)
-    (check-functions-returns t)
-    (check-functions-check-function-requires t)
-    (check-functions-add-i t)
-    (check-functions-loop-less t)
-    (check-functions-loop-again t)
-    (check-functions-returns-2 t)
+    (λ c. search needs) (λ c. search needs)  -- check-source-requires, check-word-requires
+    (λ c. search needs) (λ c. search needs)  -- check-word-requires-2, check-word-requires-3
+    (λ c. search needs) (λ c. search needs)  -- check-ints-requires, check-constants-requires
+    (check-function-sub-check-functions t) (check-function-check-functions-requires t)
+    (λ c. search needs)  -- check-ints-requires-2
+    (check-function-check-locals-requires t) (check-function-check-names-requires t) (check-function-returns-2 t))
+    λ t. check-functions-lts.spec (check-functions-calls t) (check-functions-at t) check-functions.Post
+    check-functions-Inv-loop check-functions-μ-loop
+    (λ c. search needs) (λ c. search needs)  -- word-at-requires, check-word-requires
+    (check-functions-loop-holds t) (check-functions-returns t) (check-functions-check-function-requires t)
+    (λ c. omega arith) (λ c. omega arith)  -- add-i, loop-less
+    (check-functions-loop-again t) (check-functions-returns-2 t)

@@ -5,39 +5,20 @@ use Rattle.proto.proofs.Stores.{constant-plain, constant-num, constant-
 use Rattle.proto.proofs.formed.check_constant.Statement.{statement}
 use Rattle.proto.proofs.formed.check_constant.Tie as tie
 
-word-at-requires : tie.Need-word-at-requires
-word-at-requires c κs = search needs
-
-check-three-requires : tie.Need-check-three-requires
-check-three-requires c κs = search needs
-
 returns : tie.Need-returns
 returns c = constant-plain (c .before .before .word-at .ensures) (omega arith) (c .check-three .ensures _)
 
-check-three-requires-2 : tie.Need-check-three-requires-2
-check-three-requires-2 c κs = search needs
-
 returns-2 : tie.Need-returns-2
 returns-2 c = constant-num (c .before .before .before .word-at .ensures) (c .before .if2 .taken) (c .check-three2 .ensures _)
-
-check-word-requires : tie.Need-check-word-requires
-check-word-requires c κs = search needs
-
-check-string-requires : tie.Need-check-string-requires
-check-string-requires c κs = search needs
 
 returns-3 : tie.Need-returns-3
 returns-3 c = constant-str (c .before .before .before .before .word-at .ensures) (omega arith) (c .before .before .if2 .left) (c .before .check-word .ensures _) (c .check-string .ensures)
 
 pub check-constant-spec : {M : Type 1} → statement M
-check-constant-spec =
-    tie.close
-    (tie.spec
-    word-at-requires
-    check-three-requires
+check-constant-spec = tie.close (tie.spec
+    (λ c. search needs) (λ c. search needs)  -- word-at-requires, check-three-requires
     returns
-    check-three-requires-2
+    (λ c. search needs)  -- check-three-requires-2
     returns-2
-    check-word-requires
-    check-string-requires
+    (λ c. search needs) (λ c. search needs)  -- check-word-requires, check-string-requires
     returns-3)

@@ -6,44 +6,23 @@ use Rattle.proto.proofs.Checks.{never, ints-within, ints-good, ints-bad
 use Rattle.proto.proofs.formed.check_ints.Statement.{statement}
 use Rattle.proto.proofs.formed.check_ints.Tie as tie
 
-check-word-requires : tie.Need-check-word-requires
-check-word-requires c κs = search needs
-
-word-at-requires : tie.Need-word-at-requires
-word-at-requires c κs = search needs
-
-cast-n : tie.Need-cast-n
-cast-n c = search needs
-
 sub-if2 : tie.Need-sub-if2
 sub-if2 c = omega (arith, ints-within (c .before .before .before .before .args .words .now) (c .before .word-at .ensures) (c .before .before .check-word .ensures) (c .if1 .taken))
 
 add-t11 : tie.Need-add-t11
 add-t11 c =
-    let c₁ = c .before in
-    let c₂ = c₁ .before in
-    let c₃ = c₂ .before in
-    let c₄ = c₃ .before .before in
+    let c₁ = c .before in let c₂ = c₁ .before in let c₃ = c₂ .before in let c₄ = c₃ .before .before in
     omega (arith, ints-within (c₄ .args .words .now) (c₂ .word-at .ensures) (c₃ .check-word .ensures) (c₁ .if1 .taken))
 
 returns : tie.Need-returns
 returns c = λ t. ints-good t (c .before .before .word-at .ensures) (c .before .before .before .check-word .ensures) (λ i. omega (arith, c .before .before .before .before .shared-slice-known .given i)) (c .before .if1 .taken) (omega arith)
 
-wrong-requires : tie.Need-wrong-requires
-wrong-requires c κs = search needs
-
 returns-2 : tie.Need-returns-2
 returns-2 c = λ t. ints-bad t (c .before .before .word-at .ensures) (c .before .before .before .check-word .ensures) (c .wrong .ensures) (λ o h. ⊎-elim (λ w. omega arith) (λ w. never o (w .left)) (c .before .if1 .came))
 
 pub check-ints-spec : {M : Type 1} → statement M
-check-ints-spec =
-    tie.close
-    (tie.spec
-    check-word-requires
-    word-at-requires
-    cast-n
-    sub-if2
-    add-t11
-    returns
-    wrong-requires
+check-ints-spec = tie.close (tie.spec
+    (λ c. search needs) (λ c. search needs) (λ c. search needs)  -- check-word-requires, word-at-requires, cast-n
+    sub-if2 add-t11 returns
+    (λ c. search needs)  -- wrong-requires
     returns-2)

@@ -9,12 +9,6 @@ use Rattle.proto.proofs.formed.check_pair.Tie as tie
 returns : tie.Need-returns
 returns c = λ t. check-stopped (not-true _ (c .if1 .taken))
 
-is-within-requires : tie.Need-is-within-requires
-is-within-requires c κs = search needs
-
-wrong-requires : tie.Need-wrong-requires
-wrong-requires c κs = search needs
-
 returns-2 : tie.Need-returns-2
 returns-2 c = λ t. pair-bad (c .wrong .ensures) (c .before .before .is-within .ensures .not (not-true _ (c .before .if2 .taken)))
 
@@ -25,5 +19,6 @@ returns-3 : tie.Need-returns-3
 returns-3 c = λ t. pair-good (λ i. omega (arith, c .before .before .before .before .shared-slice-known .given i)) (not-false _ (c .before .before .if1 .left)) (omega (arith, c .before .is-within .ensures .is (not-false _ (c .if2 .left))))
 
 pub check-pair-spec : {M : Type 1} → statement M
-check-pair-spec =
-    tie.close (tie.spec returns is-within-requires wrong-requires returns-2 add-t5 returns-3)
+check-pair-spec = tie.close (tie.spec returns
+    (λ c. search needs) (λ c. search needs)  -- is-within-requires, wrong-requires
+    returns-2 add-t5 returns-3)

@@ -4,31 +4,15 @@ use Rattle.proto.proofs.Stores.{source-inherited, source-own}
 use Rattle.proto.proofs.formed.check_source.Statement.{statement}
 use Rattle.proto.proofs.formed.check_source.Tie as tie
 
-word-at-requires : tie.Need-word-at-requires
-word-at-requires c κs = search needs
-
-check-three-requires : tie.Need-check-three-requires
-check-three-requires c κs = search needs
-
 returns : tie.Need-returns
 returns c = source-inherited (c .before .before .word-at .ensures) (c .before .if1 .taken) (c .check-three .ensures _)
-
-check-word-requires : tie.Need-check-word-requires
-check-word-requires c κs = search needs
-
-check-name-requires : tie.Need-check-name-requires
-check-name-requires c κs = search needs
 
 returns-2 : tie.Need-returns-2
 returns-2 c = source-own (c .before .before .before .word-at .ensures) (c .before .before .if1 .left) (c .before .check-word .ensures _) (c .check-name .ensures)
 
 pub check-source-spec : {M : Type 1} → statement M
-check-source-spec =
-    tie.close
-    (tie.spec
-    word-at-requires
-    check-three-requires
+check-source-spec = tie.close (tie.spec
+    (λ c. search needs) (λ c. search needs)  -- word-at-requires, check-three-requires
     returns
-    check-word-requires
-    check-name-requires
+    (λ c. search needs) (λ c. search needs)  -- check-word-requires, check-name-requires
     returns-2)

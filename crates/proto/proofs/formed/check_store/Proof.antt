@@ -13,9 +13,6 @@ returns c = held-no _ _ (λ f h. omega (arith, h .words-fit))
 returns-2 : tie.Need-returns-2
 returns-2 c = held-no _ _ (λ f h. omega (arith, h .text-fits))
 
-is-ascii-requires : tie.Need-is-ascii-requires
-is-ascii-requires c κs = search needs
-
 check-function-requires : tie.Need-check-function-requires
 check-function-requires c κs e = sym (c .is-ascii .ensures) ∙ e
 
@@ -29,5 +26,6 @@ returns-5 : tie.Need-returns-5
 returns-5 c = held-no _ _ (λ f h. never (store-passed (c .before .check-function .ensures) f h .0) (c .if3 .left))
 
 pub check-store-spec : {M : Type 1} → statement M
-check-store-spec =
-    tie.close (tie.spec returns returns-2 is-ascii-requires check-function-requires returns-3 returns-4 returns-5)
+check-store-spec = tie.close (tie.spec returns returns-2
+    (λ c. search needs)  -- is-ascii-requires
+    check-function-requires returns-3 returns-4 returns-5)

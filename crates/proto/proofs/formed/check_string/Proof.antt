@@ -10,12 +10,6 @@ use Rattle.proto.proofs.formed.check_string.Tie as tie
 returns : tie.Need-returns
 returns c = check-stopped (not-true _ (c .if1 .taken))
 
-is-within-requires : tie.Need-is-within-requires
-is-within-requires c κs = search needs
-
-wrong-requires : tie.Need-wrong-requires
-wrong-requires c κs = search needs
-
 returns-2 : tie.Need-returns-2
 returns-2 c = string-bad (c .wrong .ensures) (λ o h i j. c .before .before .is-within .ensures .not (not-true _ (c .before .if2 .taken)) (omega arith))
 
@@ -27,12 +21,8 @@ shared-slice-read-if3 c = omega (arith, c .before .before .is-within .ensures .i
 
 cast-if3 : tie.Need-cast-if3
 cast-if3 c =
-    let c₁ = c .before .before .before .before .before .before in
-    let c₂ = c₁ .before in
+    let c₁ = c .before .before .before .before .before .before in let c₂ = c₁ .before in
     omega (arith, c₁ .shared-slice-known .given (c₂ .args .s .at))
-
-wrong-requires-2 : tie.Need-wrong-requires-2
-wrong-requires-2 c κs = search needs
 
 returns-3 : tie.Need-returns-3
 returns-3 c = string-bad (c .wrong2 .ensures) (λ o h i j. omega arith)
@@ -48,23 +38,15 @@ shared-slice-read-n c = omega (arith, c .before .before .before .before .is-with
 
 cast-n : tie.Need-cast-n
 cast-n c =
-    let c₁ = c .before .before .before .before .before .before .before .before in
-    let c₂ = c₁ .before in
+    let c₁ = c .before .before .before .before .before .before .before .before in let c₂ = c₁ .before in
     omega (arith, c₁ .shared-slice-known .given (c₂ .args .s .at + 1))
-
-is-within-requires-2 : tie.Need-is-within-requires-2
-is-within-requires-2 c κs = search needs
-
-wrong-requires-3 : tie.Need-wrong-requires-3
-wrong-requires-3 c κs = search needs
 
 returns-4 : tie.Need-returns-4
 returns-4 c = string-bad (c .wrong3 .ensures) (λ o h i j. c .before .before .is-within2 .ensures .not (not-true _ (c .before .if4 .taken)) j)
 
 add-t12 : tie.Need-add-t12
 add-t12 c =
-    let c₁ = c .before .before .before .before .before in
-    let c₂ = c₁ .before in
+    let c₁ = c .before .before .before .before .before in let c₂ = c₁ .before in
     omega (arith, c₂ .is-within .ensures .is (not-false _ (c₁ .if2 .left)))
 
 add-t8 : tie.Need-add-t8
@@ -72,33 +54,15 @@ add-t8 c = omega (arith, c .before .is-within2 .ensures .is (not-false _ (c .if4
 
 returns-5 : tie.Need-returns-5
 returns-5 c =
-    let c₁ = c .before in
-    let c₂ = c₁ .before .before .before .before in
-    let c₃ = c₂ .before in
-    let c₄ = c₃ .before in
+    let c₁ = c .before in let c₂ = c₁ .before .before .before .before in let c₃ = c₂ .before in let c₄ = c₃ .before in
     let c₅ = c₄ .before .before in
     string-good (λ i. omega (arith, c₅ .shared-slice-known2 .given i)) (not-false _ (c₄ .if1 .left)) (omega (arith, c₃ .is-within .ensures .is (not-false _ (c₂ .if2 .left)))) (omega arith) (c₁ .is-within2 .ensures .is (not-false _ (c .if4 .left)))
 
 pub check-string-spec : {M : Type 1} → statement M
-check-string-spec =
-    tie.close
-    (tie.spec
-    returns
-    is-within-requires
-    wrong-requires
-    returns-2
-    mul-if3
-    shared-slice-read-if3
-    cast-if3
-    wrong-requires-2
-    returns-3
-    add-n
-    mul-n
-    shared-slice-read-n
-    cast-n
-    is-within-requires-2
-    wrong-requires-3
-    returns-4
-    add-t12
-    add-t8
-    returns-5)
+check-string-spec = tie.close (tie.spec returns
+    (λ c. search needs) (λ c. search needs)  -- is-within-requires, wrong-requires
+    returns-2 mul-if3 shared-slice-read-if3 cast-if3
+    (λ c. search needs)  -- wrong-requires-2
+    returns-3 add-n mul-n shared-slice-read-n cast-n
+    (λ c. search needs) (λ c. search needs)  -- is-within-requires-2, wrong-requires-3
+    returns-4 add-t12 add-t8 returns-5)

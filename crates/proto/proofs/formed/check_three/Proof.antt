@@ -9,12 +9,6 @@ use Rattle.proto.proofs.formed.check_three.Tie as tie
 returns : tie.Need-returns
 returns c = λ t. check-stopped (not-true _ (c .if1 .taken))
 
-is-within-requires : tie.Need-is-within-requires
-is-within-requires c κs = search needs
-
-wrong-requires : tie.Need-wrong-requires
-wrong-requires c κs = search needs
-
 returns-2 : tie.Need-returns-2
 returns-2 c = λ t. three-bad (c .wrong .ensures) (λ o h i j k. c .before .before .is-within .ensures .not (not-true _ (c .before .if2 .taken)) (omega arith))
 
@@ -23,9 +17,6 @@ mul-if3 c = omega (arith, c .before .is-within .ensures .is (not-false _ (c .if2
 
 shared-slice-read-if3 : tie.Need-shared-slice-read-if3
 shared-slice-read-if3 c = omega (arith, c .before .before .is-within .ensures .is (not-false _ (c .before .if2 .left)))
-
-wrong-requires-2 : tie.Need-wrong-requires-2
-wrong-requires-2 c κs = search needs
 
 returns-3 : tie.Need-returns-3
 returns-3 c = λ t. three-bad (c .wrong2 .ensures) (λ o h i j k. omega arith)
@@ -39,9 +30,6 @@ mul-if4 c = omega (arith, c .before .before .before .is-within .ensures .is (not
 shared-slice-read-if4 : tie.Need-shared-slice-read-if4
 shared-slice-read-if4 c = omega (arith, c .before .before .before .before .is-within .ensures .is (not-false _ (c .before .before .before .if2 .left)))
 
-wrong-requires-3 : tie.Need-wrong-requires-3
-wrong-requires-3 c κs = search needs
-
 returns-4 : tie.Need-returns-4
 returns-4 c = λ t. three-bad (c .wrong3 .ensures) (λ o h i j k. omega arith)
 
@@ -53,50 +41,29 @@ mul-if5 c = omega (arith, c .before .before .before .before .before .is-within .
 
 shared-slice-read-if5 : tie.Need-shared-slice-read-if5
 shared-slice-read-if5 c =
-    let c₁ = c .before .before .before .before .before in
-    let c₂ = c₁ .before in
+    let c₁ = c .before .before .before .before .before in let c₂ = c₁ .before in
     omega (arith, c₂ .is-within .ensures .is (not-false _ (c₁ .if2 .left)))
-
-wrong-requires-4 : tie.Need-wrong-requires-4
-wrong-requires-4 c κs = search needs
 
 returns-5 : tie.Need-returns-5
 returns-5 c = λ t. three-bad (c .wrong4 .ensures) (λ o h i j k. omega arith)
 
 add-t8 : tie.Need-add-t8
 add-t8 c =
-    let c₁ = c .before .before .before .before .before .before in
-    let c₂ = c₁ .before in
+    let c₁ = c .before .before .before .before .before .before in let c₂ = c₁ .before in
     omega (arith, c₂ .is-within .ensures .is (not-false _ (c₁ .if2 .left)))
 
 returns-6 : tie.Need-returns-6
 returns-6 c =
-    let c₁ = c .before .before .before .before .before .before in
-    let c₂ = c₁ .before in
-    let c₃ = c₂ .before in
+    let c₁ = c .before .before .before .before .before .before in let c₂ = c₁ .before in let c₃ = c₂ .before in
     λ t. three-good (not-false _ (c₃ .if1 .left)) (omega (arith, c₂ .is-within .ensures .is (not-false _ (c₁ .if2 .left)))) (omega arith) (omega arith) (omega arith)
 
 pub check-three-spec : {M : Type 1} → statement M
-check-three-spec =
-    tie.close
-    (tie.spec
-    returns
-    is-within-requires
-    wrong-requires
-    returns-2
-    mul-if3
-    shared-slice-read-if3
-    wrong-requires-2
-    returns-3
-    add-if4
-    mul-if4
-    shared-slice-read-if4
-    wrong-requires-3
-    returns-4
-    add-if5
-    mul-if5
-    shared-slice-read-if5
-    wrong-requires-4
-    returns-5
-    add-t8
-    returns-6)
+check-three-spec = tie.close (tie.spec returns
+    (λ c. search needs) (λ c. search needs)  -- is-within-requires, wrong-requires
+    returns-2 mul-if3 shared-slice-read-if3
+    (λ c. search needs)  -- wrong-requires-2
+    returns-3 add-if4 mul-if4 shared-slice-read-if4
+    (λ c. search needs)  -- wrong-requires-3
+    returns-4 add-if5 mul-if5 shared-slice-read-if5
+    (λ c. search needs)  -- wrong-requires-4
+    returns-5 add-t8 returns-6)

@@ -6,35 +6,20 @@ use Rattle.proto.proofs.Checks.{string-within, name-good, name-bad, nam
 use Rattle.proto.proofs.formed.check_utf8.Statement.{statement}
 use Rattle.proto.proofs.formed.check_utf8.Tie as tie
 
-check-string-requires : tie.Need-check-string-requires
-check-string-requires c κs = search needs
-
 sub-part : tie.Need-sub-part
 sub-part c = omega (arith, string-within (c .before .before .before .check-string .ensures) (c .before .before .if1 .taken))
 
-part-requires : tie.Need-part-requires
-part-requires c κs = search needs
-
-is-utf8-requires : tie.Need-is-utf8-requires
-is-utf8-requires c κs = search needs
-
 returns : tie.Need-returns
 returns c = name-good (c .before .before .before .before .before .before .check-string .ensures) (c .before .is-utf8 .ensures) (c .before .before .part .ensures) (c .if2 .taken)
-
-wrong-requires : tie.Need-wrong-requires
-wrong-requires c κs = search needs
 
 returns-2 : tie.Need-returns-2
 returns-2 c = ⊎-elim (λ w. name-bad (c .before .before .check-string .ensures) (w .4 .ensures) (w .3 .ensures) (c .wrong .ensures) (w .5 .left)) (λ w. name-stopped (c .before .before .check-string .ensures) (w .left) (c .wrong .ensures)) (c .before .if1 .came)
 
 pub check-utf8-spec : {M : Type 1} → statement M
-check-utf8-spec =
-    tie.close
-    (tie.spec
-    check-string-requires
+check-utf8-spec = tie.close (tie.spec
+    (λ c. search needs)  -- check-string-requires
     sub-part
-    part-requires
-    is-utf8-requires
+    (λ c. search needs) (λ c. search needs)  -- part-requires, is-utf8-requires
     returns
-    wrong-requires
+    (λ c. search needs)  -- wrong-requires
     returns-2)

@@ -10,25 +10,15 @@ use Rattle.proto.proofs.formed.check_word.Tie as tie
 returns : tie.Need-returns
 returns c = λ t. check-stopped (not-true _ (c .if1 .taken))
 
-mul-w : tie.Need-mul-w
-mul-w c = search needs
-
-shared-slice-read-w : tie.Need-shared-slice-read-w
-shared-slice-read-w c = search needs
-
-add-t14 : tie.Need-add-t14
-add-t14 c = search needs
-
 returns-2 : tie.Need-returns-2
 returns-2 c = λ t. word-good (not-false _ (c .before .before .before .before .if1 .left)) (omega arith) (omega arith) (omega arith)
-
-wrong-requires : tie.Need-wrong-requires
-wrong-requires c κs = search needs
 
 returns-3 : tie.Need-returns-3
 returns-3 c = λ t. word-bad (c .wrong .ensures) (λ h l k. ⊎-elim (λ w. omega arith) (λ w. ⊎-elim (λ w. omega arith) (λ w. omega arith) w) (c .before .if2 .came))
 
 pub check-word-spec : {M : Type 1} → statement M
-check-word-spec =
-    tie.close
-    (tie.spec returns mul-w shared-slice-read-w add-t14 returns-2 wrong-requires returns-3)
+check-word-spec = tie.close (tie.spec returns
+    (λ c. search needs) (λ c. search needs) (λ c. search needs)  -- mul-w, shared-slice-read-w, add-t14
+    returns-2
+    (λ c. search needs)  -- wrong-requires
+    returns-3)

@@ -34,46 +34,16 @@ walk-lines-below t =
 abbrev walk-lines-calls : ℕ → walk-lines-lts.Claims
 walk-lines-calls t = (functions-at-reads.Asked, functions-at-reads.Learnt, word-at-reads.Asked, word-at-reads.Learnt, skip-reads.Asked, skip-reads.Learnt, further-reads.Asked, further-reads.Learnt, keep-reads.Asked, keep-reads.Learnt, walk-lines-below t, walk-lines.Post, after-debug-reads.Asked, after-debug-reads.Learnt, pass-all-reads.Asked, pass-all-reads.Learnt)
 
-walk-lines-functions-at-requires : (t : ℕ) → walk-lines-lts.Need-functions-at-requires (walk-lines-calls t) (walk-lines-at t) walk-lines.Post
-walk-lines-functions-at-requires t c κs = search needs
-
-walk-lines-word-at-requires : (t : ℕ) → walk-lines-lts.Need-word-at-requires (walk-lines-calls t) (walk-lines-at t) walk-lines.Post
-walk-lines-word-at-requires t c κs = search needs
-
-walk-lines-skip-requires : (t : ℕ) → walk-lines-lts.Need-skip-requires (walk-lines-calls t) (walk-lines-at t) walk-lines.Post
-walk-lines-skip-requires t c κs = search needs
-
-walk-lines-further-requires : (t : ℕ) → walk-lines-lts.Need-further-requires (walk-lines-calls t) (walk-lines-at t) walk-lines.Post
-walk-lines-further-requires t c κs = search needs
-
-walk-lines-keep-requires : (t : ℕ) → walk-lines-lts.Need-keep-requires (walk-lines-calls t) (walk-lines-at t) walk-lines.Post
-walk-lines-keep-requires t c κs = search needs
-
-walk-lines-same-length : (t : ℕ) → walk-lines-lts.Need-same-length (walk-lines-calls t) (walk-lines-at t) walk-lines.Post
-walk-lines-same-length t c = search needs
-
-walk-lines-same-length-2 : (t : ℕ) → walk-lines-lts.Need-same-length-2 (walk-lines-calls t) (walk-lines-at t) walk-lines.Post
-walk-lines-same-length-2 t c = search needs
-
 walk-lines-returns : (t : ℕ) → walk-lines-lts.Need-returns (walk-lines-calls t) (walk-lines-at t) walk-lines.Post
 walk-lines-returns t c =
-    let c₁ = c .before .before .before .before in
-    let c₂ = c₁ .before .before .before in
-    let c₃ = c₂ .before in
-    let c₄ = c₃ .before in
-    let c₅ = c₄ .before in
-    let c₆ = c₅ .before in
-    let c₇ = c₆ .before .before .before .before in
+    let c₁ = c .before .before .before .before in let c₂ = c₁ .before .before .before in let c₃ = c₂ .before in
+    let c₄ = c₃ .before in let c₅ = c₄ .before in let c₆ = c₅ .before in let c₇ = c₆ .before .before .before .before in
     let w = passes-lines (c₅ .word-at .ensures) (c₆ .functions-at .ensures) (c₄ .skip .ensures) (c₃ .further .ensures) (all-zero (c₂ .if1 .taken)) in
     (w, c₁ .keep .ensures _ (c₇ .pre .1) (walked w))
 
 walk-lines-returns-2 : (t : ℕ) → walk-lines-lts.Need-returns-2 (walk-lines-calls t) (walk-lines-at t) walk-lines.Post
 walk-lines-returns-2 t c =
-    let c₁ = c .before in
-    let c₂ = c₁ .before in
-    let c₃ = c₂ .before in
-    let c₄ = c₃ .before in
-    let c₅ = c₄ .before in
+    let c₁ = c .before in let c₂ = c₁ .before in let c₃ = c₂ .before in let c₄ = c₃ .before in let c₅ = c₄ .before in
     let c₆ = c₅ .before .before .before .before in
     (passes-lines (c₄ .word-at .ensures) (c₅ .functions-at .ensures) (c₃ .skip .ensures) (c₂ .further .ensures) (all-deep (c .if2 .taken) (c₁ .if1 .left)), c₆ .pre .1)
 
@@ -82,61 +52,29 @@ walk-lines-sub-walk-lines t c = omega (arith, c .if2 .left)
 
 walk-lines-walk-lines-requires : (t : ℕ) → walk-lines-lts.Need-walk-lines-requires (walk-lines-calls t) (walk-lines-at t) walk-lines.Post
 walk-lines-walk-lines-requires t c κs =
-    let c₁ = c .before .before in
-    let c₂ = c₁ .before .before .before .before .before .before .before .before .before in
+    let c₁ = c .before .before in let c₂ = c₁ .before .before .before .before .before .before .before .before .before in
     (omega (arith, c₂ .pre .0, c₁ .if2 .left), c₂ .pre .1)
-
-walk-lines-after-debug-requires : (t : ℕ) → walk-lines-lts.Need-after-debug-requires (walk-lines-calls t) (walk-lines-at t) walk-lines.Post
-walk-lines-after-debug-requires t c κs = search needs
 
 walk-lines-sub-pass-all : (t : ℕ) → walk-lines-lts.Need-sub-pass-all (walk-lines-calls t) (walk-lines-at t) walk-lines.Post
 walk-lines-sub-pass-all t c = omega (arith, c .before .before .before .before .before .before .before .before .before .if1 .left)
 
-walk-lines-pass-all-requires : (t : ℕ) → walk-lines-lts.Need-pass-all-requires (walk-lines-calls t) (walk-lines-at t) walk-lines.Post
-walk-lines-pass-all-requires t c κs = search needs
-
-walk-lines-keep-requires-2 : (t : ℕ) → walk-lines-lts.Need-keep-requires-2 (walk-lines-calls t) (walk-lines-at t) walk-lines.Post
-walk-lines-keep-requires-2 t c κs = search needs
-
-walk-lines-same-length-3 : (t : ℕ) → walk-lines-lts.Need-same-length-3 (walk-lines-calls t) (walk-lines-at t) walk-lines.Post
-walk-lines-same-length-3 t c = search needs
-
-walk-lines-same-length-4 : (t : ℕ) → walk-lines-lts.Need-same-length-4 (walk-lines-calls t) (walk-lines-at t) walk-lines.Post
-walk-lines-same-length-4 t c = search needs
-
 walk-lines-returns-3 : (t : ℕ) → walk-lines-lts.Need-returns-3 (walk-lines-calls t) (walk-lines-at t) walk-lines.Post
 walk-lines-returns-3 t c =
-    let c₁ = c .before .before .before .before in
-    let c₂ = c₁ .before .before .before in
-    let c₃ = c₂ .before in
-    let c₄ = c₃ .before .before .before .before .before in
-    let c₅ = c₄ .before .before .before in
-    let c₆ = c₅ .before in
-    let c₇ = c₆ .before in
-    let c₈ = c₇ .before in
-    let c₉ = c₈ .before in
-    let c₁₀ = c₉ .before in
+    let c₁ = c .before .before .before .before in let c₂ = c₁ .before .before .before in let c₃ = c₂ .before in
+    let c₄ = c₃ .before .before .before .before .before in let c₅ = c₄ .before .before .before in let c₆ = c₅ .before in
+    let c₇ = c₆ .before in let c₈ = c₇ .before in let c₉ = c₈ .before in let c₁₀ = c₉ .before in
     let all = all-first (omega (arith, c₅ .if2 .left)) (omega (arith, c₆ .if1 .left)) (c₄ .walk-lines .ensures .0) (c₃ .after-debug .ensures) refl (c₂ .pass-all .ensures) in
     let w = passes-lines (c₉ .word-at .ensures) (c₁₀ .functions-at .ensures) (c₈ .skip .ensures) (c₇ .further .ensures) all in
     (w, c₁ .keep2 .ensures _ (c₄ .walk-lines .ensures .1) (walked w))
 
 pub +walk-lines-spec : {M : Type 1} → statement M
 +walk-lines-spec = close μ-walk-lines λ t. walk-lines-lts.spec (walk-lines-calls t) (walk-lines-at t) walk-lines.Post
-    (walk-lines-functions-at-requires t)
-    (walk-lines-word-at-requires t)
-    (walk-lines-skip-requires t)
-    (walk-lines-further-requires t)
-    (walk-lines-keep-requires t)
-    (walk-lines-same-length t)
-    (walk-lines-same-length-2 t)
-    (walk-lines-returns t)
-    (walk-lines-returns-2 t)
-    (walk-lines-sub-walk-lines t)
-    (walk-lines-walk-lines-requires t)
-    (walk-lines-after-debug-requires t)
+    (λ c. search needs) (λ c. search needs)  -- functions-at-requires, word-at-requires
+    (λ c. search needs) (λ c. search needs) (λ c. search needs)  -- skip-requires, further-requires, keep-requires
+    (λ c. search needs) (λ c. search needs)  -- same-length, same-length-2
+    (walk-lines-returns t) (walk-lines-returns-2 t) (walk-lines-sub-walk-lines t) (walk-lines-walk-lines-requires t)
+    (λ c. search needs)  -- after-debug-requires
     (walk-lines-sub-pass-all t)
-    (walk-lines-pass-all-requires t)
-    (walk-lines-keep-requires-2 t)
-    (walk-lines-same-length-3 t)
-    (walk-lines-same-length-4 t)
+    (λ c. search needs) (λ c. search needs) (λ c. search needs)  -- pass-all-requires, keep-requires-2, same-length-3
+    (λ c. search needs)  -- same-length-4
     (walk-lines-returns-3 t)

@@ -4,12 +4,6 @@ use Rattle.proto.proofs.ListPlaces.{kept-none}
 use Rattle.proto.proofs.lists.lists_at.Statement.{statement}
 use Rattle.proto.proofs.lists.lists_at.Tie as tie
 
-slice-aggregate-lists-on-way : tie.Need-slice-aggregate-lists-on-way
-slice-aggregate-lists-on-way c = search needs
-
-slice-aggregate-lists-on-way-2 : tie.Need-slice-aggregate-lists-on-way-2
-slice-aggregate-lists-on-way-2 c = search needs
-
 lists-on-way-requires : tie.Need-lists-on-way-requires
 lists-on-way-requires c κs = kept-none 0 0
 
@@ -17,10 +11,6 @@ returns : tie.Need-returns
 returns c = c .before .before .lists-on-way .ensures .0
 
 pub lists-at-spec : {M : Type 1} → statement M
-lists-at-spec =
-    tie.close
-    (tie.spec
-    slice-aggregate-lists-on-way
-    slice-aggregate-lists-on-way-2
-    lists-on-way-requires
-    returns)
+lists-at-spec = tie.close (tie.spec
+    (λ c. search needs) (λ c. search needs)  -- slice-aggregate-lists-on-way, slice-aggregate-lists-on-way-2
+    lists-on-way-requires returns)

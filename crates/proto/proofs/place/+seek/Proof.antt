@@ -41,20 +41,8 @@ seek-μ-loop words at place allowance source list n next₀ i₀ next i = n - i
 seek-returns : (t : ℕ) → seek-lts.Need-returns (seek-calls t) (seek-at t) seek.Post seek-Inv-loop seek-μ-loop
 seek-returns t c = λ f v. absurd (none-deep (c .if1 .taken) f v)
 
-seek-own-span-requires : (t : ℕ) → seek-lts.Need-own-span-requires (seek-calls t) (seek-at t) seek.Post seek-Inv-loop seek-μ-loop
-seek-own-span-requires t c κs = search needs
-
 seek-returns-2 : (t : ℕ) → seek-lts.Need-returns-2 (seek-calls t) (seek-at t) seek.Post seek-Inv-loop seek-μ-loop
 seek-returns-2 t c = λ f v. search-here (c .before .before .before .before .args .place) (c .before .own-span .ensures) (c .if2 .taken) refl refl f
-
-seek-functions-at-requires : (t : ℕ) → seek-lts.Need-functions-at-requires (seek-calls t) (seek-at t) seek.Post seek-Inv-loop seek-μ-loop
-seek-functions-at-requires t c κs = search needs
-
-seek-word-at-requires : (t : ℕ) → seek-lts.Need-word-at-requires (seek-calls t) (seek-at t) seek.Post seek-Inv-loop seek-μ-loop
-seek-word-at-requires t c κs = search needs
-
-seek-skip-requires : (t : ℕ) → seek-lts.Need-skip-requires (seek-calls t) (seek-at t) seek.Post seek-Inv-loop seek-μ-loop
-seek-skip-requires t c κs = search needs
 
 seek-loop-holds : (t : ℕ) → seek-lts.Need-loop-holds (seek-calls t) (seek-at t) seek.Post seek-Inv-loop seek-μ-loop
 seek-loop-holds t c = loop-start
@@ -64,69 +52,39 @@ seek-sub-seek t c = omega (arith, c .before .before .before .before .before .bef
 
 seek-seek-requires : (t : ℕ) → seek-lts.Need-seek-requires (seek-calls t) (seek-at t) seek.Post seek-Inv-loop seek-μ-loop
 seek-seek-requires t c κs =
-    let c₁ = c .before .before .before .before .before .before .before in
-    let c₂ = c₁ .before .before in
+    let c₁ = c .before .before .before .before .before .before .before in let c₂ = c₁ .before .before in
     (omega (arith, c₂ .pre .0, c₁ .if1 .left), tt)
 
 seek-returns-3 : (t : ℕ) → seek-lts.Need-returns-3 (seek-calls t) (seek-at t) seek.Post seek-Inv-loop seek-μ-loop
 seek-returns-3 t c =
-    let c₁ = c .before in
-    let c₂ = c₁ .before .before in
-    let c₃ = c₂ .before in
-    let c₄ = c₃ .before in
-    let c₅ = c₄ .before in
-    let c₆ = c₅ .before in
-    let c₇ = c₆ .before in
-    let c₈ = c₇ .before in
+    let c₁ = c .before in let c₂ = c₁ .before .before in let c₃ = c₂ .before in let c₄ = c₃ .before in
+    let c₅ = c₄ .before in let c₆ = c₅ .before in let c₇ = c₆ .before in let c₈ = c₇ .before in
     let c₉ = c₈ .before .before in
     let m = c₉ .args .allowance - 1 in
     let e : c₉ .args .allowance ≡ suc m = omega (arith, c₈ .if1 .left) in
     rw e (search-inside (c₉ .args .place) (c₇ .own-span .ensures) (c₆ .if2 .left) (c₅ .functions-at .ensures) (c₄ .word-at .ensures) (c₃ .skip .ensures) (loop-stop (omega arith) (c₂ .loop .inv) (search-found (c₁ .seek .ensures) (c .if3 .taken))) (c .if3 .taken))
 
-seek-add-i : (t : ℕ) → seek-lts.Need-add-i (seek-calls t) (seek-at t) seek.Post seek-Inv-loop seek-μ-loop
-seek-add-i t c = omega arith
-
-seek-loop-less : (t : ℕ) → seek-lts.Need-loop-less (seek-calls t) (seek-at t) seek.Post seek-Inv-loop seek-μ-loop
-seek-loop-less t c = omega arith
-
 seek-loop-again : (t : ℕ) → seek-lts.Need-loop-again (seek-calls t) (seek-at t) seek.Post seek-Inv-loop seek-μ-loop
 seek-loop-again t c = loop-turn (omega arith) (c .before .before .before .loop .inv) (search-more (c .before .seek .ensures) (c .if3 .left))
 
-seek-after-debug-requires : (t : ℕ) → seek-lts.Need-after-debug-requires (seek-calls t) (seek-at t) seek.Post seek-Inv-loop seek-μ-loop
-seek-after-debug-requires t c κs = search needs
-
 seek-returns-4 : (t : ℕ) → seek-lts.Need-returns-4 (seek-calls t) (seek-at t) seek.Post seek-Inv-loop seek-μ-loop
 seek-returns-4 t c =
-    let c₁ = c .before .before in
-    let c₂ = c₁ .before in
-    let c₃ = c₂ .before in
-    let c₄ = c₃ .before in
-    let c₅ = c₄ .before in
-    let c₆ = c₅ .before in
-    let c₇ = c₆ .before in
-    let c₈ = c₇ .before .before in
+    let c₁ = c .before .before in let c₂ = c₁ .before in let c₃ = c₂ .before in let c₄ = c₃ .before in
+    let c₅ = c₄ .before in let c₆ = c₅ .before in let c₇ = c₆ .before in let c₈ = c₇ .before .before in
     let m = c₈ .args .allowance - 1 in
     let e : c₈ .args .allowance ≡ suc m = omega (arith, c₇ .if1 .left) in
     let all : SearchAll _ (c₈ .args .place) _ m _ _ (record { found = false; at = c₁ .loop .next; source = c₆ .own-span .result }) = loop-end (omega arith) (c₁ .loop .inv) (search-none refl refl) in
     rw e (search-outside (c₈ .args .place) (c₆ .own-span .ensures) (c₅ .if2 .left) (c₄ .functions-at .ensures) (c₃ .word-at .ensures) (c₂ .skip .ensures) all refl refl (c .after-debug .ensures))
 
 pub +seek-spec : {M : Type 1} → statement M
-+seek-spec = close μ-seek λ t. seek-lts.spec (seek-calls t) (seek-at t)
-    seek.Post
-    seek-Inv-loop
-    seek-μ-loop
++seek-spec = close μ-seek λ t. seek-lts.spec (seek-calls t) (seek-at t) seek.Post seek-Inv-loop seek-μ-loop
     (seek-returns t)
-    (seek-own-span-requires t)
+    (λ c. search needs)  -- own-span-requires
     (seek-returns-2 t)
-    (seek-functions-at-requires t)
-    (seek-word-at-requires t)
-    (seek-skip-requires t)
-    (seek-loop-holds t)
-    (seek-sub-seek t)
-    (seek-seek-requires t)
-    (seek-returns-3 t)
-    (seek-add-i t)
-    (seek-loop-less t)
+    (λ c. search needs) (λ c. search needs)  -- functions-at-requires, word-at-requires
+    (λ c. search needs)  -- skip-requires
+    (seek-loop-holds t) (seek-sub-seek t) (seek-seek-requires t) (seek-returns-3 t)
+    (λ c. omega arith) (λ c. omega arith)  -- add-i, loop-less
     (seek-loop-again t)
-    (seek-after-debug-requires t)
+    (λ c. search needs)  -- after-debug-requires
     (seek-returns-4 t)

@@ -6,31 +6,22 @@ use Rattle.proto.proofs.Sources.{place-10, place-12, place-0}
 use Rattle.proto.proofs.place.place_refusal.Statement.{statement}
 use Rattle.proto.proofs.place.place_refusal.Tie as tie
 
-check-store-requires : tie.Need-check-store-requires
-check-store-requires c κs = search needs
-
 returns : tie.Need-returns
 returns c = place-10 _ _ (c .before .before .before .before .args .place) (sym (c .before .check-store .ensures) ∙ not-true _ (c .if1 .taken))
 
-seek-root-requires : tie.Need-seek-root-requires
-seek-root-requires c κs = search needs
-
 returns-2 : tie.Need-returns-2
 returns-2 c =
-    let c₁ = c .before in
-    let c₂ = c₁ .before in
-    let c₃ = c₂ .before in
-    let c₄ = c₃ .before .before .before in
+    let c₁ = c .before in let c₂ = c₁ .before in let c₃ = c₂ .before in let c₄ = c₃ .before .before .before in
     place-0 _ _ (c₄ .args .place) (sym (c₃ .check-store .ensures) ∙ not-false _ (c₂ .if1 .left)) (c₁ .seek-root .ensures) (c .if2 .taken)
 
 returns-3 : tie.Need-returns-3
 returns-3 c =
-    let c₁ = c .before in
-    let c₂ = c₁ .before in
-    let c₃ = c₂ .before in
-    let c₄ = c₃ .before .before .before in
+    let c₁ = c .before in let c₂ = c₁ .before in let c₃ = c₂ .before in let c₄ = c₃ .before .before .before in
     place-12 _ _ (c₄ .args .place) (sym (c₃ .check-store .ensures) ∙ not-false _ (c₂ .if1 .left)) (c₁ .seek-root .ensures) (c .if2 .left)
 
 pub place-refusal-spec : {M : Type 1} → statement M
-place-refusal-spec =
-    tie.close (tie.spec check-store-requires returns seek-root-requires returns-2 returns-3)
+place-refusal-spec = tie.close (tie.spec
+    (λ c. search needs)  -- check-store-requires
+    returns
+    (λ c. search needs)  -- seek-root-requires
+    returns-2 returns-3)

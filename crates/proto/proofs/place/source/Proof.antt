@@ -7,32 +7,24 @@ use Rattle.proto.proofs.Sources.{source-part}
 use Rattle.proto.proofs.place.source.Statement.{statement}
 use Rattle.proto.proofs.place.source.Tie as tie
 
-source-at-requires : tie.Need-source-at-requires
-source-at-requires c κs = search needs
-
 sub-len : tie.Need-sub-len
 sub-len c = omega (arith, source-part _ _ _ (c .before .before .before .before .before .args .place) (c .before .source-at .result) (c .before .source-at .ensures) .0)
 
-part-requires : tie.Need-part-requires
-part-requires c κs = search needs
-
 returns : tie.Need-returns
 returns c =
-    let c₁ = c .before in
-    let c₂ = c₁ .before .before .before in
-    let c₃ = c₂ .before .before .before .before in
+    let c₁ = c .before in let c₂ = c₁ .before .before .before in let c₃ = c₂ .before .before .before .before in
     c .part .ensures ∙ rw (eq-eqb _ _ (c₁ .if1 .taken)) at (source-part _ _ _ (c₃ .args .place) (c₂ .source-at .result) (c₂ .source-at .ensures) .1)
-
-part-requires-2 : tie.Need-part-requires-2
-part-requires-2 c κs = search needs
 
 returns-2 : tie.Need-returns-2
 returns-2 c =
-    let c₁ = c .before in
-    let c₂ = c₁ .before .before .before in
-    let c₃ = c₂ .before .before .before .before in
+    let c₁ = c .before in let c₂ = c₁ .before .before .before in let c₃ = c₂ .before .before .before .before in
     c .part2 .ensures ∙ rw (ne-eqb _ _ (c₁ .if1 .left)) at (source-part _ _ _ (c₃ .args .place) (c₂ .source-at .result) (c₂ .source-at .ensures) .1)
 
 pub source-spec : {M : Type 1} → statement M
-source-spec =
-    tie.close (tie.spec source-at-requires sub-len part-requires returns part-requires-2 returns-2)
+source-spec = tie.close (tie.spec
+    (λ c. search needs)  -- source-at-requires
+    sub-len
+    (λ c. search needs)  -- part-requires
+    returns
+    (λ c. search needs)  -- part-requires-2
+    returns-2)

@@ -51,32 +51,19 @@ pass-all-calls t = (pass-below t, pass.Post)
 pass-returns : (t : ℕ) → pass-lts.Need-returns (pass-calls t) (pass-at t) pass.Post
 pass-returns t c = λ f v. absurd (none-deep (c .if1 .taken) f v)
 
-pass-functions-at-requires : (t : ℕ) → pass-lts.Need-functions-at-requires (pass-calls t) (pass-at t) pass.Post
-pass-functions-at-requires t c κs = search needs
-
-pass-word-at-requires : (t : ℕ) → pass-lts.Need-word-at-requires (pass-calls t) (pass-at t) pass.Post
-pass-word-at-requires t c κs = search needs
-
-pass-skip-requires : (t : ℕ) → pass-lts.Need-skip-requires (pass-calls t) (pass-at t) pass.Post
-pass-skip-requires t c κs = search needs
-
-pass-further-requires : (t : ℕ) → pass-lts.Need-further-requires (pass-calls t) (pass-at t) pass.Post
-pass-further-requires t c κs = search needs
-
 pass-sub-pass-all : (t : ℕ) → pass-lts.Need-sub-pass-all (pass-calls t) (pass-at t) pass.Post
 pass-sub-pass-all t c = omega (arith, c .before .before .before .before .if1 .left)
 
 pass-pass-all-requires : (t : ℕ) → pass-lts.Need-pass-all-requires (pass-calls t) (pass-at t) pass.Post
 pass-pass-all-requires t c κs = (omega (arith, c .before .before .before .before .before .before .pre .0, c .before .before .before .before .if1 .left), tt)
 
-pass-after-debug-requires : (t : ℕ) → pass-lts.Need-after-debug-requires (pass-calls t) (pass-at t) pass.Post
-pass-after-debug-requires t c κs = search needs
-
 pass-returns-2 : (t : ℕ) → pass-lts.Need-returns-2 (pass-calls t) (pass-at t) pass.Post
 pass-returns-2 t c =
-    let n = c .before .before .before .before .before .before .before .before .args .allowance - 1 in
-    let e : c .before .before .before .before .before .before .before .before .args .allowance ≡ suc n = omega (arith, c .before .before .before .before .before .before .if1 .left) in
-    rw e (passes-function n (passes-lines (c .before .before .before .before .word-at .ensures) (c .before .before .before .before .before .functions-at .ensures) (c .before .before .before .skip .ensures) (c .before .before .further .ensures) (c .before .pass-all .ensures)) (c .after-debug .ensures) refl)
+    let c₁ = c .before in let c₂ = c₁ .before in let c₃ = c₂ .before in let c₄ = c₃ .before in let c₅ = c₄ .before in
+    let c₆ = c₅ .before in let c₇ = c₆ .before .before in
+    let n = c₇ .args .allowance - 1 in
+    let e : c₇ .args .allowance ≡ suc n = omega (arith, c₆ .if1 .left) in
+    rw e (passes-function n (passes-lines (c₄ .word-at .ensures) (c₅ .functions-at .ensures) (c₃ .skip .ensures) (c₂ .further .ensures) (c₁ .pass-all .ensures)) (c .after-debug .ensures) refl)
 
 abbrev pass-all-Inv-loop : pass-all-lts.InvT-loop
 pass-all-Inv-loop words n allowance r₀ k₀ r k = Loop (PassesAll words allowance) n r₀ k r
@@ -90,12 +77,6 @@ pass-all-loop-holds t c = loop-start
 pass-all-pass-requires : (t : ℕ) → pass-all-lts.Need-pass-requires (pass-all-calls t) (pass-all-at t) pass-all.Post pass-all-Inv-loop pass-all-μ-loop
 pass-all-pass-requires t c κs = (omega (arith, c .before .before .before .pre .0), tt)
 
-pass-all-add-k : (t : ℕ) → pass-all-lts.Need-add-k (pass-all-calls t) (pass-all-at t) pass-all.Post pass-all-Inv-loop pass-all-μ-loop
-pass-all-add-k t c = omega arith
-
-pass-all-loop-less : (t : ℕ) → pass-all-lts.Need-loop-less (pass-all-calls t) (pass-all-at t) pass-all.Post pass-all-Inv-loop pass-all-μ-loop
-pass-all-loop-less t c = omega arith
-
 pass-all-loop-again : (t : ℕ) → pass-all-lts.Need-loop-again (pass-all-calls t) (pass-all-at t) pass-all.Post pass-all-Inv-loop pass-all-μ-loop
 pass-all-loop-again t c = loop-turn (omega arith) (c .before .before .loop .inv) (all-more (c .pass .ensures))
 
@@ -103,22 +84,13 @@ pass-all-returns : (t : ℕ) → pass-all-lts.Need-returns (pass-all-calls t) (p
 pass-all-returns t c = loop-end (omega arith) (c .before .loop .inv) all-none
 
 pub +pass+pass-all-spec : {M : Type 1} → statement M
-+pass+pass-all-spec = close μ-pass μ-pass-all (λ t. pass-lts.spec (pass-calls t) (pass-at t) pass.Post
-    (pass-returns t)
-    (pass-functions-at-requires t)
-    (pass-word-at-requires t)
-    (pass-skip-requires t)
-    (pass-further-requires t)
-    (pass-sub-pass-all t)
-    (pass-pass-all-requires t)
-    (pass-after-debug-requires t)
++pass+pass-all-spec = close μ-pass μ-pass-all (λ t. pass-lts.spec (pass-calls t) (pass-at t) pass.Post (pass-returns t)
+    (λ c. search needs) (λ c. search needs)  -- functions-at-requires, word-at-requires
+    (λ c. search needs) (λ c. search needs)  -- skip-requires, further-requires
+    (pass-sub-pass-all t) (pass-pass-all-requires t)
+    (λ c. search needs)  -- after-debug-requires
     (pass-returns-2 t))
-    λ t. pass-all-lts.spec (pass-all-calls t) (pass-all-at t) pass-all.Post
-    pass-all-Inv-loop
-    pass-all-μ-loop
-    (pass-all-loop-holds t)
-    (pass-all-pass-requires t)
-    (pass-all-add-k t)
-    (pass-all-loop-less t)
-    (pass-all-loop-again t)
-    (pass-all-returns t)
+    λ t. pass-all-lts.spec (pass-all-calls t) (pass-all-at t) pass-all.Post pass-all-Inv-loop pass-all-μ-loop
+    (pass-all-loop-holds t) (pass-all-pass-requires t)
+    (λ c. omega arith) (λ c. omega arith)  -- add-k, loop-less
+    (pass-all-loop-again t) (pass-all-returns t)

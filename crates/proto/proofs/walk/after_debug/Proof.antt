@@ -4,18 +4,11 @@ use Rattle.proto.proofs.Walks.{past-debug}
 use Rattle.proto.proofs.walk.after_debug.Statement.{statement}
 use Rattle.proto.proofs.walk.after_debug.Tie as tie
 
-after-list-requires : tie.Need-after-list-requires
-after-list-requires c κs = search needs
-
-after-list-requires-2 : tie.Need-after-list-requires-2
-after-list-requires-2 c κs = search needs
-
-after-list-requires-3 : tie.Need-after-list-requires-3
-after-list-requires-3 c κs = search needs
-
 returns : tie.Need-returns
 returns c = λ d. past-debug d (c .before .before .after-list .ensures) (c .before .after-list2 .ensures) (c .after-list3 .ensures)
 
 pub after-debug-spec : {M : Type 1} → statement M
-after-debug-spec =
-    tie.close (tie.spec after-list-requires after-list-requires-2 after-list-requires-3 returns)
+after-debug-spec = tie.close (tie.spec
+    (λ c. search needs) (λ c. search needs)  -- after-list-requires, after-list-requires-2
+    (λ c. search needs)  -- after-list-requires-3
+    returns)

@@ -4,11 +4,10 @@ use Rattle.proto.proofs.Walks.{past-head}
 use Rattle.proto.proofs.walk.code_at.Statement.{statement}
 use Rattle.proto.proofs.walk.code_at.Tie as tie
 
-skip-requires : tie.Need-skip-requires
-skip-requires c κs = search needs
-
 returns : tie.Need-returns
 returns c = λ p fs. past-head p fs (c .skip .ensures)
 
 pub code-at-spec : {M : Type 1} → statement M
-code-at-spec = tie.close (tie.spec skip-requires returns)
+code-at-spec = tie.close (tie.spec
+    (λ c. search needs)  -- skip-requires
+    returns)

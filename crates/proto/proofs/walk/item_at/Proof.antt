@@ -11,11 +11,6 @@ mul-skip c = omega (arith, mul-le-mul {n₁ = c .before .args .size} {m₁ = c .
 add-skip : tie.Need-add-skip
 add-skip c = omega (arith, mul-le-mul {n₁ = c .before .args .size} {m₁ = c .before .args .i} {n₂ = 4294967295} {m₂ = 4294967295} (search needs) (search needs))
 
-skip-requires : tie.Need-skip-requires
-skip-requires c κs = search needs
-
-returns : tie.Need-returns
-returns c = search needs
-
 pub item-at-spec : {M : Type 1} → statement M
-item-at-spec = tie.close (tie.spec mul-skip add-skip skip-requires returns)
+item-at-spec = tie.close (tie.spec mul-skip add-skip
+    (λ c. search needs) (λ c. search needs))  -- skip-requires, returns

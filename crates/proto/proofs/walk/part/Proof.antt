@@ -4,39 +4,14 @@ use Rattle.proto.proofs.Sublists.{part-clamped}
 use Rattle.proto.proofs.walk.part.Statement.{statement}
 use Rattle.proto.proofs.walk.part.Tie as tie
 
-least-requires : tie.Need-least-requires
-least-requires c κs = search needs
-
-sub-least : tie.Need-sub-least
-sub-least c = search needs
-
-least-requires-2 : tie.Need-least-requires-2
-least-requires-2 c κs = search needs
-
-add-e : tie.Need-add-e
-add-e c = search needs
-
-sub-result : tie.Need-sub-result
-sub-result c = search needs
-
-part-result-start : tie.Need-part-result-start
-part-result-start c = search needs
-
-part-result-end : tie.Need-part-result-end
-part-result-end c = search needs
-
 returns : tie.Need-returns
-returns c = part-clamped (c .before .before .before .before .args .text .now) (c .before .before .before .before .args .start) (c .before .before .before .before .args .len) (c .before .before .least .result) (c .before .least2 .result) (c .before .before .least .ensures) (c .before .least2 .ensures)
+returns c =
+    let c₁ = c .before in let c₂ = c₁ .before in let c₃ = c₂ .before .before in
+    part-clamped (c₃ .args .text .now) (c₃ .args .start) (c₃ .args .len) (c₂ .least .result) (c₁ .least2 .result) (c₂ .least .ensures) (c₁ .least2 .ensures)
 
 pub part-spec : {M : Type 1} → statement M
-part-spec =
-    tie.close
-    (tie.spec
-    least-requires
-    sub-least
-    least-requires-2
-    add-e
-    sub-result
-    part-result-start
-    part-result-end
+part-spec = tie.close (tie.spec
+    (λ c. search needs) (λ c. search needs) (λ c. search needs)  -- least-requires, sub-least, least-requires-2
+    (λ c. search needs) (λ c. search needs) (λ c. search needs)  -- add-e, sub-result, part-result-start
+    (λ c. search needs)  -- part-result-end
     returns)

@@ -4,11 +4,10 @@ use Rattle.proto.proofs.Items.{source-stands}
 use Rattle.proto.proofs.walk.source_of.Statement.{statement}
 use Rattle.proto.proofs.walk.source_of.Tie as tie
 
-own-source-requires : tie.Need-own-source-requires
-own-source-requires c κs = search needs
-
 returns : tie.Need-returns
 returns c = λ p fs h. c .own-source .ensures (p .source) (h .to) (source-stands p fs (h .stands))
 
 pub source-of-spec : {M : Type 1} → statement M
-source-of-spec = tie.close (tie.spec own-source-requires returns)
+source-of-spec = tie.close (tie.spec
+    (λ c. search needs)  -- own-source-requires
+    returns)

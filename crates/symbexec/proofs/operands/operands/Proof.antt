@@ -6,21 +6,9 @@ use Rattle.symbexec.proofs.Upvalues.{behind-kept, behind-is}
 use Rattle.symbexec.proofs.operands.operands.Statement.{statement}
 use Rattle.symbexec.proofs.operands.operands.Tie as tie
 
-opcode-requires : tie.Need-opcode-requires
-opcode-requires c κs = search needs
-
-bx-requires : tie.Need-bx-requires
-bx-requires c κs = search needs
-
-closure-operands-requires : tie.Need-closure-operands-requires
-closure-operands-requires c κs = search needs
-
 returns : tie.Need-returns
 unfolding operands
 returns c = behind-is (λ fs. rw (← c .before .before .before .opcode .ensures, eq-eqb _ _ (c .before .before .if1 .taken), ← c .before .bx .ensures)) (c .closure-operands .ensures)
-
-c-requires : tie.Need-c-requires
-c-requires c κs = search needs
 
 returns-2 : tie.Need-returns-2
 unfolding operands
@@ -35,14 +23,9 @@ unfolding operands
 returns-4 c = behind-kept (λ fs. rw (← c .before .before .opcode .ensures, ne-eqb _ _ (c .before .if1 .left), ne-eqb _ _ (c .if2 .left)))
 
 pub operands-spec : {M : Type 1} → statement M
-operands-spec =
-    tie.close
-    (tie.spec
-    opcode-requires
-    bx-requires
-    closure-operands-requires
+operands-spec = tie.close (tie.spec
+    (λ c. search needs) (λ c. search needs)  -- opcode-requires, bx-requires
+    (λ c. search needs)  -- closure-operands-requires
     returns
-    c-requires
-    returns-2
-    returns-3
-    returns-4)
+    (λ c. search needs)  -- c-requires
+    returns-2 returns-3 returns-4)

@@ -8,24 +8,6 @@ use Rattle.symbexec.proofs.step.also_writes.Tie as tie
 
 -- Each arm is a line of the definition.
 
-a-requires : tie.Need-a-requires
-a-requires c κs = search needs
-
-opcode-requires : tie.Need-opcode-requires
-opcode-requires c κs = search needs
-
-b-requires : tie.Need-b-requires
-b-requires c κs = search needs
-
-between-requires : tie.Need-between-requires
-between-requires c κs = search needs
-
-add-result : tie.Need-add-result
-add-result c = search needs
-
-add-result-2 : tie.Need-add-result-2
-add-result-2 c = search needs
-
 returns : tie.Need-returns
 unfolding alsoWrites
 returns c = rw (sym (c .before .before .before .opcode .ensures) ∙ c .before .before .match .keys1, ← c .before .before .before .before .a .ensures, ← c .before .b .ensures) (c .between .ensures)
@@ -53,18 +35,7 @@ returns-6 c =
     rw (← c .before .opcode .ensures, ne-eqb _ _ (none .0 .0 .0 .0 .1), ne-eqb _ _ (none .0 .0 .0 .1), ne-eqb _ _ (none .0 .0 .1), ne-eqb _ _ (none .0 .1), ne-eqb _ _ (none .1))
 
 pub also-writes-spec : {M : Type 1} → statement M
-also-writes-spec =
-    tie.close
-    (tie.spec
-    a-requires
-    opcode-requires
-    b-requires
-    between-requires
-    add-result
-    add-result-2
-    returns
-    returns-2
-    returns-3
-    returns-4
-    returns-5
-    returns-6)
+also-writes-spec = tie.close (tie.spec
+    (λ c. search needs) (λ c. search needs) (λ c. search needs)  -- a-requires, opcode-requires, b-requires
+    (λ c. search needs) (λ c. search needs) (λ c. search needs)  -- between-requires, add-result, add-result-2
+    returns returns-2 returns-3 returns-4 returns-5 returns-6)

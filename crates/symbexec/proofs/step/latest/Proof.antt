@@ -3,9 +3,6 @@ use borrow.Author.Needs.{needs}
 use Rattle.symbexec.proofs.step.latest.Statement.{statement}
 use Rattle.symbexec.proofs.step.latest.Tie as tie
 
-writes-requires : tie.Need-writes-requires
-writes-requires c κs = search needs
-
 returns : tie.Need-returns
 returns c = rw (← c .before .writes .ensures, c .if1 .taken)
 
@@ -13,4 +10,6 @@ returns-2 : tie.Need-returns-2
 returns-2 c = rw (← c .before .writes .ensures, c .if1 .left)
 
 pub latest-spec : {M : Type 1} → statement M
-latest-spec = tie.close (tie.spec writes-requires returns returns-2)
+latest-spec = tie.close (tie.spec
+    (λ c. search needs)  -- writes-requires
+    returns returns-2)

@@ -4,19 +4,17 @@ use Rattle.symbexec.specs.SymbExec.{writes}
 use Rattle.symbexec.proofs.step.writes.Statement.{statement}
 use Rattle.symbexec.proofs.step.writes.Tie as tie
 
-sets-a-requires : tie.Need-sets-a-requires
-sets-a-requires c κs = search needs
-
 returns : tie.Need-returns
 unfolding writes
 returns c = rw (← c .before .sets-a .ensures, c .if1 .taken)
-
-also-writes-requires : tie.Need-also-writes-requires
-also-writes-requires c κs = search needs
 
 returns-2 : tie.Need-returns-2
 unfolding writes
 returns-2 c = rw (← c .before .before .sets-a .ensures, c .before .if1 .left) (c .also-writes .ensures)
 
 pub writes-spec : {M : Type 1} → statement M
-writes-spec = tie.close (tie.spec sets-a-requires returns also-writes-requires returns-2)
+writes-spec = tie.close (tie.spec
+    (λ c. search needs)  -- sets-a-requires
+    returns
+    (λ c. search needs)  -- also-writes-requires
+    returns-2)
