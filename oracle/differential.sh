@@ -1,17 +1,23 @@
 #!/usr/bin/env bash
 # differential.sh CORPUS: compares every call with the Rust over the chunks that corpus.sh made, damaged copies of them, made-up trees,
-# trees at the limits and all chunks of at most three bytes, and the listings with luac's own. Prints the number of cases for each call, and fails on a difference.
+# trees at the limits and all chunks of at most three bytes, and the listings with luac's own; UTF-8 with Rust's library, and instructions
+# with the Rust. Prints the number of cases for each call, and fails on a difference.
 set -eu
 here=$(cd "$(dirname "$0")" && pwd)
 corpus=$(cd "$1" && pwd)
 work=$(mktemp -d)
 trap 'rm -rf "$work"' EXIT
-(cd "$here/.." && rt staticlib chunk > /dev/null 2>&1)
+(cd "$here/.." && rt staticlib chunk && rt check test_leaves) > /dev/null 2>&1
 cd "$here"
 cargo build -q --release --offline --features chunk
 bin=target/release
 find "$corpus/c" "$corpus/s" -name '*.luac' | LC_ALL=C sort > "$work/all"
 find "$corpus/c" -name '*.luac' -size -12k | LC_ALL=C sort > "$work/small"
+echo "UTF-8, instructions:"
+mkdir "$work/leaves"
+"$bin/leaves" many "$work/leaves"
+for f in "$work/leaves"/*; do ../target/bin/test_leaves < "$f"; done |
+    awk '{ n += $1; d += $4 } END { print NR " files, " n " answers compared, " d " differ"; exit d > 0 }'
 echo "undump, source_at:"
 "$bin/compare" exhaustive
 "$bin/compare" limits

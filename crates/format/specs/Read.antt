@@ -1,4 +1,5 @@
--- Reading a chunk, from lundump.c, in its order: LoadBlock, LoadChar, LoadInt, LoadNumber, LoadString, LoadCode, LoadConstants, LoadDebug, LoadFunction, LoadHeader.
+-- Reading a chunk, from lundump.c, in its order: LoadBlock, LoadChar, LoadInt, LoadNumber, LoadString, LoadCode, LoadConstants, LoadDebug, LoadFunction,
+-- LoadHeader. The header's two comparisons, and the refusals' numbers in their order, are the Rust's and the scope's.
 use Prim.Native.Nat.{ℕ, zero, suc, _+_, _*_}
 use mathlib.Core.List.{List, [], _∷_}
 use mathlib.Core.Bool.{Bool, true, false, cond, not, _&&_}
@@ -193,6 +194,7 @@ loadExactly bytes n = do
   s ← loadBlock (length bytes)
   cond (same s bytes) (return s) (refuse n)
 
+-- as the Rust's load_header: four bytes are compared (3), then eight (4). LoadHeader of lundump.c reads all twelve and then compares them
 unfoldable pub loadHeader : Reader (List ℕ)
 loadHeader = do
   s ← loadExactly signature 3
