@@ -1,4 +1,5 @@
 -- Each block goes on with the text so far.
+use borrow.Author.Needs.{needs}
 use Prim.Native.Nat.{_-_}
 use native.Mathlib.Omega.{arith}
 use lib.ListN.{length}
@@ -13,21 +14,13 @@ Inv-loop bytes at i₀ i = Text bytes at i
 abbrev μ-loop : tie.MeasureT-loop
 μ-loop bytes at i₀ i = length bytes - i
 
-loop-holds : tie.Need-loop-holds Inv-loop μ-loop
-loop-holds c = text-none _ _ (c .before .pre)
-
-returns : tie.Need-returns Inv-loop μ-loop
-returns c = c .before .before .before .loop .inv
-
 loop-again : tie.Need-loop-again Inv-loop μ-loop
 loop-again c = text-join (c .before .before .before .loop .inv) (text-ascii 32 (omega arith) (c .before .is-ascii-block .ensures) (c .if1 .left))
 
-returns-2 : tie.Need-returns-2 Inv-loop μ-loop
-returns-2 c = c .before .loop .inv
-
 pub ascii-blocks-spec : {M : Type 1} → statement M
-ascii-blocks-spec = tie.close (tie.spec Inv-loop μ-loop loop-holds
-    (λ c. omega arith) (λ c. omega arith)  -- sub-loop, is-ascii-block-requires
-    returns
+ascii-blocks-spec = tie.close (tie.spec Inv-loop μ-loop
+    (λ c. search (needs, text-none))  -- loop-holds
+    (λ c. omega arith) (λ c. omega arith) (λ c. search needs)  -- sub-loop, is-ascii-block-requires, returns
     (λ c. omega arith) (λ c. omega arith)  -- add-i, loop-less
-    loop-again returns-2)
+    loop-again
+    (λ c. search needs))  -- returns-2

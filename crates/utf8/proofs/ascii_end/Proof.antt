@@ -1,4 +1,5 @@
 -- Behind the blocks, each byte below 0x80 goes on with the text so far.
+use borrow.Author.Needs.{needs}
 use Prim.Native.Nat.{_-_}
 use native.Mathlib.Omega.{arith}
 use lib.ListN.{length}
@@ -13,23 +14,10 @@ Inv-loop bytes at i₀ i = Text bytes at i
 abbrev μ-loop : tie.MeasureT-loop
 μ-loop bytes at i₀ i = length bytes - i
 
-loop-holds : tie.Need-loop-holds Inv-loop μ-loop
-loop-holds c = c .ascii-blocks .ensures
-
-returns : tie.Need-returns Inv-loop μ-loop
-returns c = c .before .before .before .loop .inv
-
-loop-again : tie.Need-loop-again Inv-loop μ-loop
-loop-again c = text-join (c .before .before .before .loop .inv) (text-byte _ _ (omega arith) (c .if1 .left))
-
-returns-2 : tie.Need-returns-2 Inv-loop μ-loop
-returns-2 c = c .before .loop .inv
-
 pub ascii-end-spec : {M : Type 1} → statement M
 ascii-end-spec = tie.close (tie.spec Inv-loop μ-loop
-    (λ c. omega arith)  -- ascii-blocks-requires
-    loop-holds
-    (λ c. omega arith)  -- shared-slice-read-if1
-    returns
-    (λ c. omega arith) (λ c. omega arith)  -- add-i, loop-less
-    loop-again returns-2)
+    (λ c. omega arith) (λ c. search needs)  -- ascii-blocks-requires, loop-holds
+    (λ c. omega arith) (λ c. search needs) (λ c. omega arith)  -- shared-slice-read-if1, returns, add-i
+    (λ c. omega arith)  -- loop-less
+    (λ c. search (needs, text-join, text-byte))  -- loop-again
+    (λ c. search needs))  -- returns-2

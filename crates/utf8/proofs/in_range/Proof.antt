@@ -6,16 +6,9 @@ use Rattle.utf8.proofs.Ranges.{begins-none, begins-some}
 use Rattle.utf8.proofs.in_range.Statement.{statement}
 use Rattle.utf8.proofs.in_range.Tie as tie
 
-returns : tie.Need-returns
-returns c = sym (begins-none _ _ _ (c .if1 .taken))
-
-returns-2 : tie.Need-returns-2
-returns-2 c = rw (begins-some _ _ _ (c .before .before .if1 .left), lt-leb _ _ (c .if2 .taken))
-
-returns-3 : tie.Need-returns-3
-returns-3 c = rw (begins-some _ _ _ (c .before .before .if1 .left), le-leb _ _ (c .if2 .left))
-
 pub in-range-spec : {M : Type 1} → statement M
-in-range-spec = tie.close (tie.spec returns
+in-range-spec = tie.close (tie.spec
+    (λ c. search (needs, begins-none))  -- returns
     (λ c. search needs)  -- shared-slice-read-b
-    returns-2 returns-3)
+    (λ c. search (needs, begins-some, lt-leb))  -- returns-2
+    (λ c. search (needs, begins-some, le-leb)))  -- returns-3

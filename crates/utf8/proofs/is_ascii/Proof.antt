@@ -5,16 +5,10 @@ use Rattle.utf8.proofs.Ascii.{part-not, front-none, front-more, front-l
 use Rattle.utf8.proofs.is_ascii.Statement.{statement}
 use Rattle.utf8.proofs.is_ascii.Tie as tie
 
-returns-3 : tie.Need-returns-3
-returns-3 c = part-not _ 0 4 (c .before .is-ascii-four .ensures) (c .if3 .taken)
-
 returns-4 : tie.Need-returns-4
 returns-4 c =
     let c₁ = c .before .before in
     front-last 4 (front-more 4 front-none (c₁ .before .is-ascii-four .ensures) (c₁ .if3 .left)) (omega arith) (omega arith) (c .is-ascii-four2 .ensures)
-
-returns-5 : tie.Need-returns-5
-returns-5 c = part-not _ 4 4 (c .before .is-ascii-four3 .ensures) (c .if5 .taken)
 
 returns-6 : tie.Need-returns-6
 returns-6 c =
@@ -23,9 +17,6 @@ returns-6 c =
     (front-more 4
     (front-more 4 front-none (c₂ .before .is-ascii-four .ensures) (c₂ .if3 .left))
     (c₁ .before .is-ascii-four3 .ensures) (c₁ .if5 .left)) (omega arith) (omega arith) (c .is-ascii-four4 .ensures)
-
-returns-7 : tie.Need-returns-7
-returns-7 c = part-not _ 8 4 (c .before .is-ascii-four5 .ensures) (c .if7 .taken)
 
 returns-8 : tie.Need-returns-8
 returns-8 c =
@@ -42,14 +33,14 @@ is-ascii-spec = tie.close (tie.spec
     (λ c. search needs) (λ c. search needs)  -- is-ascii-each-requires, returns
     (λ c. search needs) (λ c. search needs)  -- is-ascii-each-requires-2, returns-2
     (λ c. search needs)  -- is-ascii-four-requires
-    returns-3
+    (λ c. search (needs, part-not))  -- returns-3
     (λ c. search needs)  -- is-ascii-four-requires-2
     returns-4
     (λ c. search needs)  -- is-ascii-four-requires-3
-    returns-5
+    (λ c. search (needs, part-not))  -- returns-5
     (λ c. search needs)  -- is-ascii-four-requires-4
     returns-6
     (λ c. search needs)  -- is-ascii-four-requires-5
-    returns-7
+    (λ c. search (needs, part-not))  -- returns-7
     (λ c. search needs)  -- is-ascii-four-requires-6
     returns-8)

@@ -13,9 +13,6 @@ Inv-loop bytes at top₀ i₀ top i = (i ≤ 32) × Greatest bytes at i top
 abbrev μ-loop : tie.MeasureT-loop
 μ-loop bytes at top₀ i₀ top i = 32 - i
 
-loop-holds : tie.Need-loop-holds Inv-loop μ-loop
-loop-holds c = (omega arith, greatest-none)
-
 loop-again : tie.Need-loop-again Inv-loop μ-loop
 loop-again c = (omega arith, greatest-more (omega arith) (⊎-elim (λ w. omega arith) (λ w. omega arith) (c .if1 .came)) (c .before .before .before .loop .inv .1))
 
@@ -25,7 +22,8 @@ returns c =
     rw e at (c .before .loop .inv .1 .ascii)
 
 pub is-ascii-block-spec : {M : Type 1} → statement M
-is-ascii-block-spec = tie.close (tie.spec Inv-loop μ-loop loop-holds
+is-ascii-block-spec = tie.close (tie.spec Inv-loop μ-loop
+    (λ c. (omega arith, greatest-none))  -- loop-holds
     (λ c. omega arith) (λ c. omega arith) (λ c. omega arith)  -- add-b, shared-slice-read-b, add-i
     (λ c. omega arith)  -- loop-less
     loop-again returns)

@@ -17,9 +17,6 @@ Inv-loop bytes top₀ i₀ top i = (i ≤ length bytes) × Greatest bytes 0 i to
 abbrev μ-loop : tie.MeasureT-loop
 μ-loop bytes top₀ i₀ top i = length bytes - i
 
-loop-holds : tie.Need-loop-holds Inv-loop μ-loop
-loop-holds c = (omega arith, greatest-none)
-
 loop-again : tie.Need-loop-again Inv-loop μ-loop
 loop-again c =
     let l = c .before .before .before .loop in
@@ -33,6 +30,7 @@ returns c =
     sym (leb·suc-suc (l .top) _) ∙ l .inv .1 .ascii ∙ rw (e, take-length s)
 
 pub is-ascii-each-spec : {M : Type 1} → statement M
-is-ascii-each-spec = tie.close (tie.spec Inv-loop μ-loop loop-holds
+is-ascii-each-spec = tie.close (tie.spec Inv-loop μ-loop
+    (λ c. (omega arith, greatest-none))  -- loop-holds
     (λ c. omega arith) (λ c. omega arith) (λ c. omega arith)  -- shared-slice-read-b, add-i, loop-less
     loop-again returns)

@@ -16,18 +16,6 @@ Inv-loop bytes out₀ at i₀ o₀ out i o = (i ≤ length bytes) × (length out
 abbrev μ-loop : tie.MeasureT-loop
 μ-loop bytes out₀ at i₀ o₀ out i o = length bytes - i
 
-loop-holds : tie.Need-loop-holds Inv-loop μ-loop
-loop-holds c = (omega arith, refl, rest-start)
-
-same-length : tie.Need-same-length Inv-loop μ-loop
-same-length c = c .before .before .before .put-bytes .kept .0 ∙ c .before .before .before .before .before .before .before .loop .inv .1
-
-returns : tie.Need-returns Inv-loop μ-loop
-returns c =
-    let c₁ = c .before .before .before in let c₂ = c₁ .before .before .before in let c₃ = c₂ .before in
-    let c₄ = c₃ .before .before .before in
-    rest-end (repair-none (c₄ .args .bytes .now) (c₂ .text-end .result) (omega arith)) (rest-put _ (repair-text (c₂ .text-end .ensures .text)) (c₃ .loop .inv .2) (c₁ .put-bytes .ensures))
-
 add-i : tie.Need-add-i Inv-loop μ-loop
 add-i c =
     let c₁ = c .before in
@@ -55,9 +43,10 @@ loop-again c =
     )
 
 pub repair-steps-spec : {M : Type 1} → statement M
-repair-steps-spec = tie.close (tie.spec Inv-loop μ-loop loop-holds
-    (λ c. omega arith) (λ c. omega arith) (λ c. omega arith)  -- text-end-requires, sub-put-bytes, part-put-bytes-start
-    (λ c. omega arith) (λ c. search needs)  -- part-put-bytes-end, put-bytes-requires
-    same-length returns
+repair-steps-spec = tie.close (tie.spec Inv-loop μ-loop
+    (λ c. search needs) (λ c. omega arith) (λ c. omega arith)  -- loop-holds, text-end-requires, sub-put-bytes
+    (λ c. omega arith) (λ c. omega arith)  -- part-put-bytes-start, part-put-bytes-end
+    (λ c. search needs) (λ c. search needs)  -- put-bytes-requires, same-length
+    (λ c. search (needs, rest-end, repair-none, rest-put, repair-text))  -- returns
     (λ c. search needs) (λ c. search needs)  -- put-replacement-requires, step-at-requires
     add-i loop-less loop-again)

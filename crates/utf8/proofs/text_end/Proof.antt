@@ -14,26 +14,8 @@ Inv-loop bytes at i₀ i = Text bytes at i
 abbrev μ-loop : tie.MeasureT-loop
 μ-loop bytes at i₀ i = length bytes - i
 
-loop-holds : tie.Need-loop-holds Inv-loop μ-loop
-loop-holds c = text-none _ _ (c .before .pre)
-
-loop-again : tie.Need-loop-again Inv-loop μ-loop
-loop-again c = text-join (text-join (c .before .before .before .before .loop .inv) (text-byte _ _ (omega arith) (c .before .if1 .taken))) (c .ascii-end .ensures)
-
-add-i : tie.Need-add-i Inv-loop μ-loop
-add-i c = omega (arith, c .before .two .ensures (c .if2 .taken))
-
-loop-less-2 : tie.Need-loop-less-2 Inv-loop μ-loop
-loop-less-2 c = omega (arith, c .before .two .ensures (c .if2 .taken))
-
 loop-again-2 : tie.Need-loop-again-2 Inv-loop μ-loop
 loop-again-2 c = text-join (c .before .before .before .before .before .loop .inv) (c .before .two .ensures (c .if2 .taken))
-
-add-i-2 : tie.Need-add-i-2 Inv-loop μ-loop
-add-i-2 c = omega (arith, c .before .three .ensures (c .if3 .taken))
-
-loop-less-3 : tie.Need-loop-less-3 Inv-loop μ-loop
-loop-less-3 c = omega (arith, c .before .three .ensures (c .if3 .taken))
 
 loop-again-3 : tie.Need-loop-again-3 Inv-loop μ-loop
 loop-again-3 c = text-join (c .before .before .before .before .before .before .before .loop .inv) (c .before .three .ensures (c .if3 .taken))
@@ -53,23 +35,17 @@ loop-less-4 c =
     let c₁ = c .before .before .before in let c₂ = c₁ .before .before .before .before .before .before .before in
     omega (arith, step-fits _ _ (c₂ .loop-test .taken) (c₁ .step-at .ensures))
 
-loop-again-4 : tie.Need-loop-again-4 Inv-loop μ-loop
-loop-again-4 c =
-    let c₁ = c .before in let c₂ = c₁ .before .before in
-    let c₃ = c₂ .before .before .before .before .before .before .before in
-    text-join (c₃ .before .loop .inv) (text-step _ _ (c₃ .loop-test .taken) (c₂ .step-at .ensures) (c₁ .if4 .left))
-
-returns-2 : tie.Need-returns-2 Inv-loop μ-loop
-returns-2 c = text-end (omega arith) (c .before .loop .inv)
-
 pub text-end-spec : {M : Type 1} → statement M
-text-end-spec = tie.close (tie.spec Inv-loop μ-loop loop-holds
+text-end-spec = tie.close (tie.spec Inv-loop μ-loop
+    (λ c. search (needs, text-none))  -- loop-holds
     (λ c. omega arith) (λ c. omega arith)  -- shared-slice-read-if1, add-ascii-end
     (λ c. omega arith) (λ c. omega arith)  -- ascii-end-requires, loop-less
-    loop-again
-    (λ c. omega arith)  -- two-requires
-    add-i loop-less-2 loop-again-2
-    (λ c. omega arith)  -- three-requires
-    add-i-2 loop-less-3 loop-again-3
+    (λ c. search (needs, text-join, text-byte))  -- loop-again
+    (λ c. omega arith) (λ c. search needs) (λ c. search needs)  -- two-requires, add-i, loop-less-2
+    loop-again-2
+    (λ c. omega arith) (λ c. search needs) (λ c. search needs)  -- three-requires, add-i-2, loop-less-3
+    loop-again-3
     (λ c. search needs)  -- step-at-requires
-    returns add-i-3 loop-less-4 loop-again-4 returns-2)
+    returns add-i-3 loop-less-4
+    (λ c. search (needs, text-join, text-step))  -- loop-again-4
+    (λ c. search (needs, text-end)))  -- returns-2

@@ -11,12 +11,6 @@ use Rattle.utf8.proofs.Texts.{text-led}
 use Rattle.utf8.proofs.three.Statement.{statement}
 use Rattle.utf8.proofs.three.Tie as tie
 
-returns : tie.Need-returns
-returns c e = absurd (false≢true e)
-
-returns-2 : tie.Need-returns-2
-returns-2 c e = absurd (false≢true e)
-
 returns-3 : tie.Need-returns-3
 unfolding passes rowOf
 returns-3 c e =
@@ -29,9 +23,6 @@ returns-3 c e =
 
 pub three-spec : {M : Type 1} → statement M
 three-spec = tie.close (tie.spec
-    (λ c. search needs)  -- in-range-requires
-    returns
-    (λ c. search needs)  -- second-fits-requires
-    returns-2
-    (λ c. search needs) (λ c. search needs)  -- add-in-range, in-range-requires-2
+    (λ c. search needs) (λ c e. search needs) (λ c. search needs)  -- in-range-requires, returns, second-fits-requires
+    (λ c e. search needs) (λ c. search needs) (λ c. search needs)  -- returns-2, add-in-range, in-range-requires-2
     returns-3)

@@ -10,9 +10,6 @@ use Rattle.utf8.proofs.Texts.{text-led}
 use Rattle.utf8.proofs.two.Statement.{statement}
 use Rattle.utf8.proofs.two.Tie as tie
 
-returns : tie.Need-returns
-returns c e = absurd (false≢true e)
-
 returns-2 : tie.Need-returns-2
 unfolding passes rowOf
 returns-2 c e =
@@ -22,7 +19,5 @@ returns-2 c e =
 
 pub two-spec : {M : Type 1} → statement M
 two-spec = tie.close (tie.spec
-    (λ c. search needs)  -- in-range-requires
-    returns
-    (λ c. search needs)  -- second-fits-requires
+    (λ c. search needs) (λ c e. search needs) (λ c. search needs)  -- in-range-requires, returns, second-fits-requires
     returns-2)
