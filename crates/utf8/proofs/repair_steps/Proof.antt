@@ -1,10 +1,10 @@
 -- What is left to write is the repair of the bytes left: text as it is, then U+FFFD for an ill-formed step.
 use borrow.Author.Needs.{needs}
 use Prim.Native.Nat.{_-_, _≤_}
-use mathlib.Core.Path.{_≡_, refl, _∙_}
+use mathlib.Core.Path.{_≡_, _∙_}
 use native.Mathlib.Omega.{arith}
 use lib.ListN.{length, drop}
-use Rattle.lent.proofs.Writes.{Rest, rest-start, rest-put, rest-end}
+use Rattle.lent.proofs.Writes.{Rest, rest-put, rest-end}
 use Rattle.utf8.specs.Utf8.{repair}
 use Rattle.utf8.proofs.Texts.{step-fits, repair-text, repair-ill, repair-none}
 use Rattle.utf8.proofs.repair_steps.Statement.{statement}

@@ -3,7 +3,6 @@ use borrow.Author.Needs.{needs}
 use borrow.Author.Tests.{not-false}
 use native.Mathlib.Omega.{arith}
 use mathlib.Core.Path.{refl}
-use mathlib.Core.Bool.{false≢true}
 use Rattle.utf8.specs.Rows.{rowOf}
 use Rattle.utf8.proofs.Leads.{passes}
 use Rattle.utf8.proofs.Ranges.{left-start, left-more}

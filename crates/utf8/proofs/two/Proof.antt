@@ -2,7 +2,6 @@
 use borrow.Author.Needs.{needs}
 use native.Mathlib.Omega.{arith}
 use mathlib.Core.Path.{refl}
-use mathlib.Core.Bool.{false≢true}
 use Rattle.utf8.specs.Rows.{rowOf}
 use Rattle.utf8.proofs.Leads.{passes}
 use Rattle.utf8.proofs.Ranges.{left-start, left-more}
