@@ -1,5 +1,6 @@
 -- Lists read item by item.
-use Prim.Native.Nat.{ℕ, suc}
+use Prim.Native.Nat.{ℕ, suc, _+_, _≤_, _<_}
+use native.Mathlib.Omega.{arith}
 use mathlib.Core.Path.{_≡_, refl, ap, _∙_}
 use mathlib.Core.List.{List, [], _∷_, map}
 use lib.ListN.{length}
@@ -9,82 +10,66 @@ use Rattle.format.specs.Store.{Piece, plain, word, _⊕_, pieces, functionPiece
 use Rattle.format.specs.Undump.{repairedAll}
 use Rattle.load.specs.Loads.{ReadsBy, spaceOf, Does, World, Loads, repairedName}
 use Rattle.load_function.specs.Repaired.{repairedLocalPiece, repairedFunction}
-use Rattle.load.proofs.Steps.{weaken, bind, done, stays-then}
+use Rattle.format.proofs.Loops.{Loop, loop-start, loop-turn, loop-stop, loop-end}
+use Rattle.load.proofs.Steps.{passed, weaken, bind, done, stays-then}
 use Rattle.load.proofs.Stores.{nothing, join}
 
 -- items of type A that R reads are read n at a time, to an L of n items, stored one after the other
 pub record Listing {A L : Type 0} (R : Reader A) (Many : ℕ → Reader L) (size : L → ℕ) (piece : A → Piece) (all : L → Piece) : Type 0 where
   pub nil : L
   pub cons : A → L → L
-  pub many-none : Many 0 ≡ return nil
-  pub many-more : (n : ℕ) → Many (suc n) ≡ (R >>= λ a. Many n >>= λ rest. return (cons a rest))
-  pub size-none : size nil ≡ 0
-  pub size-more : (a : A) (l : L) → size (cons a l) ≡ suc (size l)
-  pub all-none : all nil ≡ plain []
-  pub all-more : (a : A) (l : L) → all (cons a l) ≡ piece a ⊕ all l
+  pub none : (Many 0 ≡ return nil) × (size nil ≡ 0) × (all nil ≡ plain [])
+  pub more : (n : ℕ) → Many (suc n) ≡ (R >>= λ a. Many n >>= λ rest. return (cons a rest))
+  pub cell : (a : A) (l : L) → (size (cons a l) ≡ suc (size l)) × (all (cons a l) ≡ piece a ⊕ all l)
 
 -- items that are changed by g before they are stored
 pub items : {A B : Type 0} (R : Reader A) (g : A → B) (piece : B → Piece) → Listing R (many R) (λ l. length (map g l)) (λ a. piece (g a)) (λ l. pieces piece (map g l))
 unfolding many pieces
-items R g piece =
-    record {
-      nil = [];
-      cons = λ a l. a ∷ l;
-      many-none = refl;
-      many-more = λ n. refl;
-      size-none = refl;
-      size-more = λ a l. refl;
-      all-none = refl;
-      all-more = λ a l. refl;
-    }
+items R g piece = record { nil = []; cons = λ a l. a ∷ l; none = (refl, refl, refl); more = λ n. refl; cell = λ a l. (refl, refl) }
 
 -- items as they are
 pub plain-items : {A : Type 0} (R : Reader A) (piece : A → Piece) → Listing R (many R) length piece (pieces piece)
 unfolding many pieces
-plain-items R piece =
-    record {
-      nil = [];
-      cons = λ a l. a ∷ l;
-      many-none = refl;
-      many-more = λ n. refl;
-      size-none = refl;
-      size-more = λ a l. refl;
-      all-none = refl;
-      all-more = λ a l. refl;
-    }
+plain-items R piece = record { nil = []; cons = λ a l. a ∷ l; none = (refl, refl, refl); more = λ n. refl; cell = λ a l. (refl, refl) }
 
 pub function-items : (allowance : ℕ) → Listing (loadFunction allowance) (manyFunctions (loadFunction allowance)) (λ fs. count (repairedAll fs)) repairedFunction (λ fs. functionPieces (repairedAll fs))
 unfolding manyFunctions count functionPieces repairedAll
-function-items allowance =
-    record {
-      nil = Functions.none;
-      cons = λ f fs. Functions.more f fs;
-      many-none = refl;
-      many-more = λ n. refl;
-      size-none = refl;
-      size-more = λ f fs. refl;
-      all-none = refl;
-      all-more = λ f fs. refl;
-    }
+function-items allowance = record { nil = Functions.none; cons = λ f fs. Functions.more f fs; none = (refl, refl, refl); more = λ n. refl; cell = λ f fs. (refl, refl) }
 
 -- n items are read from σ to ρ
 abbrev pub LoadsAll : {L : Type 0} → List ℕ → (ℕ → Reader L) → (L → ℕ) → (L → Piece) → ℕ → World → World → Type 0
 LoadsAll bs Many size all n σ ρ = ReadsBy bs (Many n) (λ l. (size l ≡ n) × Does (all l) (spaceOf σ) (spaceOf ρ)) (σ .load .cursor) (ρ .load .cursor)
 
-module _ {A L : Type 0} {bs : List ℕ} {R : Reader A} {Many : ℕ → Reader L} {size : L → ℕ} {piece : A → Piece} {all : L → Piece} (laws : Listing R Many size piece all) where
-  pub loads-none : {σ : World} → LoadsAll bs Many size all 0 σ σ
-  loads-none = rw (laws .many-none) (done (laws .nil) (laws .size-none, rw (laws .all-none) nothing))
+-- the loop that reads n items, begun at σ₀, stands at σ before item i
+pub record Loading {L : Type 0} (bs : List ℕ) (Many : ℕ → Reader L) (size : L → ℕ) (all : L → Piece) (n : ℕ) (σ₀ : World) (i : ℕ) (σ : World) : Type 0 where
+  pub within : i ≤ n
+  pub words : length (σ .words) ≡ length (σ₀ .words)
+  pub text : length (σ .text) ≡ length (σ₀ .text)
+  pub loop : Loop (LoadsAll bs Many size all) n σ₀ i σ
 
-  pub loads-more : {σ m : World} → Loads bs R piece σ m → (n : ℕ) (ρ : World) → LoadsAll bs Many size all n m ρ → LoadsAll bs Many size all (suc n) σ ρ
-  loads-more h n ρ t =
-      rw (laws .many-more n)
-      (bind _ h (t .stays) (λ a d. bind _ t (λ z. refl) (λ l e. done (laws .cons a l) (laws .size-more a l ∙ ap suc (e .0), rw (laws .all-more a l) (join d (e .1))))))
+module _ {A L : Type 0} {R : Reader A} {Many : ℕ → Reader L} {size : L → ℕ} {piece : A → Piece} {all : L → Piece} (laws : Listing R Many size piece all) where
+  pub loading-start : {bs : List ℕ} {n : ℕ} {σ : World} → Loading bs Many size all n σ 0 σ
+  loading-start = record { within = omega arith; words = refl; text = refl; loop = loop-start }
 
--- a count, and as many items
-pub list-loaded : {L : Type 0} {bs : List ℕ} {C : Reader ℕ} {size : L → ℕ} {all : L → Piece} {n : ℕ} {σ m ρ : World}
-    (Many : ℕ → Reader L) → ReadsBy bs C (λ a. (a ≡ n) × Does (word a) (spaceOf σ) (spaceOf m)) (σ .load .cursor) (m .load .cursor) → LoadsAll bs Many size all n m ρ
-    → Loads bs (C >>= Many) (λ l. word (size l) ⊕ all l) σ ρ
-list-loaded Many h t = bind Many h (t .stays) (λ a e. rw (e .0) (weaken (λ l d. rw (d .0) (join (rw (e .0) at (e .1)) (d .1))) t))
+  module _ {bs : List ℕ} {n i : ℕ} {σ₀ σ : World} (h : Loading bs Many size all n σ₀ i σ) where
+    pub loading-turn : {m : World} → Loads bs R piece σ m → i < n → length (m .words) ≡ length (σ .words) → length (m .text) ≡ length (σ .text) → Loading bs Many size all n σ₀ (i + 1) m
+    loading-turn {m} d k w t = record { within = omega arith; words = w ∙ h .words; text = t ∙ h .text; loop = loop-turn k (h .loop) more }
+      where
+        more : (k : ℕ) (ρ : World) → LoadsAll bs Many size all k m ρ → LoadsAll bs Many size all (suc k) σ ρ
+        more k ρ t =
+            rw (laws .more k)
+            (bind _ d (t .stays) (λ a f. bind _ t (λ z. refl) (λ l e. done (laws .cons a l) (laws .cell a l .0 ∙ ap suc (e .0), rw (laws .cell a l .1) (join f (e .1))))))
+
+    module _ {C : Reader ℕ} {τ : World} (c : ReadsBy bs C (λ a. (a ≡ n) × Does (word a) (spaceOf τ) (spaceOf σ₀)) (τ .load .cursor) (σ₀ .load .cursor)) where
+      -- a count, and as many items
+      counted : LoadsAll bs Many size all n σ₀ σ → Loads bs (C >>= Many) (λ l. word (size l) ⊕ all l) τ σ
+      counted t = bind Many c (t .stays) (λ a e. rw (e .0) (weaken (λ l d. rw (d .0) (join (rw (e .0) at (e .1)) (d .1))) t))
+
+      pub loading-stop : i < n → 0 < σ .load .cursor .refusal → Loads bs (C >>= Many) (λ l. word (size l) ⊕ all l) τ σ
+      loading-stop k z = counted (loop-stop k (h .loop) (λ k. passed z refl))
+
+      pub loading-end : n ≤ i → Loads bs (C >>= Many) (λ l. word (size l) ⊕ all l) τ σ
+      loading-end k = counted (loop-end k (h .loop) (rw (laws .none .0) (done (laws .nil) (laws .none .1, rw (laws .none .2) nothing))))
 
 -- ---- a local
 

@@ -4,7 +4,7 @@ use mathlib.Core.Path.{_≡_, refl, _∙_}
 use mathlib.Core.List.{List}
 use native.Mathlib.Omega.{arith}
 use Rattle.format.specs.Tree.{count}
-use Rattle.format.specs.Read.{loadByte, loadInt, loadString, loadText, loadList, loadLocal, loadCount, loadConstant, manyFunctions, loadCode, loadConstants, loadDebug, loadFunction}
+use Rattle.format.specs.Read.{_>>=_, loadByte, loadInt, loadString, loadText, loadList, loadLocal, loadCount, loadConstant, manyFunctions, loadCode, loadConstants, loadDebug, loadFunction}
 use Rattle.format.specs.Store.{word, list, ints, constantPiece, functionPiece, functionPieces, childrenPiece}
 use Rattle.format.specs.Undump.{repaired, repairedAll}
 use Rattle.load_state.specs.declared.cursor.Cursor.{Cursor}
@@ -13,22 +13,17 @@ use Rattle.load.specs.Loads.{ReadsBy, space, Does, World, spaceOf, moved, Loads
 use Rattle.load_function.specs.Repaired.{repairedLocals, repairedNames, repairedDebugPiece, repairedConstants, repairedFunction}
 use Rattle.load.proofs.Steps.{stops, bind, done, stays-then}
 use Rattle.load.proofs.Stores.{join, regroup}
-use Rattle.load_function.proofs.Lists.{LoadsAll, list-loaded}
 
 pub debug-loaded : {bs : List ℕ} {σ a b ρ : World} → Loads bs (loadList loadInt) ints σ a → Loads bs (loadList loadLocal) repairedLocals a b → Loads bs (loadList loadText) repairedNames b ρ
     → Loads bs loadDebug repairedDebugPiece σ ρ
 unfolding loadDebug
 debug-loaded h k l = bind _ h (stays-then (k .stays) (l .stays)) (λ li d. bind _ k (l .stays) (λ lo e. bind _ l (λ z. refl) (λ up f. done _ (join d (join e f)))))
 
--- the constants, a count, and as many functions
-pub constants-loaded : {bs : List ℕ} {σ a m ρ : World} {k : ℕ} (allowance : ℕ) → Loads bs (loadList loadConstant) (list constantPiece) σ a
-    → ReadsBy bs loadCount (λ v. (v ≡ k) × Does (word v) (spaceOf a) (spaceOf m)) (a .load .cursor) (m .load .cursor)
-    → LoadsAll bs (manyFunctions (loadFunction allowance)) (λ fs. count (repairedAll fs)) (λ fs. functionPieces (repairedAll fs)) k m ρ
-    → Loads bs (loadConstants (loadFunction allowance)) repairedConstants σ ρ
+-- the constants, then the functions
+pub constants-loaded : {bs : List ℕ} {σ a ρ : World} (allowance : ℕ) → Loads bs (loadList loadConstant) (list constantPiece) σ a
+    → Loads bs (loadCount >>= manyFunctions (loadFunction allowance)) (λ fs. childrenPiece (repairedAll fs)) a ρ → Loads bs (loadConstants (loadFunction allowance)) repairedConstants σ ρ
 unfolding loadConstants
-constants-loaded allowance h c l =
-    let all = list-loaded (manyFunctions (loadFunction allowance)) c l in
-    bind _ h (all .stays) (λ ks d. bind _ all (λ z. refl) (λ fs e. done _ (join d e)))
+constants-loaded allowance h k = bind _ h (k .stays) (λ ks d. bind _ k (λ z. refl) (λ fs e. done _ (join d e)))
 
 -- 7
 pub function-too-deep : {bs : List ℕ} {σ ρ : World} {n : ℕ} → n ≡ 0 → σ .load .cursor .refusal ≤ 0 → ρ .load .cursor .refusal ≡ 7 → Loads bs (loadFunction n) repairedFunction σ ρ

@@ -9,11 +9,10 @@ use Rattle.format.specs.Tree.{count}
 use Rattle.format.specs.Read.{manyFunctions, loadFunction}
 use Rattle.format.specs.Store.{functionPieces}
 use Rattle.format.specs.Undump.{repairedAll}
-use Rattle.format.proofs.Loops.{Loop, loop-start, loop-turn, loop-stop, loop-end}
 use Rattle.load.specs.declared.Load.{Load}
 use Rattle.load.specs.Loads.{world}
 use Rattle.load.proofs.Steps.{passed}
-use Rattle.load_function.proofs.Lists.{LoadsAll, function-items, loads-none, loads-more}
+use Rattle.load_function.proofs.Lists.{function-items, Loading, loading-start, loading-turn, loading-stop, loading-end}
 use Rattle.load_function.proofs.Trees.{constants-loaded, function-too-deep, function-loaded}
 use borrow.Fn.Kinds.{In}
 use borrow.Fn.PlainCycle.{Measures, is, falls, and}
@@ -79,33 +78,19 @@ load-function-calls t = (refused-reads.Asked, refused-reads.Learnt, at-reads.Ask
 
 abbrev load-constants-Inv-loop : load-constants-lts.InvT-loop
 load-constants-Inv-loop chunk words₀ text₀ allowance n p₀ i₀ words text p i =
-    (i ≤ n) × (length words ≡ length words₀) × (length text ≡ length text₀)
-    × Loop (LoadsAll chunk (manyFunctions (loadFunction allowance)) (λ fs. count (repairedAll fs)) (λ fs. functionPieces (repairedAll fs))) n (world p₀ words₀ text₀) i (world p words text)
+    Loading chunk (manyFunctions (loadFunction allowance)) (λ fs. count (repairedAll fs)) (λ fs. functionPieces (repairedAll fs)) n (world p₀ words₀ text₀) i (world p words text)
 
 abbrev load-constants-μ-loop : load-constants-lts.MeasureT-loop
 load-constants-μ-loop chunk words₀ text₀ allowance n p₀ i₀ words text p i = n - i
 
 load-constants-loop-holds : (t : ℕ) → load-constants-lts.Need-loop-holds (load-constants-calls t) (load-constants-at t) load-constants.Post load-constants-Inv-loop load-constants-μ-loop
-load-constants-loop-holds t c = (omega arith, refl, refl, loop-start)
-
-load-constants-same-length : (t : ℕ) → load-constants-lts.Need-same-length (load-constants-calls t) (load-constants-at t) load-constants.Post load-constants-Inv-loop load-constants-μ-loop
-load-constants-same-length t c =
-    let c₁ = c .before .before .before in let c₂ = c₁ .before .before .before .before in
-    let c₃ = c₂ .before .before .before .before .before .before in
-    c₁ .loop .inv .1 ∙ c₂ .copy-count .kept .1 .0 ∙ c₃ .load-pool .kept .1 .0
-
-load-constants-same-length-2 : (t : ℕ) → load-constants-lts.Need-same-length-2 (load-constants-calls t) (load-constants-at t) load-constants.Post load-constants-Inv-loop load-constants-μ-loop
-load-constants-same-length-2 t c =
-    let c₁ = c .before .before .before in
-    let c₂ = c₁ .before .before .before .before .before .before .before .before .before .before in
-    c₁ .loop .inv .2 ∙ c₂ .load-pool .kept .1 .1 .0
+load-constants-loop-holds t c = loading-start (function-items _)
 
 load-constants-returns : (t : ℕ) → load-constants-lts.Need-returns (load-constants-calls t) (load-constants-at t) load-constants.Post load-constants-Inv-loop load-constants-μ-loop
 load-constants-returns t c =
     let c₁ = c .before .before .before in let c₂ = c₁ .before .before .before .before in
     let c₃ = c₂ .before .before .before .before .before .before in
-    let c₄ = c₃ .before .before .before .before .before .before in
-    constants-loaded (c₄ .args .allowance) (c₃ .load-pool .ensures) (c₂ .copy-count .ensures _) (loop-stop (omega arith) (c₁ .loop .inv .3) (λ k. passed (omega arith) refl))
+    constants-loaded _ (c₃ .load-pool .ensures) (loading-stop (function-items _) (c₁ .loop .inv) (c₂ .copy-count .ensures _) (omega arith) (omega arith))
 
 load-constants-load-function-requires : (t : ℕ) → load-constants-lts.Need-load-function-requires (load-constants-calls t) (load-constants-at t) load-constants.Post load-constants-Inv-loop load-constants-μ-loop
 load-constants-load-function-requires t c κs =
@@ -113,28 +98,13 @@ load-constants-load-function-requires t c κs =
     (omega (arith, c₁ .pre .0), tt)
 
 load-constants-loop-again : (t : ℕ) → load-constants-lts.Need-loop-again (load-constants-calls t) (load-constants-at t) load-constants.Post load-constants-Inv-loop load-constants-μ-loop
-load-constants-loop-again t c =
-    let c₁ = c .before .before .before .before in let c₂ = c₁ .before .before .before .before .before .before in
-    let c₃ = c₂ .before .before .before .before .before .before .before .before .before .before .before .before .before .before .before .before in
-    (omega arith, c₁ .load-function .kept .1 .0 ∙ c₂ .loop .inv .1, c₁ .load-function .kept .1 .1 .0 ∙ c₂ .loop .inv .2, loop-turn (omega arith) (c₂ .loop .inv .3) (loads-more (function-items (c₃ .args .allowance)) (c₁ .load-function .ensures)))
-
-load-constants-same-length-3 : (t : ℕ) → load-constants-lts.Need-same-length-3 (load-constants-calls t) (load-constants-at t) load-constants.Post load-constants-Inv-loop load-constants-μ-loop
-load-constants-same-length-3 t c =
-    let c₁ = c .before in let c₂ = c₁ .before .before .before .before in
-    let c₃ = c₂ .before .before .before .before .before .before in
-    c₁ .loop .inv .1 ∙ c₂ .copy-count .kept .1 .0 ∙ c₃ .load-pool .kept .1 .0
-
-load-constants-same-length-4 : (t : ℕ) → load-constants-lts.Need-same-length-4 (load-constants-calls t) (load-constants-at t) load-constants.Post load-constants-Inv-loop load-constants-μ-loop
-load-constants-same-length-4 t c =
-    let c₁ = c .before in let c₂ = c₁ .before .before .before .before .before .before .before .before .before .before in
-    c₁ .loop .inv .2 ∙ c₂ .load-pool .kept .1 .1 .0
+load-constants-loop-again t c = search (needs, loading-turn (function-items (c .before .before .before .before .before .before .before .before .before .before .before .before .before .before .before .before .before .before .before .before .before .before .before .before .before .before .args .allowance)))
 
 load-constants-returns-2 : (t : ℕ) → load-constants-lts.Need-returns-2 (load-constants-calls t) (load-constants-at t) load-constants.Post load-constants-Inv-loop load-constants-μ-loop
 load-constants-returns-2 t c =
     let c₁ = c .before in let c₂ = c₁ .before .before .before .before in
     let c₃ = c₂ .before .before .before .before .before .before in
-    let c₄ = c₃ .before .before .before .before .before .before in
-    constants-loaded (c₄ .args .allowance) (c₃ .load-pool .ensures) (c₂ .copy-count .ensures _) (loop-end (omega arith) (c₁ .loop .inv .3) (loads-none (function-items (c₄ .args .allowance))))
+    constants-loaded _ (c₃ .load-pool .ensures) (loading-end (function-items _) (c₁ .loop .inv) (c₂ .copy-count .ensures _) (omega arith))
 
 load-function-returns : (t : ℕ) → load-function-lts.Need-returns (load-function-calls t) (load-function-at t) load-function.Post
 load-function-returns t c = passed (omega arith) refl
@@ -183,10 +153,12 @@ pub +load-constants+load-function-spec : {M : Type 1} → statement M
 +load-constants+load-function-spec = close μ-load-constants μ-load-function (λ t. load-constants-lts.spec
     (load-constants-calls t) (load-constants-at t) load-constants.Post load-constants-Inv-loop load-constants-μ-loop
     (λ c. search needs) (λ c. search needs)  -- load-pool-requires, copy-count-requires
-    (load-constants-loop-holds t) (load-constants-same-length t) (load-constants-same-length-2 t)
+    (load-constants-loop-holds t)
+    (λ c. search needs) (λ c. search needs)  -- same-length, same-length-2
     (load-constants-returns t) (load-constants-load-function-requires t)
     (λ c. omega arith) (λ c. omega arith)  -- add-i, loop-less
-    (load-constants-loop-again t) (load-constants-same-length-3 t) (load-constants-same-length-4 t)
+    (load-constants-loop-again t)
+    (λ c. search needs) (λ c. search needs)  -- same-length-3, same-length-4
     (load-constants-returns-2 t))
     λ t. load-function-lts.spec (load-function-calls t) (load-function-at t) load-function.Post
     (load-function-returns t)
