@@ -8,7 +8,8 @@ use Rattle.format.specs.Tree.{Functions, count}
 use Rattle.format.specs.Read.{Reader, _>>=_, return, many, manyFunctions, loadFunction, loadText, loadInt, loadLocal}
 use Rattle.format.specs.Store.{Piece, plain, word, _⊕_, pieces, functionPieces}
 use Rattle.format.specs.Undump.{repairedAll}
-use Rattle.load.specs.Loads.{ReadsBy, spaceOf, Does, World, Loads, repairedName}
+use Rattle.load.specs.declared.Load.{Load}
+use Rattle.load.specs.Loads.{ReadsBy, space, spaceOf, Does, World, world, Loads, repairedName}
 use Rattle.load_function.specs.Repaired.{repairedLocalPiece, repairedFunction}
 use Rattle.format.proofs.Loops.{Loop, loop-start, loop-turn, loop-stop, loop-end}
 use Rattle.load.proofs.Steps.{passed, weaken, bind, done, stays-then}
@@ -47,29 +48,35 @@ pub record Loading {L : Type 0} (bs : List ℕ) (Many : ℕ → Reader L) (size 
   pub text : length (σ .text) ≡ length (σ₀ .text)
   pub loop : Loop (LoadsAll bs Many size all) n σ₀ i σ
 
-module _ {A L : Type 0} {R : Reader A} {Many : ℕ → Reader L} {size : L → ℕ} {piece : A → Piece} {all : L → Piece} (laws : Listing R Many size piece all) where
-  pub loading-start : {bs : List ℕ} {n : ℕ} {σ : World} → Loading bs Many size all n σ 0 σ
-  loading-start = record { within = omega arith; words = refl; text = refl; loop = loop-start }
+-- C reads the count n from s, where the words are ws, to s₀ and ws₀; whatever the text is stays
+abbrev pub Counts : List ℕ → Reader ℕ → ℕ → Load → List ℕ → Load → List ℕ → Type 0
+Counts bs C n s ws s₀ ws₀ = (t : List ℕ) → ReadsBy bs C (λ a. (a ≡ n) × Does (word a) (space s ws t) (space s₀ ws₀ t)) (s .cursor) (s₀ .cursor)
 
-  module _ {bs : List ℕ} {n i : ℕ} {σ₀ σ : World} (h : Loading bs Many size all n σ₀ i σ) where
-    pub loading-turn : {m : World} → Loads bs R piece σ m → i < n → length (m .words) ≡ length (σ .words) → length (m .text) ≡ length (σ .text) → Loading bs Many size all n σ₀ (i + 1) m
-    loading-turn {m} d k w t = record { within = omega arith; words = w ∙ h .words; text = t ∙ h .text; loop = loop-turn k (h .loop) more }
-      where
-        more : (k : ℕ) (ρ : World) → LoadsAll bs Many size all k m ρ → LoadsAll bs Many size all (suc k) σ ρ
-        more k ρ t =
-            rw (laws .more k)
-            (bind _ d (t .stays) (λ a f. bind _ t (λ z. refl) (λ l e. done (laws .cons a l) (laws .cell a l .0 ∙ ap suc (e .0), rw (laws .cell a l .1) (join f (e .1))))))
+-- a count, and as many items
+counted : {L : Type 0} {bs : List ℕ} {size : L → ℕ} {all : L → Piece} {n : ℕ} {C : Reader ℕ} {s s₀ : Load} {ws ws₀ ts : List ℕ} {σ : World}
+    (Many : ℕ → Reader L) → Counts bs C n s ws s₀ ws₀ → LoadsAll bs Many size all n (world s₀ ws₀ ts) σ → Loads bs (C >>= Many) (λ l. word (size l) ⊕ all l) (world s ws ts) σ
+counted {ts = ts} Many c t = bind Many (c ts) (t .stays) (λ a e. rw (e .0) (weaken (λ l d. rw (d .0) (join (rw (e .0) at (e .1)) (d .1))) t))
 
-    module _ {C : Reader ℕ} {τ : World} (c : ReadsBy bs C (λ a. (a ≡ n) × Does (word a) (spaceOf τ) (spaceOf σ₀)) (τ .load .cursor) (σ₀ .load .cursor)) where
-      -- a count, and as many items
-      counted : LoadsAll bs Many size all n σ₀ σ → Loads bs (C >>= Many) (λ l. word (size l) ⊕ all l) τ σ
-      counted t = bind Many c (t .stays) (λ a e. rw (e .0) (weaken (λ l d. rw (d .0) (join (rw (e .0) at (e .1)) (d .1))) t))
+pub loading-start : {L : Type 0} {bs : List ℕ} {Many : ℕ → Reader L} {size : L → ℕ} {all : L → Piece} {n : ℕ} {σ : World} → Loading bs Many size all n σ 0 σ
+loading-start = record { within = omega arith; words = refl; text = refl; loop = loop-start }
 
-      pub loading-stop : i < n → 0 < σ .load .cursor .refusal → Loads bs (C >>= Many) (λ l. word (size l) ⊕ all l) τ σ
-      loading-stop k z = counted (loop-stop k (h .loop) (λ k. passed z refl))
+module _ {A L : Type 0} {R : Reader A} {Many : ℕ → Reader L} {size : L → ℕ} {piece : A → Piece} {all : L → Piece} (laws : Listing R Many size piece all) {bs : List ℕ} {n i : ℕ} where
+  pub loading-turn : {σ₀ σ m : World} → Loading bs Many size all n σ₀ i σ → Loads bs R piece σ m → i < n → length (m .words) ≡ length (σ .words) → length (m .text) ≡ length (σ .text)
+      → Loading bs Many size all n σ₀ (i + 1) m
+  loading-turn {σ = σ} {m = m} h d k w t = record { within = omega arith; words = w ∙ h .words; text = t ∙ h .text; loop = loop-turn k (h .loop) more }
+    where
+      more : (k : ℕ) (ρ : World) → LoadsAll bs Many size all k m ρ → LoadsAll bs Many size all (suc k) σ ρ
+      more k ρ t =
+          rw (laws .more k)
+          (bind _ d (t .stays) (λ a f. bind _ t (λ z. refl) (λ l e. done (laws .cons a l) (laws .cell a l .0 ∙ ap suc (e .0), rw (laws .cell a l .1) (join f (e .1))))))
 
-      pub loading-end : n ≤ i → Loads bs (C >>= Many) (λ l. word (size l) ⊕ all l) τ σ
-      loading-end k = counted (loop-end k (h .loop) (rw (laws .none .0) (done (laws .nil) (laws .none .1, rw (laws .none .2) nothing))))
+  module _ {C : Reader ℕ} {s s₀ : Load} {ws ws₀ ts : List ℕ} {σ : World} (c : Counts bs C n s ws s₀ ws₀) (h : Loading bs Many size all n (world s₀ ws₀ ts) i σ) where
+    pub loading-end : n ≤ i → Loads bs (C >>= Many) (λ l. word (size l) ⊕ all l) (world s ws ts) σ
+    loading-end k = counted Many c (loop-end k (h .loop) (rw (laws .none .0) (done (laws .nil) (laws .none .1, rw (laws .none .2) nothing))))
+
+    -- a refusal ends it at once
+    pub loading-stop : i < n → 0 < σ .load .cursor .refusal → Loads bs (C >>= Many) (λ l. word (size l) ⊕ all l) (world s ws ts) σ
+    loading-stop k z = counted Many c (loop-stop k (h .loop) (λ k. passed z refl))
 
 -- ---- a local
 

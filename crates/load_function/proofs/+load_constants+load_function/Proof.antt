@@ -84,13 +84,13 @@ abbrev load-constants-μ-loop : load-constants-lts.MeasureT-loop
 load-constants-μ-loop chunk words₀ text₀ allowance n p₀ i₀ words text p i = n - i
 
 load-constants-loop-holds : (t : ℕ) → load-constants-lts.Need-loop-holds (load-constants-calls t) (load-constants-at t) load-constants.Post load-constants-Inv-loop load-constants-μ-loop
-load-constants-loop-holds t c = loading-start (function-items _)
+load-constants-loop-holds t c = loading-start
 
 load-constants-returns : (t : ℕ) → load-constants-lts.Need-returns (load-constants-calls t) (load-constants-at t) load-constants.Post load-constants-Inv-loop load-constants-μ-loop
 load-constants-returns t c =
     let c₁ = c .before .before .before in let c₂ = c₁ .before .before .before .before in
     let c₃ = c₂ .before .before .before .before .before .before in
-    constants-loaded _ (c₃ .load-pool .ensures) (loading-stop (function-items _) (c₁ .loop .inv) (c₂ .copy-count .ensures _) (omega arith) (omega arith))
+    constants-loaded _ (c₃ .load-pool .ensures) (loading-stop (function-items _) (c₂ .copy-count .ensures) (c₁ .loop .inv) (omega arith) (omega arith))
 
 load-constants-load-function-requires : (t : ℕ) → load-constants-lts.Need-load-function-requires (load-constants-calls t) (load-constants-at t) load-constants.Post load-constants-Inv-loop load-constants-μ-loop
 load-constants-load-function-requires t c κs =
@@ -104,7 +104,7 @@ load-constants-returns-2 : (t : ℕ) → load-constants-lts.Need-returns-2 (load
 load-constants-returns-2 t c =
     let c₁ = c .before in let c₂ = c₁ .before .before .before .before in
     let c₃ = c₂ .before .before .before .before .before .before in
-    constants-loaded _ (c₃ .load-pool .ensures) (loading-end (function-items _) (c₁ .loop .inv) (c₂ .copy-count .ensures _) (omega arith))
+    constants-loaded _ (c₃ .load-pool .ensures) (loading-end (function-items _) (c₂ .copy-count .ensures) (c₁ .loop .inv) (omega arith))
 
 load-function-returns : (t : ℕ) → load-function-lts.Need-returns (load-function-calls t) (load-function-at t) load-function.Post
 load-function-returns t c = passed (omega arith) refl

@@ -6,7 +6,7 @@ use lib.ListN.{length}
 use Rattle.format.specs.Read.{many, loadConstant}
 use Rattle.format.specs.Store.{pieces, constantPiece}
 use Rattle.load.specs.Loads.{world}
-use Rattle.load_function.proofs.Lists.{Listing, plain-items, Loading, loading-start, loading-turn, loading-stop, loading-end}
+use Rattle.load_function.proofs.Lists.{plain-items, Loading, loading-start, loading-turn, loading-stop, loading-end}
 use Rattle.load_function.proofs.list.load_pool.Statement.{statement}
 use Rattle.load_function.proofs.list.load_pool.Tie as tie
 
@@ -18,13 +18,10 @@ abbrev μ-loop : tie.MeasureT-loop
 
 pub load-pool-spec : {M : Type 1} → statement M
 load-pool-spec = tie.close (tie.spec Inv-loop μ-loop
-    (λ c. search needs)  -- copy-count-requires
-    (λ c. loading-start (plain-items loadConstant constantPiece))  -- loop-holds
-    (λ c. search needs)  -- same-length
-    (λ c. search needs)  -- same-length-2
-    (λ c. loading-stop (plain-items loadConstant constantPiece) (c .before .before .before .loop .inv) (c .before .before .before .before .before .before .before .copy-count .ensures _) (omega arith) (omega arith))  -- returns
+    (λ c. search needs) (λ c. loading-start)  -- copy-count-requires, loop-holds
+    (λ c. search needs) (λ c. search needs)  -- same-length, same-length-2
+    (λ c. search (needs, loading-stop (plain-items loadConstant constantPiece)))  -- returns
     (λ c. search needs) (λ c. omega arith) (λ c. omega arith)  -- copy-constant-requires, add-i, loop-less
     (λ c. search (needs, loading-turn (plain-items loadConstant constantPiece)))  -- loop-again
-    (λ c. search needs)  -- same-length-3
-    (λ c. search needs)  -- same-length-4
-    (λ c. loading-end (plain-items loadConstant constantPiece) (c .before .loop .inv) (c .before .before .before .before .before .copy-count .ensures _) (omega arith)))  -- returns-2
+    (λ c. search needs) (λ c. search needs)  -- same-length-3, same-length-4
+    (λ c. search (needs, loading-end (plain-items loadConstant constantPiece))))  -- returns-2
