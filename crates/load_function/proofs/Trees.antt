@@ -1,5 +1,5 @@
 -- A function put together from its parts, as the definition reads it.
-use Prim.Native.Nat.{ℕ, suc, _+_, _*_, _≤_}
+use Prim.Native.Nat.{ℕ, suc, _+_, _*_, _≤_, _<_}
 use mathlib.Core.Path.{_≡_, refl, _∙_}
 use mathlib.Core.List.{List}
 use native.Mathlib.Omega.{arith}
@@ -9,8 +9,9 @@ use Rattle.format.specs.Store.{word, list, ints, constantPiece, functionPiece, 
 use Rattle.format.specs.Undump.{repaired, repairedAll}
 use Rattle.load_state.specs.declared.cursor.Cursor.{Cursor}
 use Rattle.load.specs.declared.Load.{Load}
-use Rattle.load.specs.Loads.{ReadsBy, space, Does, World, spaceOf, moved, Loads, repairedSourcePiece}
+use Rattle.load.specs.Loads.{ReadsBy, space, Does, World, world, spaceOf, moved, Loads, repairedSourcePiece}
 use Rattle.load_function.specs.Repaired.{repairedLocals, repairedNames, repairedDebugPiece, repairedConstants, repairedFunction}
+use Rattle.load_function.proofs.Lists.{function-items, Counts, Loading, loading-stop, loading-end}
 use Rattle.load.proofs.Steps.{stops, bind, done, stays-then}
 use Rattle.load.proofs.Stores.{join, regroup}
 
@@ -20,10 +21,18 @@ unfolding loadDebug
 debug-loaded h k l = bind _ h (stays-then (k .stays) (l .stays)) (λ li d. bind _ k (l .stays) (λ lo e. bind _ l (λ z. refl) (λ up f. done _ (join d (join e f)))))
 
 -- the constants, then the functions
-pub constants-loaded : {bs : List ℕ} {σ a ρ : World} (allowance : ℕ) → Loads bs (loadList loadConstant) (list constantPiece) σ a
+constants-loaded : {bs : List ℕ} {σ a ρ : World} (allowance : ℕ) → Loads bs (loadList loadConstant) (list constantPiece) σ a
     → Loads bs (loadCount >>= manyFunctions (loadFunction allowance)) (λ fs. childrenPiece (repairedAll fs)) a ρ → Loads bs (loadConstants (loadFunction allowance)) repairedConstants σ ρ
 unfolding loadConstants
 constants-loaded allowance h k = bind _ h (k .stays) (λ ks d. bind _ k (λ z. refl) (λ fs e. done _ (join d e)))
+
+module _ {bs : List ℕ} {σ ρ : World} {s s₀ : Load} {ws ws₀ ts : List ℕ} {n i : ℕ} (allowance : ℕ) (h : Loads bs (loadList loadConstant) (list constantPiece) σ (world s ws ts)) (c : Counts bs loadCount n s ws s₀ ws₀)
+    (l : Loading bs (manyFunctions (loadFunction allowance)) (λ fs. count (repairedAll fs)) (λ fs. functionPieces (repairedAll fs)) n (world s₀ ws₀ ts) i ρ) where
+  pub constants-stop : i < n → 0 < ρ .load .cursor .refusal → Loads bs (loadConstants (loadFunction allowance)) repairedConstants σ ρ
+  constants-stop k z = constants-loaded allowance h (loading-stop (function-items allowance) c l k z)
+
+  pub constants-end : n ≤ i → Loads bs (loadConstants (loadFunction allowance)) repairedConstants σ ρ
+  constants-end k = constants-loaded allowance h (loading-end (function-items allowance) c l k)
 
 -- 7
 pub function-too-deep : {bs : List ℕ} {σ ρ : World} {n : ℕ} → n ≡ 0 → σ .load .cursor .refusal ≤ 0 → ρ .load .cursor .refusal ≡ 7 → Loads bs (loadFunction n) repairedFunction σ ρ

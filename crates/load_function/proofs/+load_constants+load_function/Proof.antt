@@ -12,8 +12,8 @@ use Rattle.format.specs.Undump.{repairedAll}
 use Rattle.load.specs.declared.Load.{Load}
 use Rattle.load.specs.Loads.{world}
 use Rattle.load.proofs.Steps.{passed}
-use Rattle.load_function.proofs.Lists.{function-items, Loading, loading-start, loading-turn, loading-stop, loading-end}
-use Rattle.load_function.proofs.Trees.{constants-loaded, function-too-deep, function-loaded}
+use Rattle.load_function.proofs.Lists.{function-items, Loading, loading-start, loading-turn}
+use Rattle.load_function.proofs.Trees.{constants-stop, constants-end, function-too-deep, function-loaded}
 use borrow.Fn.Kinds.{In}
 use borrow.Fn.PlainCycle.{Measures, is, falls, and}
 use Rattle.load_function.proofs.load_constants.Reads as load-constants
@@ -87,10 +87,7 @@ load-constants-loop-holds : (t : ℕ) → load-constants-lts.Need-loop-holds (lo
 load-constants-loop-holds t c = loading-start
 
 load-constants-returns : (t : ℕ) → load-constants-lts.Need-returns (load-constants-calls t) (load-constants-at t) load-constants.Post load-constants-Inv-loop load-constants-μ-loop
-load-constants-returns t c =
-    let c₁ = c .before .before .before in let c₂ = c₁ .before .before .before .before in
-    let c₃ = c₂ .before .before .before .before .before .before in
-    constants-loaded _ (c₃ .load-pool .ensures) (loading-stop (function-items _) (c₂ .copy-count .ensures) (c₁ .loop .inv) (omega arith) (omega arith))
+load-constants-returns t c = search (needs, constants-stop)
 
 load-constants-load-function-requires : (t : ℕ) → load-constants-lts.Need-load-function-requires (load-constants-calls t) (load-constants-at t) load-constants.Post load-constants-Inv-loop load-constants-μ-loop
 load-constants-load-function-requires t c κs =
@@ -98,13 +95,10 @@ load-constants-load-function-requires t c κs =
     (omega (arith, c₁ .pre .0), tt)
 
 load-constants-loop-again : (t : ℕ) → load-constants-lts.Need-loop-again (load-constants-calls t) (load-constants-at t) load-constants.Post load-constants-Inv-loop load-constants-μ-loop
-load-constants-loop-again t c = search (needs, loading-turn (function-items (c .before .before .before .before .before .before .before .before .before .before .before .before .before .before .before .before .before .before .before .before .before .before .before .before .before .before .args .allowance)))
+load-constants-loop-again t c = search (needs, loading-turn, function-items)
 
 load-constants-returns-2 : (t : ℕ) → load-constants-lts.Need-returns-2 (load-constants-calls t) (load-constants-at t) load-constants.Post load-constants-Inv-loop load-constants-μ-loop
-load-constants-returns-2 t c =
-    let c₁ = c .before in let c₂ = c₁ .before .before .before .before in
-    let c₃ = c₂ .before .before .before .before .before .before in
-    constants-loaded _ (c₃ .load-pool .ensures) (loading-end (function-items _) (c₂ .copy-count .ensures) (c₁ .loop .inv) (omega arith))
+load-constants-returns-2 t c = search (needs, constants-end)
 
 load-function-returns : (t : ℕ) → load-function-lts.Need-returns (load-function-calls t) (load-function-at t) load-function.Post
 load-function-returns t c = passed (omega arith) refl
