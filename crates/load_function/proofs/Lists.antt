@@ -48,6 +48,10 @@ pub record Loading {L : Type 0} (bs : List ℕ) (Many : ℕ → Reader L) (size 
   pub text : length (σ .text) ≡ length (σ₀ .text)
   pub loop : Loop (LoadsAll bs Many size all) n σ₀ i σ
 
+-- over items that are changed by g before they are stored
+abbrev pub LoadingItems : {A B : Type 0} → Reader A → (A → B) → (B → Piece) → List ℕ → ℕ → World → ℕ → World → Type 0
+LoadingItems R g piece bs n σ₀ i σ = Loading bs (many R) (λ l. length (map g l)) (λ l. pieces piece (map g l)) n σ₀ i σ
+
 -- C reads the count n from s, where the words are ws, to s₀ and ws₀; whatever the text is stays
 abbrev pub Counts : List ℕ → Reader ℕ → ℕ → Load → List ℕ → Load → List ℕ → Type 0
 Counts bs C n s ws s₀ ws₀ = (t : List ℕ) → ReadsBy bs C (λ a. (a ≡ n) × Does (word a) (space s ws t) (space s₀ ws₀ t)) (s .cursor) (s₀ .cursor)
@@ -80,5 +84,7 @@ module _ {A L : Type 0} {R : Reader A} {Many : ℕ → Reader L} {size : L → �
 
 -- ---- a local
 
-pub local-loaded : {bs : List ℕ} {σ a b ρ : World} → Loads bs loadText repairedName σ a → Loads bs loadInt word a b → Loads bs loadInt word b ρ → Loads bs loadLocal repairedLocalPiece σ ρ
-local-loaded h k l = bind _ h (stays-then (k .stays) (l .stays)) (λ n d. bind _ k (l .stays) (λ s e. bind _ l (λ z. refl) (λ t f. done _ (join d (join e f)))))
+pub local-loaded : {bs ws₁ ws₂ ws₃ ts : List ℕ} {σ : World} {a b r : Load} → Loads bs loadText repairedName σ (world a ws₁ ts) → ((t : List ℕ) → Loads bs loadInt word (world a ws₁ t) (world b ws₂ t))
+    → ((t : List ℕ) → Loads bs loadInt word (world b ws₂ t) (world r ws₃ t)) → Loads bs loadLocal repairedLocalPiece σ (world r ws₃ ts)
+local-loaded {ts = ts} h k l =
+    bind _ h (stays-then (k ts .stays) (l ts .stays)) (λ n d. bind _ (k ts) (l ts .stays) (λ s e. bind _ (l ts) (λ z. refl) (λ t f. done _ (join d (join e f)))))

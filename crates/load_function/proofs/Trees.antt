@@ -15,10 +15,10 @@ use Rattle.load_function.proofs.Lists.{function-items, Counts, Loading,
 use Rattle.load.proofs.Steps.{stops, bind, done, stays-then}
 use Rattle.load.proofs.Stores.{join, regroup}
 
-pub debug-loaded : {bs : List ℕ} {σ a b ρ : World} → Loads bs (loadList loadInt) ints σ a → Loads bs (loadList loadLocal) repairedLocals a b → Loads bs (loadList loadText) repairedNames b ρ
-    → Loads bs loadDebug repairedDebugPiece σ ρ
+pub debug-loaded : {bs ws ws₁ ts : List ℕ} {s a : Load} {m ρ : World} → ((t : List ℕ) → Loads bs (loadList loadInt) ints (world s ws t) (world a ws₁ t)) → Loads bs (loadList loadLocal) repairedLocals (world a ws₁ ts) m
+    → Loads bs (loadList loadText) repairedNames m ρ → Loads bs loadDebug repairedDebugPiece (world s ws ts) ρ
 unfolding loadDebug
-debug-loaded h k l = bind _ h (stays-then (k .stays) (l .stays)) (λ li d. bind _ k (l .stays) (λ lo e. bind _ l (λ z. refl) (λ up f. done _ (join d (join e f)))))
+debug-loaded {ts = ts} h k l = bind _ (h ts) (stays-then (k .stays) (l .stays)) (λ li d. bind _ k (l .stays) (λ lo e. bind _ l (λ z. refl) (λ up f. done _ (join d (join e f)))))
 
 -- the constants, then the functions
 constants-loaded : {bs : List ℕ} {σ a ρ : World} (allowance : ℕ) → Loads bs (loadList loadConstant) (list constantPiece) σ a
@@ -35,9 +35,9 @@ module _ {bs : List ℕ} {σ ρ : World} {s s₀ : Load} {ws ws₀ ts : List ℕ
   constants-end k = constants-loaded allowance h (loading-end (function-items allowance) c l k)
 
 -- 7
-pub function-too-deep : {bs : List ℕ} {σ ρ : World} {n : ℕ} → n ≡ 0 → σ .load .cursor .refusal ≤ 0 → ρ .load .cursor .refusal ≡ 7 → Loads bs (loadFunction n) repairedFunction σ ρ
+pub function-too-deep : {bs ws ts : List ℕ} {s r : Load} {m : Cursor} {n : ℕ} → n ≡ 0 → s .cursor .refusal ≤ 0 → r ≡ moved s m → m .refusal ≡ 7 → Loads bs (loadFunction n) repairedFunction (world s ws ts) (world r ws ts)
 unfolding loadFunction
-function-too-deep e z f = rw e (stops z refl f (omega arith))
+function-too-deep e z f g = rw (e, f) (stops z refl g (omega arith))
 
 pub function-loaded : {bs : List ℕ} {σ a b c d e f ρ : World} {m₁ m₂ m₃ m₄ : Cursor} {nu np va ms v : ℕ} {p : Load} (allowance : ℕ)
     → Loads bs loadString repairedSourcePiece σ a → Loads bs loadInt word a b → Loads bs loadInt word b c

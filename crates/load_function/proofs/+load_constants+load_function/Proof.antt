@@ -2,14 +2,12 @@
 -- load_constants on the same, which counts as one more.
 use borrow.Author.Needs.{needs}
 use native.Mathlib.Omega.{arith}
-use Prim.Native.Nat.{ℕ, suc, _+_, _-_, _≤_, _<_}
-use mathlib.Core.Path.{_≡_, refl, ap, _∙_}
-use lib.ListN.{length}
+use Prim.Native.Nat.{ℕ, suc, _+_, _-_, _<_}
+use mathlib.Core.Path.{_≡_, refl, _∙_}
 use Rattle.format.specs.Tree.{count}
 use Rattle.format.specs.Read.{manyFunctions, loadFunction}
 use Rattle.format.specs.Store.{functionPieces}
 use Rattle.format.specs.Undump.{repairedAll}
-use Rattle.load.specs.declared.Load.{Load}
 use Rattle.load.specs.Loads.{world}
 use Rattle.load.proofs.Steps.{passed}
 use Rattle.load_function.proofs.Lists.{function-items, Loading, loading-start, loading-turn}
@@ -43,32 +41,16 @@ abbrev μ-load-function : Measures 3 load-function-kinds.ps ℕ
 μ-load-function κs a = a .1 .1 .1 .1 .0 + a .1 .1 .1 .1 .0
 
 abbrev load-constants-at : ℕ → In 3 load-constants-kinds.ps
-load-constants-at t =
-    and
-    3
-    load-constants-kinds.ps
-    (is 3 load-constants-kinds.ps μ-load-constants t)
-    load-constants.Pre
+load-constants-at t = and 3 load-constants-kinds.ps (is 3 load-constants-kinds.ps μ-load-constants t) load-constants.Pre
 
 abbrev load-constants-below : ℕ → In 3 load-constants-kinds.ps
-load-constants-below t =
-    and
-    3
-    load-constants-kinds.ps
-    (falls 3 load-constants-kinds.ps _<_ μ-load-constants t)
-    load-constants.Pre
+load-constants-below t = and 3 load-constants-kinds.ps (falls 3 load-constants-kinds.ps _<_ μ-load-constants t) load-constants.Pre
 
 abbrev load-function-at : ℕ → In 3 load-function-kinds.ps
-load-function-at t =
-    and 3 load-function-kinds.ps (is 3 load-function-kinds.ps μ-load-function t) load-function.Pre
+load-function-at t = and 3 load-function-kinds.ps (is 3 load-function-kinds.ps μ-load-function t) load-function.Pre
 
 abbrev load-function-below : ℕ → In 3 load-function-kinds.ps
-load-function-below t =
-    and
-    3
-    load-function-kinds.ps
-    (falls 3 load-function-kinds.ps _<_ μ-load-function t)
-    load-function.Pre
+load-function-below t = and 3 load-function-kinds.ps (falls 3 load-function-kinds.ps _<_ μ-load-function t) load-function.Pre
 
 abbrev load-constants-calls : ℕ → load-constants-lts.Claims
 load-constants-calls t = (load-pool-reads.Asked, load-pool-reads.Learnt, copy-count-reads.Asked, copy-count-reads.Learnt, load-function-below t, load-function.Post)
@@ -82,54 +64,6 @@ load-constants-Inv-loop chunk words₀ text₀ allowance n p₀ i₀ words text 
 
 abbrev load-constants-μ-loop : load-constants-lts.MeasureT-loop
 load-constants-μ-loop chunk words₀ text₀ allowance n p₀ i₀ words text p i = n - i
-
-load-constants-loop-holds : (t : ℕ) → load-constants-lts.Need-loop-holds (load-constants-calls t) (load-constants-at t) load-constants.Post load-constants-Inv-loop load-constants-μ-loop
-load-constants-loop-holds t c = loading-start
-
-load-constants-returns : (t : ℕ) → load-constants-lts.Need-returns (load-constants-calls t) (load-constants-at t) load-constants.Post load-constants-Inv-loop load-constants-μ-loop
-load-constants-returns t c = search (needs, constants-stop)
-
-load-constants-load-function-requires : (t : ℕ) → load-constants-lts.Need-load-function-requires (load-constants-calls t) (load-constants-at t) load-constants.Post load-constants-Inv-loop load-constants-μ-loop
-load-constants-load-function-requires t c κs =
-    let c₁ = c .before .before .before .before .before .before .before .before .before .before .before .before .before .before .before .before .before .before .before .before .before in
-    (omega (arith, c₁ .pre .0), tt)
-
-load-constants-loop-again : (t : ℕ) → load-constants-lts.Need-loop-again (load-constants-calls t) (load-constants-at t) load-constants.Post load-constants-Inv-loop load-constants-μ-loop
-load-constants-loop-again t c = search (needs, loading-turn, function-items)
-
-load-constants-returns-2 : (t : ℕ) → load-constants-lts.Need-returns-2 (load-constants-calls t) (load-constants-at t) load-constants.Post load-constants-Inv-loop load-constants-μ-loop
-load-constants-returns-2 t c = search (needs, constants-end)
-
-load-function-returns : (t : ℕ) → load-function-lts.Need-returns (load-function-calls t) (load-function-at t) load-function.Post
-load-function-returns t c = passed (omega arith) refl
-
-load-function-returns-2 : (t : ℕ) → load-function-lts.Need-returns-2 (load-function-calls t) (load-function-at t) load-function.Post
-load-function-returns-2 t c = function-too-deep (c .before .before .if2 .taken) (omega arith) (ap (λ (l : Load). l .cursor .refusal) (c .at .ensures) ∙ c .before .refused .ensures)
-
-load-function-sub-load-constants : (t : ℕ) → load-function-lts.Need-sub-load-constants (load-function-calls t) (load-function-at t) load-function.Post
-load-function-sub-load-constants t c =
-    let c₁ = c .before .before .before .before .before .before .before .before .before .before .before .before .before .before .before .before .before .before .before .before .before .before .before .before .before .before .before .before .before .before .before in
-    omega (arith, c₁ .if2 .left)
-
-load-function-load-constants-requires : (t : ℕ) → load-function-lts.Need-load-constants-requires (load-function-calls t) (load-function-at t) load-function.Post
-load-function-load-constants-requires t c κs =
-    let c₁ = c .before .before .before .before .before .before .before .before .before .before .before .before .before .before .before .before .before .before .before .before .before .before .before .before .before .before .before .before .before .before .before in
-    let c₂ = c₁ .before .before .before .before .before .before in
-    (omega (arith, c₂ .pre .0, c₁ .if2 .left), tt)
-
-load-function-same-length : (t : ℕ) → load-function-lts.Need-same-length (load-function-calls t) (load-function-at t) load-function.Post
-load-function-same-length t c =
-    let c₁ = c .before .before .before .before in let c₂ = c₁ .before .before .before .before .before .before .before in
-    let c₃ = c₂ .before .before .before .before .before in let c₄ = c₃ .before .before .before .before in
-    let c₅ = c₄ .before .before .before .before .before .before .before .before .before .before in
-    let c₆ = c₅ .before .before .before .before in let c₇ = c₆ .before .before .before .before .before .before in
-    c₁ .load-debug .kept .1 .0 ∙ c₂ .load-constants .kept .1 .0 ∙ c₃ .load-code .kept .1 .0 ∙ c₄ .put .kept .0 ∙ c₅ .copy-int2 .kept .1 .0 ∙ c₆ .copy-int .kept .1 .0 ∙ c₇ .load-source .kept .1 .0
-
-load-function-same-length-2 : (t : ℕ) → load-function-lts.Need-same-length-2 (load-function-calls t) (load-function-at t) load-function.Post
-load-function-same-length-2 t c =
-    let c₁ = c .before .before .before .before in let c₂ = c₁ .before .before .before .before .before .before .before in
-    let c₃ = c₂ .before .before .before .before .before .before .before .before .before .before .before .before .before .before .before .before .before .before .before .before .before .before .before .before .before .before .before .before .before in
-    c₁ .load-debug .kept .1 .1 .0 ∙ c₂ .load-constants .kept .1 .1 .0 ∙ c₃ .load-source .kept .1 .1 .0
 
 load-function-returns-3 : (t : ℕ) → load-function-lts.Need-returns-3 (load-function-calls t) (load-function-at t) load-function.Post
 load-function-returns-3 t c =
@@ -147,22 +81,40 @@ pub +load-constants+load-function-spec : {M : Type 1} → statement M
 +load-constants+load-function-spec = close μ-load-constants μ-load-function (λ t. load-constants-lts.spec
     (load-constants-calls t) (load-constants-at t) load-constants.Post load-constants-Inv-loop load-constants-μ-loop
     (λ c. search needs) (λ c. search needs)  -- load-pool-requires, copy-count-requires
-    (load-constants-loop-holds t)
+    (λ c. loading-start)  -- loop-holds
     (λ c. search needs) (λ c. search needs)  -- same-length, same-length-2
-    (load-constants-returns t) (load-constants-load-function-requires t)
+    (λ c. search (needs, constants-stop))  -- returns
+    (λ c κs.
+    let c₁ = c .before .before .before .before .before .before .before .before .before .before .before .before .before .before .before .before .before .before .before .before .before in
+    (omega (arith, c₁ .pre .0), tt))  -- load-function-requires
     (λ c. omega arith) (λ c. omega arith)  -- add-i, loop-less
-    (load-constants-loop-again t)
+    (λ c. search (needs, loading-turn, function-items))  -- loop-again
     (λ c. search needs) (λ c. search needs)  -- same-length-3, same-length-4
-    (load-constants-returns-2 t))
+    (λ c. search (needs, constants-end)))  -- returns-2
     λ t. load-function-lts.spec (load-function-calls t) (load-function-at t) load-function.Post
-    (load-function-returns t)
+    (λ c. passed (omega arith) refl)  -- returns
     (λ c. search needs) (λ c. search needs)  -- refused-requires, at-requires
-    (load-function-returns-2 t)
-    (λ c. search needs) (λ c. search needs)  -- load-source-requires, copy-int-requires
-    (λ c. search needs) (λ c. search needs)  -- copy-int-requires-2, load-byte-requires
-    (λ c. search needs) (λ c. search needs)  -- load-byte-requires-2, load-byte-requires-3
+    (λ c. search (needs, function-too-deep))  -- returns-2
+    (λ c. search needs) (λ c. search needs) (λ c. search needs)  -- load-source-requires, copy-int-requires, copy-int-requires-2
+    (λ c. search needs) (λ c. search needs) (λ c. search needs)  -- load-byte-requires, load-byte-requires-2, load-byte-requires-3
     (λ c. search needs) (λ c. search needs) (λ c. search needs)  -- load-byte-requires-4, at-requires-2, joined-requires
     (λ c. search needs) (λ c. search needs)  -- put-requires, load-code-requires
-    (load-function-sub-load-constants t) (load-function-load-constants-requires t)
+    (λ c.
+    let c₁ = c .before .before .before .before .before .before .before .before .before .before .before .before .before .before .before .before .before .before .before .before .before .before .before .before .before .before .before .before .before .before .before in
+    omega (arith, c₁ .if2 .left))  -- sub-load-constants
+    (λ c κs.
+    let c₁ = c .before .before .before .before .before .before .before .before .before .before .before .before .before .before .before .before .before .before .before .before .before .before .before .before .before .before .before .before .before .before .before in
+    let c₂ = c₁ .before .before .before .before .before .before in
+    (omega (arith, c₂ .pre .0, c₁ .if2 .left), tt))  -- load-constants-requires
     (λ c. search needs)  -- load-debug-requires
-    (load-function-same-length t) (load-function-same-length-2 t) (load-function-returns-3 t)
+    (λ c.
+    let c₁ = c .before .before .before .before in let c₂ = c₁ .before .before .before .before .before .before .before in
+    let c₃ = c₂ .before .before .before .before .before in let c₄ = c₃ .before .before .before .before in
+    let c₅ = c₄ .before .before .before .before .before .before .before .before .before .before in
+    let c₆ = c₅ .before .before .before .before in let c₇ = c₆ .before .before .before .before .before .before in
+    c₁ .load-debug .kept .1 .0 ∙ c₂ .load-constants .kept .1 .0 ∙ c₃ .load-code .kept .1 .0 ∙ c₄ .put .kept .0 ∙ c₅ .copy-int2 .kept .1 .0 ∙ c₆ .copy-int .kept .1 .0 ∙ c₇ .load-source .kept .1 .0)  -- same-length
+    (λ c.
+    let c₁ = c .before .before .before .before in let c₂ = c₁ .before .before .before .before .before .before .before in
+    let c₃ = c₂ .before .before .before .before .before .before .before .before .before .before .before .before .before .before .before .before .before .before .before .before .before .before .before .before .before .before .before .before .before in
+    c₁ .load-debug .kept .1 .1 .0 ∙ c₂ .load-constants .kept .1 .1 .0 ∙ c₃ .load-source .kept .1 .1 .0)  -- same-length-2
+    (load-function-returns-3 t)

@@ -4,14 +4,8 @@ use Rattle.load_function.proofs.Trees.{debug-loaded}
 use Rattle.load_function.proofs.load_debug.Statement.{statement}
 use Rattle.load_function.proofs.load_debug.Tie as tie
 
-returns : tie.Need-returns
-returns c =
-    let c₁ = c .before .before .before .before in let c₂ = c₁ .before .before .before .before .before .before .before in
-    let c₃ = c₂ .before .before .before .before .before in
-    debug-loaded (c₃ .load-ints .ensures _) (c₂ .load-locals .ensures) (c₁ .load-names .ensures)
-
 pub load-debug-spec : {M : Type 1} → statement M
 load-debug-spec = tie.close (tie.spec
     (λ c. search needs) (λ c. search needs)  -- load-ints-requires, load-locals-requires
     (λ c. search needs) (λ c. search needs) (λ c. search needs)  -- load-names-requires, same-length, same-length-2
-    returns)
+    (λ c. search (needs, debug-loaded)))  -- returns

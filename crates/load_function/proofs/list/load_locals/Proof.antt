@@ -2,18 +2,16 @@
 use borrow.Author.Needs.{needs}
 use native.Mathlib.Omega.{arith}
 use Prim.Native.Nat.{_-_}
-use mathlib.Core.List.{map}
-use lib.ListN.{length}
-use Rattle.format.specs.Read.{many, loadLocal}
-use Rattle.format.specs.Store.{pieces, localPiece}
+use Rattle.format.specs.Read.{loadLocal}
+use Rattle.format.specs.Store.{localPiece}
 use Rattle.format.specs.Undump.{repairedLocal}
 use Rattle.load.specs.Loads.{world}
-use Rattle.load_function.proofs.Lists.{items, Loading, loading-start, loading-turn, loading-stop, loading-end}
+use Rattle.load_function.proofs.Lists.{items, LoadingItems, loading-start, loading-turn, loading-stop, loading-end}
 use Rattle.load_function.proofs.list.load_locals.Statement.{statement}
 use Rattle.load_function.proofs.list.load_locals.Tie as tie
 
 abbrev Inv-loop : tie.InvT-loop
-Inv-loop chunk words₀ text₀ n p₀ i₀ words text p i = Loading chunk (many loadLocal) (λ l. length (map repairedLocal l)) (λ l. pieces localPiece (map repairedLocal l)) n (world p₀ words₀ text₀) i (world p words text)
+Inv-loop chunk words₀ text₀ n p₀ i₀ words text p i = LoadingItems loadLocal repairedLocal localPiece chunk n (world p₀ words₀ text₀) i (world p words text)
 
 abbrev μ-loop : tie.MeasureT-loop
 μ-loop chunk words₀ text₀ n p₀ i₀ words text p i = n - i

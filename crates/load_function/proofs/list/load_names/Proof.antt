@@ -2,18 +2,16 @@
 use borrow.Author.Needs.{needs}
 use native.Mathlib.Omega.{arith}
 use Prim.Native.Nat.{_-_}
-use mathlib.Core.List.{map}
-use lib.ListN.{length}
-use Rattle.format.specs.Read.{many, loadText}
-use Rattle.format.specs.Store.{pieces, string}
+use Rattle.format.specs.Read.{loadText}
+use Rattle.format.specs.Store.{string}
 use Rattle.utf8.specs.Utf8.{repair}
 use Rattle.load.specs.Loads.{world}
-use Rattle.load_function.proofs.Lists.{items, Loading, loading-start, loading-turn, loading-stop, loading-end}
+use Rattle.load_function.proofs.Lists.{items, LoadingItems, loading-start, loading-turn, loading-stop, loading-end}
 use Rattle.load_function.proofs.list.load_names.Statement.{statement}
 use Rattle.load_function.proofs.list.load_names.Tie as tie
 
 abbrev Inv-loop : tie.InvT-loop
-Inv-loop chunk words₀ text₀ n p₀ i₀ words text p i = Loading chunk (many loadText) (λ l. length (map repair l)) (λ l. pieces string (map repair l)) n (world p₀ words₀ text₀) i (world p words text)
+Inv-loop chunk words₀ text₀ n p₀ i₀ words text p i = LoadingItems loadText repair string chunk n (world p₀ words₀ text₀) i (world p words text)
 
 abbrev μ-loop : tie.MeasureT-loop
 μ-loop chunk words₀ text₀ n p₀ i₀ words text p i = n - i
