@@ -2,23 +2,24 @@
 use Prim.Native.Nat.{ℕ, _+_, _-_, _≤_, _<_, min}
 use mathlib.Core.Path.{_≡_, refl, sym, ap, _∙_}
 use mathlib.Core.List.{List, [], _++_, append-nil}
-use mathlib.Core.Bool.{true, false}
+use mathlib.Core.Bool.{Bool, true, false, not}
 use native.Mathlib.Omega.{arith}
 use lib.ListN.{length, take, drop, length-drop, drop-of-length-le}
 use lib.Seq.{sets, sets-eq, length-take-le}
-use borrow.Author.Tests.{le-leb, lt-leb}
+use borrow.Author.Tests.{le-leb, lt-leb, not-true, not-false}
 use Rattle.lent.specs.Memory.{far}
 use Rattle.format.specs.Tree.{Function}
 use Rattle.format.specs.Read.{Read, got, refused, loadHeader, loadFunction}
 use Rattle.format.specs.Store.{functionPiece, wordsOf, textOf}
 use Rattle.format.specs.Valid.{depth, most}
 use Rattle.format.specs.Undump.{repaired, loadChunk, undumpRefused, nameOk, over, undumpedBy, undumped}
+use Rattle.format.specs.declared.Undumped.{Undumped}
 use Rattle.load_state.specs.declared.cursor.Cursor.{Cursor}
 use Rattle.load.specs.declared.Load.{Load}
 use Rattle.load_state.specs.ReadAt.{Ends}
 use Rattle.load.specs.Loads.{ReadsBy, space, Does, world, Loads}
 use Rattle.load_function.specs.Repaired.{repairedFunction}
-use Rattle.undump.specs.Undump.{beginning}
+use Rattle.undump.specs.Undump.{beginning, undumpLeft}
 use Rattle.load.proofs.Steps.{bind, mapped}
 
 -- a state that nothing was stored from
@@ -97,31 +98,30 @@ module _ (bs ws ts : List ℕ) (c : Cursor) (need : Load) (u v : List ℕ) where
 
 -- ---- the returns of undump
 
-pub unnamed : (bs name ws ts : List ℕ) → nameOk name ≡ false → undumpRefused 1 ws ts ≡ undumped bs name ws ts
+pub unnamed : (bs name ws ts : List ℕ) {ok : Bool} {a : Undumped} → ok ≡ nameOk name → not ok ≡ true → a ≡ undumpRefused 1 [] [] .answer → undumpLeft a ws ts ≡ undumped bs name ws ts
 unfolding undumped
-unnamed bs name ws ts e = rw e
+unnamed bs name ws ts {ok} o e r = rw (r, ← o, not-true ok e)
 
-module _ (name ws ts : List ℕ) {bs u v : List ℕ} {c : Cursor} {need : Load} (e : nameOk name ≡ true) (h : ReadsBy bs loadHeader (λ v. Unit {0}) beginning c)
+module _ (name ws ts : List ℕ) {bs u v : List ℕ} {c : Cursor} {need : Load} {ok : Bool} (o : ok ≡ nameOk name) (e : not ok ≡ false) (h : ReadsBy bs loadHeader (λ v. Unit {0}) beginning c)
     (k : Loads bs (loadFunction depth) repairedFunction (world (fresh c) [] []) (world need u v)) where
-  pub refused-reading : 0 < need .cursor .refusal → undumpRefused (need .cursor .refusal) ws ts ≡ undumped bs name ws ts
+  pub refused-reading : {a : Undumped} → 0 < need .cursor .refusal → a ≡ undumpRefused (need .cursor .refusal) [] [] .answer → undumpLeft a ws ts ≡ undumped bs name ws ts
   unfolding undumped
-  refused-reading z = rw e (sym (refused-by bs ws ts c need u v (loadChunk bs) (chunk-loaded h k) z))
+  refused-reading z r = rw (r, ← o, not-false ok e) (sym (refused-by bs ws ts c need u v (loadChunk bs) (chunk-loaded h k) z))
 
-  pub refused-words : need .cursor .refusal ≤ 0 → min (length ws) most < need .words → undumpRefused 8 ws ts ≡ undumped bs name ws ts
-  unfolding undumped
-  refused-words z l = rw e (sym (few-words bs ws ts c need u v (loadChunk bs) (chunk-loaded h k) z l))
+  module _ {l : ℕ} (z : need .cursor .refusal ≤ 0) (lw : l ≡ min (length ws) most) where
+    pub refused-words : {a : Undumped} → l < need .words → a ≡ undumpRefused 8 [] [] .answer → undumpLeft a ws ts ≡ undumped bs name ws ts
+    unfolding undumped
+    refused-words i r = rw (r, ← o, not-false ok e) (sym (few-words bs ws ts c need u v (loadChunk bs) (chunk-loaded h k) z (omega arith)))
 
-  pub refused-text : need .cursor .refusal ≤ 0 → need .words ≤ min (length ws) most → min (length ts) most < need .text → undumpRefused 9 ws ts ≡ undumped bs name ws ts
-  unfolding undumped
-  refused-text z l m = rw e (sym (few-text bs ws ts c need u v (loadChunk bs) (chunk-loaded h k) z l m))
+    module _ {m : ℕ} (i : need .words ≤ l) (lt : m ≡ min (length ts) most) where
+      pub refused-text : {a : Undumped} → m < need .text → a ≡ undumpRefused 9 [] [] .answer → undumpLeft a ws ts ≡ undumped bs name ws ts
+      unfolding undumped
+      refused-text j r = rw (r, ← o, not-false ok e) (sym (few-text bs ws ts c need u v (loadChunk bs) (chunk-loaded h k) z (omega arith) (omega arith)))
 
-  pub stored : {again : Load} {ws′ ts′ : List ℕ} → need .cursor .refusal ≤ 0 → need .words ≤ min (length ws) most → need .text ≤ min (length ts) most
-      → Loads bs (loadFunction depth) repairedFunction (world (fresh c) (take (need .words) ws) (take (need .text) ts)) (world again ws′ ts′)
-      → record {
-        answer = record { refusal = 0; words = need .words; text = need .text; read = length bs - (length bs - need .cursor .next) };
-        words = ws′ ++ drop (need .words) ws;
-        text = ts′ ++ drop (need .text) ts;
-      }
-      ≡ undumped bs name ws ts
-  unfolding undumped
-  stored {again} {ws′} {ts′} z l m r = rw e (sym (stored-by bs ws ts c need u v again ws′ ts′ z l m (loadChunk bs) (chunk-loaded h k) (chunk-loaded h r)))
+      pub stored : {again : Load} {ws′ ts′ : List ℕ} {rest : ℕ} → need .text ≤ m → rest ≡ length bs - need .cursor .next
+          → Loads bs (loadFunction depth) repairedFunction (world (fresh c) (take (need .words) ws) (take (need .text) ts)) (world again ws′ ts′)
+          → undumpLeft (record { refusal = 0; words = need .words; text = need .text; read = length bs - rest }) (ws′ ++ drop (need .words) ws) (ts′ ++ drop (need .text) ts)
+          ≡ undumped bs name ws ts
+      unfolding undumped
+      stored {again} {ws′} {ts′} j r d =
+          rw (r, ← o, not-false ok e) (sym (stored-by bs ws ts c need u v again ws′ ts′ z (omega arith) (omega arith) (loadChunk bs) (chunk-loaded h k) (chunk-loaded h d)))

@@ -1,12 +1,13 @@
 -- The header: bytes that are there, or are not, or are others.
 use Prim.Native.Nat.{ℕ, _+_, _-_, _≤_, _<_}
-use mathlib.Core.Path.{_≡_}
+use mathlib.Core.Path.{_≡_, _∙_}
 use mathlib.Core.List.{List}
-use mathlib.Core.Bool.{Bool, true, false}
+use mathlib.Core.Bool.{Bool, true, false, not}
 use native.Mathlib.Omega.{arith}
 use lib.ListN.{length, take, drop, length-drop}
 use lib.Seq.{drop-drop}
-use Rattle.format.specs.Read.{loadExactly, same, signature, format, loadHeader}
+use borrow.Author.Tests.{not-true, not-false}
+use Rattle.format.specs.Read.{got, loadBlock, loadExactly, same, signature, format, loadHeader}
 use Rattle.format.proofs.RoundTrip.{same-is}
 use Rattle.load_state.specs.declared.cursor.Cursor.{Cursor}
 use Rattle.load.specs.Loads.{ReadsBy}
@@ -19,17 +20,18 @@ module _ (bs bytes : List ℕ) (n : ℕ) (s r : Cursor) (z : s .refusal ≤ 0) w
 
   module _ (t : Bool) (h : length bytes ≤ length bs - s .next)
       (tells : (t ≡ true → take (s .next + length bytes - s .next) (drop (s .next) bs) ≡ bytes) × (take (s .next + length bytes - s .next) (drop (s .next) bs) ≡ bytes → t ≡ true)) where
-    enough : length bytes ≤ length (drop (s .next) bs)
-    enough = rw length-drop h
+    -- the bytes read, and what the test says of them
+    read : loadBlock (length bytes) (drop (s .next) bs) ≡ got (take (length bytes) (drop (s .next) bs)) (drop (s .next + length bytes) bs)
+    read = let k : length bytes ≤ length (drop (s .next) bs) = rw length-drop h in block-got (length bytes) (drop (s .next) bs) k ∙ rw (drop-drop (length bytes) (s .next) bs)
 
     test : same (take (length bytes) (drop (s .next) bs)) bytes ≡ t
     test = let e : s .next + length bytes - s .next ≡ length bytes = omega arith in rw e at (same-is t _ bytes tells)
 
-    pub exactly-others : t ≡ false → r .refusal ≡ n → 0 < n → ReadsBy bs (loadExactly bytes n) (λ v. Unit {0}) s r
-    exactly-others e f k = stops z (rw (block-got (length bytes) (drop (s .next) bs) enough, test, e)) f k
+    pub exactly-others : not t ≡ true → r .refusal ≡ n → 0 < n → ReadsBy bs (loadExactly bytes n) (λ v. Unit {0}) s r
+    exactly-others e f k = stops z (rw (read, test, not-true t e)) f k
 
-    pub exactly-these : t ≡ true → r .refusal ≡ 0 → r .next ≡ s .next + length bytes → ReadsBy bs (loadExactly bytes n) (λ v. Unit {0}) s r
-    exactly-these e f g = takes {a = take (length bytes) (drop (s .next) bs)} {rest = drop (length bytes) (drop (s .next) bs)} z (rw (block-got (length bytes) (drop (s .next) bs) enough, test, e)) f (rw (drop-drop (length bytes) (s .next) bs, g)) tt
+    pub exactly-these : not t ≡ false → r .refusal ≡ 0 → r .next ≡ s .next + length bytes → ReadsBy bs (loadExactly bytes n) (λ v. Unit {0}) s r
+    exactly-these e f g = takes {a = take (length bytes) (drop (s .next) bs)} {rest = drop (s .next + length bytes) bs} z (rw (read, test, not-false t e)) f (rw g) tt
 
 pub header-loaded : {bs : List ℕ} {s m r : Cursor} → ReadsBy bs (loadExactly signature 3) (λ v. Unit {0}) s m → ReadsBy bs (loadExactly format 4) (λ v. Unit {0}) m r → ReadsBy bs loadHeader (λ v. Unit {0}) s r
 unfolding loadHeader

@@ -4,11 +4,8 @@ use Rattle.undump.proofs.Headers.{header-loaded}
 use Rattle.undump.proofs.header.load_header.Statement.{statement}
 use Rattle.undump.proofs.header.load_header.Tie as tie
 
-returns : tie.Need-returns
-returns c = header-loaded (c .before .before .load-exactly .ensures) (c .load-exactly2 .ensures)
-
 pub load-header-spec : {M : Type 1} → statement M
 load-header-spec = tie.close (tie.spec
     (λ c. search needs) (λ c. search needs)  -- slice-aggregate-load-exactly, load-exactly-requires
     (λ c. search needs) (λ c. search needs)  -- slice-aggregate-load-exactly-2, load-exactly-requires-2
-    returns)
+    (λ c. search (needs, header-loaded)))  -- returns
