@@ -5,16 +5,10 @@ use Rattle.load.proofs.Loads.{name-loaded}
 use Rattle.load.proofs.load_name.Statement.{statement}
 use Rattle.load.proofs.load_name.Tie as tie
 
-returns : tie.Need-returns
-returns c =
-    let c₁ = c .before .before in let c₂ = c₁ .before in let c₃ = c₂ .before .before .before .before in
-    let c₄ = c₃ .before .before .before .before in
-    name-loaded (c₄ .load-string .ensures) (c₂ .at .ensures) (c₃ .repair .ensures) (c₁ .put-string .ensures .0) (c₁ .put-string .ensures .1)
-
 pub load-name-spec : {M : Type 1} → statement M
 load-name-spec = tie.close (tie.spec
     (λ c. search needs) (λ c. omega arith) (λ c. search needs)  -- load-string-requires, add-end, sub-repair
     (λ c. search needs) (λ c. search needs) (λ c. search needs)  -- part-repair-start, part-repair-end, repair-requires
     (λ c. search needs) (λ c. search needs) (λ c. search needs)  -- at-requires, put-string-requires, same-length
     (λ c. search needs)  -- same-length-2
-    returns)
+    (λ c. search (needs, name-loaded)))  -- returns

@@ -11,12 +11,6 @@ returns c =
     let c₁ = c .before .before in let c₂ = c₁ .before .before in let c₃ = c₂ .before .before in let c₄ = c₃ .before in
     source-none (c₄ .load-string .ensures) (c₃ .at .ensures) (not-true _ (c₂ .if1 .taken)) (c₁ .put3 .ensures .0) (c₁ .put3 .ensures .1 _)
 
-returns-2 : tie.Need-returns-2
-returns-2 c =
-    let c₁ = c .before .before in let c₂ = c₁ .before .before .before .before in
-    let c₃ = c₂ .before .before .before .before in let c₄ = c₃ .before .before in let c₅ = c₄ .before in
-    source-own (c₅ .load-string .ensures) (c₄ .at .ensures) (not-false _ (c₃ .if1 .left)) (c₁ .put-tagged .ensures .0) (c₂ .repair .ensures) (c₁ .put-tagged .ensures .1)
-
 pub load-source-spec : {M : Type 1} → statement M
 load-source-spec = tie.close (tie.spec
     (λ c. search needs) (λ c. search needs) (λ c. search needs)  -- load-string-requires, at-requires, put3-requires
@@ -25,4 +19,4 @@ load-source-spec = tie.close (tie.spec
     (λ c. search needs) (λ c. search needs) (λ c. search needs)  -- add-end, sub-repair, part-repair-start
     (λ c. search needs) (λ c. search needs)  -- part-repair-end, repair-requires
     (λ c. search needs) (λ c. search needs) (λ c. search needs)  -- put-tagged-requires, same-length-2, same-length-3
-    returns-2)
+    (λ c. search (needs, source-own, not-false)))  -- returns-2

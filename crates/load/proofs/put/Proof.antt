@@ -1,14 +1,10 @@
 -- The word is written at the words' place, and the text stays.
 use borrow.Author.Needs.{needs}
-use mathlib.Core.Path.{refl}
 use Rattle.load.proofs.Stores.{plain-does}
 use Rattle.load.proofs.put.Statement.{statement}
 use Rattle.load.proofs.put.Tie as tie
 
-returns : tie.Need-returns
-returns c = (refl, λ t. plain-does _ (c .before .before .before .put-word .ensures))
-
 pub put-spec : {M : Type 1} → statement M
 put-spec = tie.close (tie.spec
     (λ c. search needs) (λ c. search needs)  -- put-word-requires, same-length
-    returns)
+    (λ c. search (needs, plain-does)))  -- returns

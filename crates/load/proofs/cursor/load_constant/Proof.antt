@@ -8,18 +8,6 @@ use Rattle.load.proofs.cursor.load_constant.Tie as tie
 returns : tie.Need-returns
 returns c = constant-refused (c .before .before .before .load-byte .ensures) (omega arith)
 
-returns-2 : tie.Need-returns-2
-returns-2 c = constant-nil (c .before .before .before .before .load-byte .ensures) (omega arith) (omega arith)
-
-returns-3 : tie.Need-returns-3
-returns-3 c = constant-bool (c .before .before .before .before .before .before .before .load-byte .ensures) (omega arith) (c .before .before .load-byte2 .ensures)
-
-returns-4 : tie.Need-returns-4
-returns-4 c = constant-num (c .before .before .before .before .before .before .before .load-byte .ensures) (omega arith) (c .before .before .load-int .ensures) (c .before .load-int2 .ensures)
-
-returns-5 : tie.Need-returns-5
-returns-5 c = constant-str (c .before .before .before .before .before .before .load-byte .ensures) (omega arith) (c .before .load-string .ensures)
-
 returns-6 : tie.Need-returns-6
 returns-6 c = constant-bad (c .before .before .before .before .before .load-byte .ensures) (omega arith) (λ e. omega arith) (λ e. omega arith) (λ e. omega arith) (λ e. omega arith) (c .refused .ensures)
 
@@ -30,4 +18,8 @@ load-constant-spec = tie.close (tie.spec
     (λ c. search needs) (λ c. search needs)  -- load-byte-requires-2, load-int-requires
     (λ c. search needs) (λ c. search needs)  -- load-int-requires-2, load-string-requires
     (λ c. search needs)  -- refused-requires
-    returns-2 returns-3 returns-4 returns-5 returns-6)
+    (λ c. search (needs, constant-nil))  -- returns-2
+    (λ c. search (needs, constant-bool))  -- returns-3
+    (λ c. search (needs, constant-num))  -- returns-4
+    (λ c. search (needs, constant-str))  -- returns-5
+    returns-6)

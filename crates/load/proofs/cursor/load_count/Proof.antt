@@ -5,9 +5,6 @@ use Rattle.load.proofs.Steps.{count-refused, count-large, count-taken}
 use Rattle.load.proofs.cursor.load_count.Statement.{statement}
 use Rattle.load.proofs.cursor.load_count.Tie as tie
 
-returns : tie.Need-returns
-returns c = count-refused (c .before .before .load-int .ensures) (omega arith)
-
 returns-2 : tie.Need-returns-2
 returns-2 c = count-large (c .before .before .before .before .before .load-int .ensures) (omega arith) (omega arith) (c .refused .ensures)
 
@@ -17,6 +14,6 @@ returns-3 c = count-taken (c .before .before .before .before .load-int .ensures)
 pub load-count-spec : {M : Type 1} → statement M
 load-count-spec = tie.close (tie.spec
     (λ c. search needs)  -- load-int-requires
-    returns
+    (λ c. count-refused (c .before .before .load-int .ensures) (omega arith))  -- returns
     (λ c. search needs)  -- refused-requires
     returns-2 returns-3)

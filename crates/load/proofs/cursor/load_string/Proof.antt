@@ -9,9 +9,6 @@ use Rattle.load.proofs.cursor.load_string.Tie as tie
 returns : tie.Need-returns
 returns c = string-refused (c .before .before .before .before .load-size .ensures) (omega arith) (c .no-string .ensures)
 
-returns-2 : tie.Need-returns-2
-returns-2 c = string-none (c .before .before .before .before .before .load-size .ensures) (omega arith) (omega arith) (c .no-string2 .ensures)
-
 returns-3 : tie.Need-returns-3
 returns-3 c = string-short (c .before .before .before .before .before .before .before .before .load-size .ensures) (omega arith) (omega arith) (omega arith) (c .before .refused .ensures) (c .no-string3 .ensures)
 
@@ -23,7 +20,7 @@ load-string-spec = tie.close (tie.spec
     (λ c. search needs) (λ c. search needs)  -- load-size-requires, no-string-requires
     returns
     (λ c. search needs)  -- no-string-requires-2
-    returns-2
+    (λ c. search (needs, string-none))  -- returns-2
     (λ c. search needs) (λ c. search needs)  -- remaining-requires, refused-requires
     (λ c. search needs)  -- no-string-requires-3
     returns-3

@@ -20,14 +20,6 @@ loop-holds : tie.Need-loop-holds Inv-loop μ-loop
 unfolding fours
 loop-holds c = (omega arith, refl, refl)
 
-loop-again : tie.Need-loop-again Inv-loop μ-loop
-loop-again c =
-    let c₁ = c .before .before .before .before .before .before in let c₂ = c₁ .before .before .before in
-    (omega arith, simp length-set (c₁ .loop .inv .1), fill-more (c₂ .args .chunk .now) (c₂ .args .words .now) (c₂ .args .from) (c₂ .args .at) (c₁ .loop .i) (c .joined .ensures) (c₁ .loop .inv .2))
-
-same-length : tie.Need-same-length Inv-loop μ-loop
-same-length c = c .before .loop .inv .1
-
 returns : tie.Need-returns Inv-loop μ-loop
 returns c =
     let e : c .before .loop .i ≡ c .before .before .before .before .args .n = omega arith in
@@ -41,4 +33,6 @@ fill-spec = tie.close (tie.spec Inv-loop μ-loop loop-holds
     (λ c. omega arith) (λ c. search needs) (λ c. omega arith)  -- shared-slice-read-joined-4, joined-requires, add-words
     (λ c. omega arith) (λ c. omega arith) (λ c. omega arith)  -- mul-words, slice-write-words, add-i
     (λ c. omega arith)  -- loop-less
-    loop-again same-length returns)
+    (λ c. search (needs, length-set, fill-more))  -- loop-again
+    (λ c. search needs)  -- same-length
+    returns)
