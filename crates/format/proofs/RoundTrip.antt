@@ -151,49 +151,27 @@ unfoldable mutual
   readBackAll Functions.none strip source = Functions.none
   readBackAll (Functions.more f fs) strip source = Functions.more (readBack f strip source source) (readBackAll fs strip source)
 
--- where the text of a tree is not too long, no part's is
-record TextFits (p : Parts) (fs : Functions) : Type 0 where
-  source : length (sourcePiece (p .source) .text) ≤ most
-  constants : length (pieces constantPiece (p .constants) .text) ≤ most
-  functions : length (functionPieces fs .text) ≤ most
-  locals : length (pieces localPiece (p .debug .locals) .text) ≤ most
-  upvalues : length (pieces string (p .debug .upvalues) .text) ≤ most
-
-text-fits : (p : Parts) (fs : Functions) → length (textOf (Function.function p fs)) ≤ most → TextFits p fs
-unfolding functionPiece
-text-fits p fs h =
-    let m = simp length-append at h in
-    record { source = omega arith; constants = omega arith; functions = omega arith; locals = omega arith; upvalues = omega arith }
-
 filled-short : (outer : List ℕ) (s : Source) → length outer ≤ most → length (sourcePiece s .text) ≤ most → length (filled outer s) ≤ most
 filled-short outer Source.inherited h m = h
 filled-short outer (Source.own s) h m = m
 
-elided-short : (around s : List ℕ) → length s ≤ most → length (filled [] (elided around s)) ≤ most
-elided-short around s h = by (same s around)
-  where
-    by : (b : Bool) → length (filled [] (cond b Source.inherited (Source.own s))) ≤ most
-    by true = omega arith
-    by false = h
-
-kept-law : (strip : Bool) (d : Debug) → ValidDebug d → length (pieces localPiece (d .locals) .text) ≤ most → length (pieces string (d .upvalues) .text) ≤ most
-    → Reads loadDebug (dumpDebug (kept strip d)) (kept strip d)
-unfolding pieces
-kept-law true d v h k = debug-law noDebug no-debug (omega arith) (omega arith)
-kept-law false d v h k = debug-law d v h k
+-- what holds of both holds of either
+either : {A : Type 0} (P : A → Type 0) (b : Bool) {x y : A} → P x → P y → P (cond b x y)
+either P true h k = h
+either P false h k = k
 
 mutual
-  unfolding readBack dumpFunction loadFunction manyFunctions count Valid functionPiece
+  unfolding readBack dumpFunction loadFunction manyFunctions count Valid functionPiece pieces
 
   pub function-law : (f : Function) (allowance : ℕ) (strip : Bool) (around outer : List ℕ) → Valid f allowance → length (textOf f) ≤ most → length outer ≤ most
       → Reads (loadFunction allowance) (dumpFunction f strip around outer) (readBack f strip around outer)
   function-law (Function.function p fs) zero strip around outer v m h = absurd v
   function-law (Function.function p fs) (suc allowance) strip around outer v m h =
-      let t = text-fits p fs m in
+      let t = simp length-append at m in
       let s = filled outer (p .source) in
-      let short = filled-short outer (p .source) h (t .source) in
+      let short = filled-short outer (p .source) h (omega arith) in
       bytes-are (simp append-assoc)
-      (step _ _ (string-law (elided around s) (elided-short around s short))
+      (step _ _ (string-law (elided around s) (either (λ x. length (filled [] x) ≤ most) (same s around) (omega arith) short))
       (step _ _ (int-law (p .lineDefined) (v .0 .lineDefined))
       (step _ _ (int-law (p .lastLineDefined) (v .0 .lastLineDefined))
       (step _ _ (byte-law (p .numUpvalues))
@@ -201,8 +179,8 @@ mutual
       (step _ _ (byte-law (p .isVararg))
       (step _ _ (byte-law (p .maxStackSize))
       (step _ _ (list-law loadInt dumpInt int-law (p .code) (v .0 .code))
-      (step _ _ (constants-law (loadFunction allowance) (p .constants) (count fs) (readBackAll fs strip s) _ (v .0 .constants) (t .constants) (v .1) (functions-law fs allowance strip s (v .2) (t .functions) short))
-      (last _ (pure _) (kept-law strip (p .debug) (v .0 .debug) (t .locals) (t .upvalues))))))))))))
+      (step _ _ (constants-law (loadFunction allowance) (p .constants) (count fs) (readBackAll fs strip s) _ (v .0 .constants) (omega arith) (v .1) (functions-law fs allowance strip s (v .2) (omega arith) short))
+      (last _ (pure _) (either (λ d. Reads loadDebug (dumpDebug d) d) strip (debug-law noDebug no-debug (omega arith) (omega arith)) (debug-law (p .debug) (v .0 .debug) (omega arith) (omega arith)))))))))))))
 
   pub functions-law : (fs : Functions) (allowance : ℕ) (strip : Bool) (source : List ℕ) → ValidAll fs allowance → length (functionPieces fs .text) ≤ most → length source ≤ most
       → Reads (manyFunctions (loadFunction allowance) (count fs)) (dumpFunctions fs strip source) (readBackAll fs strip source)
@@ -217,32 +195,9 @@ pub filled-name : (outer : List ℕ) (s : Source) → Name outer → ValidSource
 filled-name outer Source.inherited h v = h
 filled-name outer (Source.own s) h v = v
 
-elided-valid : (around s : List ℕ) → Name s → ValidSource (elided around s)
-elided-valid around s h = by (same s around)
-  where
-    by : (b : Bool) → ValidSource (cond b Source.inherited (Source.own s))
-    by true = tt
-    by false = h
-
-kept-valid : (strip : Bool) (d : Debug) → ValidDebug d → ValidDebug (kept strip d)
-kept-valid true d v = no-debug
-kept-valid false d v = v
-
 -- the parts with another source and other debug lists
 pub with-valid : (s : Source) (d : Debug) (p : Parts) → ValidSource s → ValidDebug d → ValidParts p → ValidParts (with s d p)
-with-valid s d p hs hd v =
-    record {
-      source = hs;
-      lineDefined = v .lineDefined;
-      lastLineDefined = v .lastLineDefined;
-      numUpvalues = v .numUpvalues;
-      numParams = v .numParams;
-      isVararg = v .isVararg;
-      maxStackSize = v .maxStackSize;
-      code = v .code;
-      constants = v .constants;
-      debug = hd;
-    }
+with-valid s d p hs hd v = search
 
 mutual
   unfolding readBack Valid count
@@ -251,7 +206,7 @@ mutual
   found-valid (Function.function p fs) zero strip around outer v h = v
   found-valid (Function.function p fs) (suc allowance) strip around outer v h =
       let s = filled-name outer (p .source) h (v .0 .source) in (
-        with-valid _ _ p (elided-valid around (filled outer (p .source)) s) (kept-valid strip (p .debug) (v .0 .debug)) (v .0),
+        with-valid _ _ p (either ValidSource (same (filled outer (p .source)) around) tt s) (either ValidDebug strip no-debug (v .0 .debug)) (v .0),
         omega (arith, found-count fs strip (filled outer (p .source)), v .1),
         found-all-valid fs allowance strip (filled outer (p .source)) (v .2) s,
       )
