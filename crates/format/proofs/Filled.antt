@@ -29,19 +29,9 @@ same-debug d = record { lines = refl; locals = refl; upvalues = refl }
 
 -- where all fields are the same the parts are
 parts-one : {p p′ : Parts} {s s′ : Source} {d d′ : Debug} → SameBody p p′ → s ≡ s′ → SameDebug d d′ → with s d p ≡ with s′ d′ p′
-parts-one h e k i =
-    record {
-      source = e i;
-      lineDefined = h .lineDefined i;
-      lastLineDefined = h .lastLineDefined i;
-      numUpvalues = h .numUpvalues i;
-      numParams = h .numParams i;
-      isVararg = h .isVararg i;
-      maxStackSize = h .maxStackSize i;
-      code = h .code i;
-      constants = h .constants i;
-      debug = record { lines = k .lines i; locals = k .locals i; upvalues = k .upvalues i };
-    }
+parts-one {d = d} {d′ = d′} h e k =
+    let f : d ≡ d′ = λ i. record { lines = k .lines i; locals = k .locals i; upvalues = k .upvalues i } in
+    rw (h .lineDefined, h .lastLineDefined, h .numUpvalues, h .numParams, h .isVararg, h .maxStackSize, h .code, h .constants, e, f)
 
 -- ---- fill changes inherited sources alone
 
@@ -94,21 +84,9 @@ agree-parts : (outer : List ℕ) (p : Parts) (outer′ : List ℕ) (p′ : Parts
     → with (Source.own (filled outer (p .source))) (p .debug) p ≡ with (Source.own (filled outer′ (p′ .source))) (p′ .debug) p′ → SameParts outer p outer′ p′
 agree-parts outer p outer′ p′ e =
     let own : Source.own (filled outer (p .source)) ≡ Source.own (filled outer′ (p′ .source)) = ap (λ (q : Parts). q .source) e in
-    record {
-      source = cc;
-      body =
-          record {
-            lineDefined = ap (λ (q : Parts). q .lineDefined) e;
-            lastLineDefined = ap (λ (q : Parts). q .lastLineDefined) e;
-            numUpvalues = ap (λ (q : Parts). q .numUpvalues) e;
-            numParams = ap (λ (q : Parts). q .numParams) e;
-            isVararg = ap (λ (q : Parts). q .isVararg) e;
-            maxStackSize = ap (λ (q : Parts). q .maxStackSize) e;
-            code = ap (λ (q : Parts). q .code) e;
-            constants = ap (λ (q : Parts). q .constants) e;
-          };
-      debug = record { lines = ap (λ (q : Parts). q .debug .lines) e; locals = ap (λ (q : Parts). q .debug .locals) e; upvalues = ap (λ (q : Parts). q .debug .upvalues) e };
-    }
+    let body = rw e at (same-body (Source.own (filled outer (p .source))) (p .debug) p) in
+    let debug : p .debug ≡ p′ .debug = ap (λ (q : Parts). q .debug) e in
+    record { source = cc; body = search; debug = rw debug (same-debug (p′ .debug)) }
 
 mutual
   unfolding fill ByFunction

@@ -201,22 +201,7 @@ function-gives (suc allowance) =
     bind _ (list-gives int-gives) (λ code h₈.
     bind _ (constants-gives allowance (function-gives allowance)) (λ ks h₉.
     bind _ debug-gives (λ de h.
-    pure _ (
-      record {
-        source = source-valid src;
-        lineDefined = h₂;
-        lastLineDefined = h₃;
-        numUpvalues = h₄;
-        numParams = h₅;
-        isVararg = h₆;
-        maxStackSize = h₇;
-        code = h₈;
-        constants = h₉ .constants;
-        debug = h;
-      },
-      h₉ .short,
-      h₉ .functions,
-    )))))))))))
+    pure _ (search source-valid)))))))))))
 
 header-gives : Gives loadHeader (λ s. Unit {0})
 unfolding loadHeader
