@@ -17,53 +17,41 @@ use Rattle.format.specs.Read.{Read, Reader, got, refused, andThen, _>>=_
 use Rattle.format.specs.Valid.{depth, Name, ValidSource, ValidConstant, ValidLocal, ValidList, ValidDebug, Valid, ValidAll}
 use Rattle.format.specs.Undump.{repairedSource, repairedLocal, repairedDebug, repaired, repairedAll, loadChunk}
 
--- of bytes, the reader r gives only values of which P holds, and leaves bytes; it refuses by 2 to 7 only
-record Gives {A : Type 0} (r : Reader A) (P : A → Type 0) : Type 0 where
-  gives : (bs : List ℕ) → Bytes bs → (a : A) (rest : List ℕ) → r bs ≡ got a rest → P a × Bytes rest
-  refuses : (bs : List ℕ) → Bytes bs → (n : ℕ) → r bs ≡ refused n → (2 ≤ n) × (n ≤ 7)
+-- what reading gives: a value of which P holds, with bytes left, or a refusal by 2 to 7
+abbrev Good : {A : Type 0} → (A → Type 0) → Read A → Type 0
+Good P (got a rest) = P a × Bytes rest
+Good P (refused n) = (2 ≤ n) × (n ≤ 7)
 
--- a value is no refusal
-got-refused : {A : Type 0} {a : A} {rest : List ℕ} {n : ℕ} → got a rest ≡ refused n → ⊥
-got-refused e = let z : _≡_ {A = ℕ} 0 1 = cc in omega arith
+-- so does the reader r, of any bytes
+record Gives {A : Type 0} (r : Reader A) (P : A → Type 0) : Type 0 where
+  gives : (bs : List ℕ) → Bytes bs → Good P (r bs)
 
 pure : {A : Type 0} {P : A → Type 0} (a : A) → P a → Gives (return a) P
-pure {P} a p =
-    record {
-      gives = λ bs h b rest e. let e₁ : a ≡ b = cc in let e₂ : bs ≡ rest = cc in (rw (← e₁) p, rw (← e₂) h);
-      refuses = λ bs h n e. absurd (got-refused e);
-    }
+pure a p = record { gives = λ bs h. (p, h) }
 
 never : {A : Type 0} {P : A → Type 0} (n : ℕ) → 2 ≤ n → n ≤ 7 → Gives (refuse {A = A} n) P
-never n low high =
-    record {
-      gives = λ bs h b rest e. absurd (got-refused (sym e));
-      refuses = λ bs h m e. let i : n ≡ m = cc in (omega arith, omega arith);
-    }
+never n low high = record { gives = λ bs h. (low, high) }
 
 bind : {A B : Type 0} {r : Reader A} {P : A → Type 0} {Q : B → Type 0} (k : A → Reader B) → Gives r P → ((a : A) → P a → Gives (k a) Q) → Gives (r >>= k) Q
-bind {A} {B} {r} {P} {Q} k p q = record { gives = λ bs h b rest e. by bs h b rest (r bs) refl e; refuses = λ bs h n e. on bs h n (r bs) refl e }
+bind {A} {B} {r} {P} {Q} k p q = record { gives = λ bs h. by (r bs) (p .gives bs h) }
   where
-    by : (bs : List ℕ) → Bytes bs → (b : B) (rest : List ℕ) (x : Read A) → r bs ≡ x → andThen x k ≡ got b rest → Q b × Bytes rest
-    by bs h b rest (got a cs) e f = let g = p .gives bs h a cs e in q a (g .0) .gives cs (g .1) b rest f
-    by bs h b rest (refused n) e f = absurd (got-refused (sym f))
-
-    on : (bs : List ℕ) → Bytes bs → (n : ℕ) (x : Read A) → r bs ≡ x → andThen x k ≡ refused n → (2 ≤ n) × (n ≤ 7)
-    on bs h n (got a cs) e f = let g = p .gives bs h a cs e in q a (g .0) .refuses cs (g .1) n f
-    on bs h n (refused m) e f = let i : m ≡ n = cc in rw i at (p .refuses bs h m e)
+    by : (x : Read A) → Good P x → Good Q (andThen x k)
+    by (got a rest) g = q a (g .0) .gives rest (g .1)
+    by (refused n) g = g
 
 weaken : {A : Type 0} {r : Reader A} {P Q : A → Type 0} → ((a : A) → P a → Q a) → Gives r P → Gives r Q
-weaken f p = record { gives = λ bs h a rest e. let g = p .gives bs h a rest e in (f a (g .0), g .1); refuses = p .refuses }
+weaken {A} {r} {P} {Q} f p = record { gives = λ bs h. by (r bs) (p .gives bs h) }
+  where
+    by : (x : Read A) → Good P x → Good Q x
+    by (got a rest) g = (f a (g .0), g .1)
+    by (refused n) g = g
 
 -- a test before going on
 test : {A : Type 0} {r s : Reader A} {P : A → Type 0} (b : Bool) → (b ≡ true → Gives r P) → (b ≡ false → Gives s P) → Gives (cond b r s) P
 test true p q = p refl
 test false p q = q refl
 
--- ---- parts of bytes are bytes
-
-split : (b : ℕ) (bs : List ℕ) → Bytes (b ∷ bs) → Byte b × Bytes bs
-unfolding Every
-split b bs h = h
+-- ---- lists of which each item is changed
 
 every-map : {A : Type 0} (P : A → Type 0) (g : A → A) (l : List A) → Every (λ a. P (g a)) l → Every P (map g l)
 unfolding Every
@@ -80,32 +68,19 @@ abbrev Block : ℕ → List ℕ → Type 0
 Block n s = Bytes s × (length s ≡ n)
 
 block-gives : (n : ℕ) → Gives (loadBlock n) (Block n)
-block-gives n = record { gives = λ bs h s rest e. by bs h s rest (leb n (length bs)) refl e; refuses = λ bs h m e. on bs m (leb n (length bs)) e }
+block-gives n = record { gives = λ bs h. by bs h (leb n (length bs)) refl }
   where
-    block : List ℕ → Bool → Read (List ℕ)
-    block bs b = elim b [ true ↦ got (take n bs) (drop n bs) | false ↦ refused 2 ]
-
-    by : (bs : List ℕ) → Bytes bs → (s rest : List ℕ) (b : Bool) → leb n (length bs) ≡ b → block bs b ≡ got s rest → Block n s × Bytes rest
-    by bs h s rest true t e =
-        let e₁ : take n bs ≡ s = cc in
-        let e₂ : drop n bs ≡ rest = cc in
-        (rw (← e₁) (every-take Byte n bs h, length-take-le n bs (leb-true n (length bs) t)), rw (← e₂) (every-drop Byte n bs h))
-    by bs h s rest false t e = absurd (got-refused (sym e))
-
-    on : (bs : List ℕ) (m : ℕ) (b : Bool) → block bs b ≡ refused m → (2 ≤ m) × (m ≤ 7)
-    on bs m true e = absurd (got-refused e)
-    on bs m false e = let i : 2 ≡ m = cc in (omega arith, omega arith)
+    by : (bs : List ℕ) → Bytes bs → (b : Bool) → leb n (length bs) ≡ b → Good (Block n) (elim b [ true ↦ got (take n bs) (drop n bs) | false ↦ refused 2 ])
+    by bs h true t = ((every-take Byte n bs h, length-take-le n bs (leb-true n (length bs) t)), every-drop Byte n bs h)
+    by bs h false t = omega arith
 
 byte-gives : Gives loadByte Byte
-byte-gives = record { gives = by; refuses = on }
+unfolding Every
+byte-gives = record { gives = by }
   where
-    by : (bs : List ℕ) → Bytes bs → (b : ℕ) (rest : List ℕ) → loadByte bs ≡ got b rest → Byte b × Bytes rest
-    by [] h b rest e = absurd (got-refused (sym e))
-    by (c ∷ cs) h b rest e = let e₁ : c ≡ b = cc in let e₂ : cs ≡ rest = cc in (rw (← e₁) (split c cs h .0), rw (← e₂) (split c cs h .1))
-
-    on : (bs : List ℕ) → Bytes bs → (n : ℕ) → loadByte bs ≡ refused n → (2 ≤ n) × (n ≤ 7)
-    on [] h n e = let i : 2 ≡ n = cc in (omega arith, omega arith)
-    on (c ∷ cs) h n e = absurd (got-refused e)
+    by : (bs : List ℕ) → Bytes bs → Good Byte (loadByte bs)
+    by [] h = omega arith
+    by (b ∷ bs) h = h
 
 value-below : (n : ℕ) (s : List ℕ) → Bytes s → length s ≡ n → littleEndian s < 256 ^ n
 unfolding littleEndian Every
@@ -217,7 +192,7 @@ chunk-gives = bind _ header-gives (λ s h. bind _ (function-gives depth) (λ f k
 -- ==== the statement: what is read of a chunk's bytes is a well-formed tree, and reading refuses by 2 to 7 only
 
 pub loaded-valid : (chunk : List ℕ) → Bytes chunk → (f : Function) (rest : List ℕ) → loadChunk chunk ≡ got f rest → Valid f depth
-loaded-valid chunk h f rest e = chunk-gives .gives chunk h f rest e .0
+loaded-valid chunk h f rest e = (rw e at (chunk-gives .gives chunk h)) .0
 
 pub load-refuses : (chunk : List ℕ) → Bytes chunk → (n : ℕ) → loadChunk chunk ≡ refused n → (2 ≤ n) × (n ≤ 7)
-load-refuses chunk h n e = chunk-gives .refuses chunk h n e
+load-refuses chunk h n e = rw e at (chunk-gives .gives chunk h)
