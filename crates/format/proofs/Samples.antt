@@ -32,22 +32,15 @@ sample =
     ∷ 0 ∷ 0 ∷ 0 ∷ 0
     ∷ []
 
-abbrev sampleTree : Function
-sampleTree =
+-- a function with this source, vararg flag, code, constants and debug lists, and these functions in it
+abbrev made : Source → ℕ → List ℕ → List Constant → Debug → Functions → Function
+made s vararg code ks d fs =
     Function.function
-    (record {
-      source = Source.own (0x40 ∷ 0x61 ∷ []);
-      lineDefined = 0;
-      lastLineDefined = 0;
-      numUpvalues = 0;
-      numParams = 0;
-      isVararg = 2;
-      maxStackSize = 2;
-      code = 0x0080001e ∷ [];
-      constants = [];
-      debug = record { lines = 1 ∷ []; locals = []; upvalues = [] };
-    })
-    Functions.none
+    (record { source = s; lineDefined = 0; lastLineDefined = 0; numUpvalues = 0; numParams = 0; isVararg = vararg; maxStackSize = 2; code = code; constants = ks; debug = d })
+    fs
+
+abbrev sampleTree : Function
+sampleTree = made (Source.own (0x40 ∷ 0x61 ∷ [])) 2 (0x0080001e ∷ []) [] (record { lines = 1 ∷ []; locals = []; upvalues = [] }) Functions.none
 
 sample-read : loadChunk sample ≡ got sampleTree []
 unfolding sample loadChunk loadHeader same loadFunction loadConstants loadDebug many manyFunctions littleEndian repaired repairUpTo firstStep whole begun matched
@@ -64,24 +57,10 @@ sample-stored : treeOf sampleWords (0x40 ∷ 0x61 ∷ []) ≡ some sampleTree
 unfolding treeOf storedFunction many manyFunctions both? as? true? every? same? valid? decLe decLt ℕ-discrete functionPiece pieces count Every Valid utf8UpTo firstStep whole begun matched
 sample-stored = refl
 
--- ---- sources: a function with this source and these functions in it
+-- ---- sources: a function with this source and these functions in it, and a constant of each kind
 
 abbrev sourced : Source → Debug → Functions → Function
-sourced s d fs =
-    Function.function
-    (record {
-      source = s;
-      lineDefined = 0;
-      lastLineDefined = 0;
-      numUpvalues = 0;
-      numParams = 0;
-      isVararg = 0;
-      maxStackSize = 2;
-      code = [];
-      constants = Constant.nil ∷ Constant.bool true ∷ Constant.num 0x80000000 0 ∷ Constant.str (0xff ∷ []) ∷ [];
-      debug = d;
-    })
-    fs
+sourced s d fs = made s 0 [] (Constant.nil ∷ Constant.bool true ∷ Constant.num 0x80000000 0 ∷ Constant.str (0xff ∷ []) ∷ []) d fs
 
 abbrev one : Function → Functions
 one f = Functions.more f Functions.none

@@ -9,7 +9,7 @@ use native.Mathlib.Omega.{arith}
 use lib.ListN.{length}
 use lib.Seq.{take-at, drop-at, drop-drop}
 use Rattle.format.specs.Tree.{Constant, Source, Local, Debug, Parts, Function, Functions, count}
-use Rattle.format.specs.Read.{Read, Reader, got, refused, _>>=_, loadByte as word, many, manyFunctions}
+use Rattle.format.specs.Read.{Read, Reader, got, refused, _>>=_, return, loadByte as word, many, manyFunctions}
 use Rattle.format.specs.Store.{Piece, word as wordPiece, _⊕_, string, pieces, list, ints, sourcePiece, constantPiece, localPiece, debugPiece, packed, functionPiece, functionPieces, textOf}
 use Rattle.format.specs.Valid.{depth, ValidParts, Valid, ValidAll, Holds}
 use Rattle.format.specs.Stored.{part, Here, storedSource, storedConstant, storedName, storedLocal, storedDebug, storedFunction, holds?, heldBy, treeOf}
@@ -46,26 +46,23 @@ module _ (text : List ℕ) where
   word-law : (w : ℕ) → Finds word (wordPiece w) w
   word-law w = record { find = λ at h. byte-law w }
 
-  name-law : (s : List ℕ) → Finds (storedName text) (string s) s
-  name-law s = record { find = λ at h. step _ _ (byte-law at) (last _ (value-is (here-part s h) (pure _)) (byte-law (length s))) }
+  -- a string's place and length, of which g is made
+  string-law : {A : Type 0} (g : List ℕ → A) (s : List ℕ) → Finds (word >>= λ place. word >>= λ n. return (g (part text place n))) (string s) (g s)
+  string-law g s = record { find = λ at h. step _ _ (byte-law at) (last _ (value-is (ap g (here-part s h)) (pure _)) (byte-law (length s))) }
 
   source-law : (s : Source) → Finds (storedSource text) (sourcePiece s) s
   source-law Source.inherited = next _ _ (word-law 0) (next _ _ (word-law 0) (ends _ (pure _) (word-law 0)))
-  source-law (Source.own s) =
-      next _ _ (word-law 1)
-      (record { find = λ at h. step _ _ (byte-law at) (last _ (value-is (ap Source.own (here-part s h)) (pure _)) (byte-law (length s))) })
+  source-law (Source.own s) = next _ _ (word-law 1) (string-law Source.own s)
 
   constant-law : (k : Constant) → Finds (storedConstant text) (constantPiece k) k
   constant-law Constant.nil = next _ _ (word-law 0) (next _ _ (word-law 0) (ends _ (pure _) (word-law 0)))
   constant-law (Constant.bool true) = next _ _ (word-law 1) (next _ _ (word-law 1) (ends _ (pure _) (word-law 0)))
   constant-law (Constant.bool false) = next _ _ (word-law 1) (next _ _ (word-law 0) (ends _ (pure _) (word-law 0)))
   constant-law (Constant.num high low) = next _ _ (word-law 3) (next _ _ (word-law high) (ends _ (pure _) (word-law low)))
-  constant-law (Constant.str s) =
-      next _ _ (word-law 4)
-      (record { find = λ at h. step _ _ (byte-law at) (last _ (value-is (ap Constant.str (here-part s h)) (pure _)) (byte-law (length s))) })
+  constant-law (Constant.str s) = next _ _ (word-law 4) (string-law Constant.str s)
 
   local-law : (v : Local) → Finds (storedLocal text) (localPiece v) v
-  local-law v = next _ _ (name-law (v .name)) (next _ _ (word-law (v .start)) (ends _ (pure _) (word-law (v .end))))
+  local-law v = next _ _ (string-law (λ s. s) (v .name)) (next _ _ (word-law (v .start)) (ends _ (pure _) (word-law (v .end))))
 
   many-law : {A : Type 0} (r : Reader A) (piece : A → Piece) → ((a : A) → Finds r (piece a) a) → (l : List A) → Finds (many r (length l)) (pieces piece l) l
   unfolding many pieces
@@ -84,7 +81,7 @@ module _ (text : List ℕ) where
   ints-law l = record { find = λ at h. step _ l (byte-law (length l)) (words-law l) }
 
   debug-law : (d : Debug) → Finds (storedDebug text) (debugPiece d) d
-  debug-law d = next _ _ (ints-law (d .lines)) (next _ _ (list-law (storedLocal text) localPiece local-law (d .locals)) (ends _ (pure _) (list-law (storedName text) string name-law (d .upvalues))))
+  debug-law d = next _ _ (ints-law (d .lines)) (next _ _ (list-law (storedLocal text) localPiece local-law (d .locals)) (ends _ (pure _) (list-law (storedName text) string (string-law (λ s. s)) (d .upvalues))))
 
   mutual
     unfolding storedFunction functionPiece manyFunctions count Valid
