@@ -9,7 +9,7 @@ use lib.ListN.{length, drop, getD, drop-of-length-le}
 use lib.Dec.{eqb}
 use borrow.Author.Tests.{eqb-true}
 use Rattle.lent.proofs.Lists.{drop-more}
-use Rattle.utf8.specs.Utf8.{Range, _‥_, Row, table3-7, matched, whole, begun, firstStep}
+use Rattle.utf8.specs.Utf8.{Row, table3-7, matched, whole, begun, firstStep}
 use Rattle.utf8.specs.Rows.{rowOf, secondRange, ranges, begunAt}
 use Rattle.utf8.proofs.Rows.{row-step}
 
@@ -34,7 +34,7 @@ same-is (r ∷ p) (s ∷ q) e =
     λ i. record { low = low i; high = high i } ∷ same-is p q (k .1) i
 
 -- whether a test passes at n numbers from one on
-unfoldable pub passes : (ℕ → Bool) → ℕ → ℕ → Bool
+unfoldable passes : (ℕ → Bool) → ℕ → ℕ → Bool
 passes f from zero = true
 passes f from (suc n) = f from && passes f (suc from) n
 
@@ -51,8 +51,16 @@ passes-at f from (suc n) b e h k =
 -- ---- the rows of table 3-7
 
 -- the bytes of a range lead rows of n
-pub len-from : (n low high : ℕ) → passes (λ b. eqb n (length (rowOf table3-7 b))) low (suc high - low) ≡ true → (b : ℕ) → low ≤ b → b ≤ high → n ≡ length (rowOf table3-7 b)
-len-from n low high e b h k = eqb-true n (length (rowOf table3-7 b)) (passes-at (λ b. eqb n (length (rowOf table3-7 b))) low (suc high - low) b e h (omega arith))
+abbrev pub Led : ℕ → ℕ → ℕ → Type 0
+Led n low high = (b : ℕ) → low ≤ b → b ≤ high → n ≡ length (rowOf table3-7 b)
+
+-- computed for each of them
+pub rows-led : Led 1 0x00 0x7f × Led 0 0x80 0xc1 × Led 2 0xc2 0xdf × Led 3 0xe0 0xef × Led 4 0xf0 0xf4 × Led 0 0xf5 0xff
+unfolding passes rowOf
+rows-led = (led 1 0x00 0x7f refl, led 0 0x80 0xc1 refl, led 2 0xc2 0xdf refl, led 3 0xe0 0xef refl, led 4 0xf0 0xf4 refl, led 0 0xf5 0xff refl)
+  where
+    led : (n low high : ℕ) → passes (λ b. eqb n (length (rowOf table3-7 b))) low (suc high - low) ≡ true → Led n low high
+    led n low high e b h k = eqb-true n (length (rowOf table3-7 b)) (passes-at (λ b. eqb n (length (rowOf table3-7 b))) low (suc high - low) b e h (omega arith))
 
 -- behind the lead byte are the ranges that the code has
 lead-ranges : (b : ℕ) → b < 256 → ranges (length (rowOf table3-7 b) - 1) (secondRange b) ≡ drop 1 (rowOf table3-7 b)
@@ -62,12 +70,6 @@ lead-ranges b h =
     (passes-at (λ b. same (ranges (length (rowOf table3-7 b) - 1) (secondRange b)) (drop 1 (rowOf table3-7 b))) 0 256 b refl (omega arith) (omega arith))
 
 -- ---- the step at a place
-
-pub ranges-more : (n k : ℕ) (r : Range) → k < n → ranges (n - k) r ≡ r ∷ ranges (n - (k + 1)) (0x80 ‥ 0xbf)
-ranges-more n k r h = let e : n - k ≡ suc (n - (k + 1)) = omega arith in rw e
-
-pub ranges-none : (n k : ℕ) (r : Range) → n ≤ k → ranges (n - k) r ≡ []
-ranges-none n k r h = let e : n - k ≡ 0 = omega arith in rw e
 
 -- m bytes begin the row, which has n
 pub step-led : (s : List ℕ) (at n m : ℕ) → at < length s → getD s at 0 < 256 → n ≡ length (rowOf table3-7 (getD s at 0)) → m ≡ begunAt s at n

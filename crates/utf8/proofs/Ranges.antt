@@ -1,5 +1,5 @@
 -- Bytes at places against the ranges of a row.
-use Prim.Native.Nat.{ℕ, suc, _+_, _≤_, _<_}
+use Prim.Native.Nat.{ℕ, suc, _+_, _-_, _≤_, _<_}
 use mathlib.Core.Path.{_≡_, refl, sym, _∙_}
 use mathlib.Core.List.{List, [], _∷_}
 use mathlib.Core.Bool.{Bool, true, false, cond, false≢true}
@@ -9,8 +9,8 @@ use native.Mathlib.Decide.{decLe}
 use lib.ListN.{length, drop, getD, drop-of-length-le}
 use lib.Seq.{drop-drop}
 use Rattle.lent.proofs.Lists.{drop-more}
-use Rattle.utf8.specs.Utf8.{Range, Row, within, matched}
-use Rattle.utf8.specs.Rows.{begins}
+use Rattle.utf8.specs.Utf8.{Range, _‥_, Row, within, matched}
+use Rattle.utf8.specs.Rows.{secondLow, secondHigh, ranges, begunAt, begins}
 use Rattle.utf8.proofs.Rows.{in-range}
 
 module _ (s : List ℕ) (at : ℕ) (r : Range) where
@@ -39,27 +39,30 @@ unfolding begins matched
 matched-begins r row [] = refl
 matched-begins r row (b ∷ bs) = refl
 
--- k bytes from a place on are in their ranges, and row is left of the ranges behind the lead byte
-pub record RowLeft (all : Row) (s : List ℕ) (at k : ℕ) (row : Row) : Type 0 where
+-- k bytes from a place on begin a sequence of n: they lie in their ranges, and the next has to lie in r
+pub record Begun (s : List ℕ) (at n k : ℕ) (r : Range) : Type 0 where
   pub within : at + k ≤ length s
-  pub bytes : suc (matched all (drop (at + 1) s)) ≡ k + matched row (drop (at + k) s)
+  pub bytes : begunAt s at n ≡ k + matched (ranges (n - k) r) (drop (at + k) s)
 
-pub left-start : {all : Row} (s : List ℕ) (at : ℕ) → at < length s → RowLeft all s at 1 all
-left-start s at h = record { within = omega arith; bytes = omega arith }
+pub begun-start : (s : List ℕ) (at n : ℕ) {low high : ℕ} → at < length s → low ≡ secondLow (getD s at 0) → high ≡ secondHigh (getD s at 0) → Begun s at n 1 (low ‥ high)
+begun-start s at n h e f = record { within = omega arith; bytes = rw (e, f) (omega arith) }
 
-module _ {all : Row} {s : List ℕ} {at k : ℕ} where
-  pub left-more : {r : Range} {row : Row} {t : Bool} → t ≡ begins r (drop (at + k) s) → t ≡ true → RowLeft all s at k (r ∷ row) → RowLeft all s at (k + 1) row
-  left-more {r} {row} e h l =
+module _ {s : List ℕ} {at n k : ℕ} {r : Range} where
+  pub begun-more : {t : Bool} → k < n → t ≡ begins r (drop (at + k) s) → t ≡ true → Begun s at n k r → Begun s at n (k + 1) (0x80 ‥ 0xbf)
+  begun-more j e h l =
       let b : begins r (drop (at + k) s) ≡ true = sym e ∙ h in
-      let m : matched (r ∷ row) (drop (at + k) s) ≡ suc (matched row (drop (at + (k + 1)) s)) = rw (matched-begins r row (drop (at + k) s), b, drop-drop 1 (at + k) s, add-assoc at k 1) in
+      let i : n - k ≡ suc (n - (k + 1)) = omega arith in
+      let m : matched (ranges (n - k) r) (drop (at + k) s) ≡ suc (matched (ranges (n - (k + 1)) (0x80 ‥ 0xbf)) (drop (at + (k + 1)) s)) =
+      rw (i, matched-begins r (ranges (n - (k + 1)) (0x80 ‥ 0xbf)) (drop (at + k) s), b, drop-drop 1 (at + k) s, add-assoc at k 1) in
       let w = begins-within s (at + k) r b in
       record { within = omega arith; bytes = l .bytes ∙ rw m (omega arith) }
 
-  pub left-stop : {r : Range} {row : Row} {t : Bool} → t ≡ begins r (drop (at + k) s) → t ≡ false → RowLeft all s at k (r ∷ row) → k ≡ suc (matched all (drop (at + 1) s))
-  left-stop {r} {row} e h l =
-      let m : matched (r ∷ row) (drop (at + k) s) ≡ 0 = rw (matched-begins r row (drop (at + k) s), sym e ∙ h) in
+  pub begun-stop : {t : Bool} → k < n → t ≡ begins r (drop (at + k) s) → t ≡ false → Begun s at n k r → k ≡ begunAt s at n
+  begun-stop j e h l =
+      let i : n - k ≡ suc (n - (k + 1)) = omega arith in
+      let m : matched (ranges (n - k) r) (drop (at + k) s) ≡ 0 = rw (i, matched-begins r (ranges (n - (k + 1)) (0x80 ‥ 0xbf)) (drop (at + k) s), sym e ∙ h) in
       sym (l .bytes ∙ rw m (omega arith))
 
-  pub left-done : RowLeft all s at k [] → k ≡ suc (matched all (drop (at + 1) s))
+  pub begun-done : n ≤ k → Begun s at n k r → k ≡ begunAt s at n
   unfolding matched
-  left-done l = sym (l .bytes ∙ omega arith)
+  begun-done h l = let i : n - k ≡ 0 = omega arith in sym (l .bytes ∙ rw i (omega arith))

@@ -1,23 +1,23 @@
 -- Text within bytes: how it goes on, and what it says of the whole.
-use Prim.Native.Nat.{ℕ, suc, _+_, _-_, _≤_, _<_}
+use Prim.Native.Nat.{ℕ, suc, _+_, _-_, _≤_, _<_, min}
 use mathlib.Core.Path.{_≡_, refl, sym, ap, _∙_}
 use mathlib.Core.List.{List, [], _∷_, _++_}
 use mathlib.Core.Bool.{Bool, true, false, not}
 use native.Mathlib.Omega.{arith}
-use native.Mathlib.Decide.{ℕ-discrete}
+use native.Mathlib.Decide.{ℕ-discrete, decLe}
 use lib.ListN.{length, take, drop, getD, take-append-drop, length-drop, drop-of-length-le}
 use lib.Seq.{take-add, drop-drop}
 use lib.Dec.{eqb}
 use borrow.Author.Tests.{eq-eqb, ne-eqb, not-true, not-false}
 use Rattle.lent.proofs.Lists.{drop-more}
 use Rattle.utf8.specs.declared.Step.{Step}
-use Rattle.utf8.specs.Utf8.{_‥_, table3-7, firstStep, isUtf8, isAscii, replacement, repairUpTo, repair}
+use Rattle.utf8.specs.Utf8.{Range, _‥_, matched, whole, begun, firstStep, isUtf8, isAscii, replacement, repairUpTo, repair}
 use Rattle.utf8.proofs.Laws.{step-bounds, utf8-nil, utf8-cons, repair-cons, ascii-sequence, front-sequence, sequence-text, utf8-append, utf8-both, repair-append, utf8-ascii}
-use Rattle.utf8.specs.Rows.{rowOf, secondRange, ranges, begins}
+use Rattle.utf8.specs.Rows.{begins}
 use Rattle.utf8.specs.Text.{Text, TextEnd}
 use Rattle.utf8.proofs.Ascii.{ascii-every}
-use Rattle.utf8.proofs.Leads.{passes, len-from, step-led}
-use Rattle.utf8.proofs.Ranges.{begins-byte, RowLeft, left-done}
+use Rattle.utf8.proofs.Leads.{Led, step-led}
+use Rattle.utf8.proofs.Ranges.{begins-byte, Begun, begun-done}
 
 -- ---- text from a place on
 
@@ -57,7 +57,7 @@ module _ (s : List ℕ) (at : ℕ) (h : at < length s) where
   text-byte l = text-some s at 1 (omega arith) (rw (drop-more s at h) (sequence-text (getD s at 0 ∷ []) (ascii-sequence (getD s at 0) l)))
 
   module _ {r : Step} (e : r ≡ firstStep (drop at s)) where
-    pub step-fits : (1 ≤ r .len) × (at + r .len ≤ length s)
+    step-fits : (1 ≤ r .len) × (at + r .len ≤ length s)
     step-fits = rw e (there (λ bs. (1 ≤ firstStep bs .len) × (at + firstStep bs .len ≤ length s)) (λ b bs l. let k = step-bounds b bs in omega arith))
 
     pub text-step : not (r .«well_formed») ≡ false → Text s at (at + r .len)
@@ -73,16 +73,29 @@ module _ (s : List ℕ) (at : ℕ) (h : at < length s) where
   utf8-ill : firstStep (drop at s) .«well_formed» ≡ false → isUtf8 (drop at s) ≡ false
   utf8-ill = there (λ bs. firstStep bs .«well_formed» ≡ false → isUtf8 bs ≡ false) (λ b bs l w. rw (utf8-cons b bs, w))
 
+-- a step keeps within the bytes, and takes one where there is one
+step-len : (s : List ℕ) (at : ℕ) {r : Step} → r ≡ firstStep (drop at s) → (min 1 (length s - at) ≤ r .len) × (r .len ≤ length s - at)
+unfolding firstStep whole begun matched
+step-len s at e = elim (decLe (length s) at) [
+  | yes h ↦ rw (e, drop-of-length-le s h) (omega arith)
+  | no h ↦ let l : at < length s = omega arith in let k = step-fits s at l e in omega arith
+]
+
+pub step-least : (s : List ℕ) (at : ℕ) {r : Step} → r ≡ firstStep (drop at s) → min 1 (length s - at) ≤ r .len
+step-least s at e = step-len s at e .0
+
+pub step-most : (s : List ℕ) (at : ℕ) {r : Step} → r ≡ firstStep (drop at s) → r .len ≤ length s - at
+step-most s at e = step-len s at e .1
+
 pub repair-none : (s : List ℕ) (at : ℕ) → length s ≤ at → repair (drop at s) ≡ []
 unfolding repairUpTo
 repair-none s at h = rw (drop-of-length-le s h)
 
 -- a sequence of n bytes, its lead byte in a range whose bytes all lead rows of n
-pub text-led : {s : List ℕ} {at : ℕ} {t : Bool} (n low high : ℕ) → passes (λ b. eqb n (length (rowOf table3-7 b))) low (suc high - low) ≡ true → high < 256
-    → t ≡ begins (low ‥ high) (drop at s) → not t ≡ false → RowLeft (ranges (n - 1) (secondRange (getD s at 0))) s at n [] → Text s at (at + n)
-text-led {s} {at} {t} n low high p k e h l =
+pub text-led : {s : List ℕ} {at : ℕ} {t : Bool} {r : Range} (n low high : ℕ) → Led n low high → high < 256 → t ≡ begins (low ‥ high) (drop at s) → not t ≡ false → Begun s at n n r → Text s at (at + n)
+text-led {s} {at} {t} n low high led k e h l =
     let b = begins-byte s at (low ‥ high) (sym e ∙ not-false t h) in
-    text-step s at (b .0) (step-led s at n n (b .0) (omega arith) (len-from n low high p (getD s at 0) (b .1) (b .2)) (left-done l)) (rw (eq-eqb n n refl))
+    text-step s at (b .0) (step-led s at n n (b .0) (omega arith) (led (getD s at 0) (b .1) (b .2)) (begun-done (omega arith) l)) (rw (eq-eqb n n refl))
 
 -- text that ends before an ill-formed step
 pub text-stop : {s : List ℕ} {at to : ℕ} {r : Step} → r ≡ firstStep (drop to s) → not (r .«well_formed») ≡ true → Text s at to → TextEnd s at to

@@ -6,7 +6,7 @@ use native.Mathlib.Omega.{arith}
 use lib.ListN.{length, drop}
 use Rattle.lent.proofs.Writes.{Rest, rest-put, rest-end}
 use Rattle.utf8.specs.Utf8.{repair}
-use Rattle.utf8.proofs.Texts.{step-fits, repair-text, repair-ill, repair-none}
+use Rattle.utf8.proofs.Texts.{step-least, step-most, repair-text, repair-ill, repair-none}
 use Rattle.utf8.proofs.repair_steps.Statement.{statement}
 use Rattle.utf8.proofs.repair_steps.Tie as tie
 
@@ -16,26 +16,12 @@ Inv-loop bytes out₀ at i₀ o₀ out i o = (i ≤ length bytes) × (length out
 abbrev μ-loop : tie.MeasureT-loop
 μ-loop bytes out₀ at i₀ o₀ out i o = length bytes - i
 
-add-i : tie.Need-add-i Inv-loop μ-loop
-add-i c =
-    let c₁ = c .before in
-    let c₂ = c₁ .before .before .before .before .before .before .before .before .before .before .before in
-    let c₃ = c₂ .before .before .before .before in
-    omega (arith, step-fits (c₃ .args .bytes .now) (c₂ .text-end .result) (omega arith) (c₁ .step-at .ensures))
-
-loop-less : tie.Need-loop-less Inv-loop μ-loop
-loop-less c =
-    let c₁ = c .before in
-    let c₂ = c₁ .before .before .before .before .before .before .before .before .before .before .before in
-    let c₃ = c₂ .before .before .before .before in
-    omega (arith, step-fits (c₃ .args .bytes .now) (c₂ .text-end .result) (omega arith) (c₁ .step-at .ensures))
-
 loop-again : tie.Need-loop-again Inv-loop μ-loop
 loop-again c =
     let c₁ = c .before in let c₂ = c₁ .before .before .before in let c₃ = c₂ .before .before .before .before .before in
     let c₄ = c₃ .before .before .before in let c₅ = c₄ .before in
     let c₆ = c₅ .before .before .before in (
-      step-fits (c₆ .args .bytes .now) (c₄ .text-end .result) (omega arith) (c₁ .step-at .ensures) .1,
+      omega (arith, step-most),
       c₂ .put-replacement .kept .0 ∙ c₃ .put-bytes .kept .0 ∙ c₅ .loop .inv .1,
       rest-put _ (repair-ill (c₆ .args .bytes .now) (c₄ .text-end .result) (omega arith) (c₁ .step-at .ensures) (c₄ .text-end .ensures .stops (omega arith)))
           (rest-put _ (repair-text (c₄ .text-end .ensures .text)) (c₅ .loop .inv .2) (c₃ .put-bytes .ensures))
@@ -49,4 +35,6 @@ repair-steps-spec = tie.close (tie.spec Inv-loop μ-loop
     (λ c. search needs) (λ c. search needs)  -- put-bytes-requires, same-length
     (λ c. search (needs, rest-end, repair-none, rest-put, repair-text))  -- returns
     (λ c. search needs) (λ c. search needs)  -- put-replacement-requires, step-at-requires
-    add-i loop-less loop-again)
+    (λ c. omega (arith, step-most))  -- add-i
+    (λ c. omega (arith, step-least, step-most))  -- loop-less
+    loop-again)

@@ -2,19 +2,17 @@
 use borrow.Author.Needs.{needs}
 use native.Mathlib.Omega.{arith}
 use mathlib.Core.Path.{refl}
-use Rattle.utf8.specs.Rows.{rowOf}
-use Rattle.utf8.proofs.Leads.{passes}
-use Rattle.utf8.proofs.Ranges.{left-start, left-more}
+use Rattle.utf8.proofs.Leads.{rows-led}
+use Rattle.utf8.proofs.Ranges.{begun-start, begun-more}
 use Rattle.utf8.proofs.Texts.{text-led}
 use Rattle.utf8.proofs.two.Statement.{statement}
 use Rattle.utf8.proofs.two.Tie as tie
 
 returns-2 : tie.Need-returns-2
-unfolding passes rowOf
 returns-2 c e =
-    let c₁ = c .before .before in
-    let c₂ = c₁ .before .before in
-    text-led 2 0xc2 0xdf refl (omega arith) (c₁ .in-range .ensures) (c .before .if1 .left) (left-more (c .second-fits .ensures) e (left-start (c₂ .args .bytes .now) (c₂ .args .at) (c₂ .pre)))
+    let c₁ = c .before .before in let c₂ = c₁ .before .before in
+    text-led 2 0xc2 0xdf (rows-led .2) (omega arith) (c₁ .in-range .ensures) (c .before .if1 .left)
+    (begun-more (omega arith) (c .second-fits .ensures) e (begun-start (c₂ .args .bytes .now) (c₂ .args .at) 2 (c₂ .pre) refl refl))
 
 pub two-spec : {M : Type 1} → statement M
 two-spec = tie.close (tie.spec
