@@ -1,5 +1,5 @@
 -- Laws of text: repair leaves it alone (repair-utf8), what repair gives is text (utf8-repair), and text is made of bytes (utf8-bytes).
-use Prim.Native.Nat.{ℕ, zero, suc, _≤_, _<_}
+use Prim.Native.Nat.{ℕ, zero, suc, _≤_, _<_, min}
 use mathlib.Core.Path.{_≡_, refl, sym, ap, _∙_}
 use mathlib.Core.List.{List, [], _∷_, _++_, append-assoc, append-nil}
 use mathlib.Core.Bool.{Bool, true, false, cond, _&&_, false≢true, and-eq-true-iff}
@@ -14,20 +14,22 @@ use Rattle.lent.proofs.Lists.{every-append}
 use Rattle.utf8.specs.declared.Step.{Step}
 use Rattle.utf8.specs.Utf8.{Row, table3-7, within, matched, whole, firstStep, replacement, repairedStep, repairUpTo, repair, utf8UpTo, isUtf8}
 use Rattle.utf8.specs.Rows.{rowOf}
+use Rattle.utf8.proofs.Leads.{step-none}
 use Rattle.utf8.proofs.Rows.{rowStep, in-range, matched-le, row-step}
 
 -- ---- one step after the other
 
--- a step takes a byte at least, and no more than there are
-pub step-bounds : (b : ℕ) (bs : List ℕ) → (1 ≤ firstStep (b ∷ bs) .len) × (firstStep (b ∷ bs) .len ≤ suc (length bs))
-step-bounds b bs = rw row-step (omega (arith, matched-le (drop 1 (rowOf table3-7 b)) bs))
+-- a step keeps within the bytes, and takes one where there is one
+pub step-bounds : (bs : List ℕ) → (min 1 (length bs) ≤ firstStep bs .len) × (firstStep bs .len ≤ length bs)
+step-bounds [] = rw (← step-none [] 0 (omega arith)) (omega arith)
+step-bounds (b ∷ bs) = rw row-step (omega (arith, matched-le (drop 1 (rowOf table3-7 b)) bs))
 
 -- what is behind the first step
 abbrev behind : List ℕ → List ℕ
 behind s = drop (firstStep s .len) s
 
 behind-le : (n b : ℕ) (bs : List ℕ) → length bs ≤ n → length (behind (b ∷ bs)) ≤ n
-behind-le n b bs h = rw length-drop (omega (arith, step-bounds b bs))
+behind-le n b bs h = rw length-drop (omega (arith, step-bounds (b ∷ bs)))
 
 pub by-steps : (P : List ℕ → Type 0) → P [] → ((b : ℕ) (bs : List ℕ) → P (behind (b ∷ bs)) → P (b ∷ bs)) → (s : List ℕ) → P s
 by-steps P none more s = go (length s) s (le-refl _)

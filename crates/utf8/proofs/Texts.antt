@@ -1,17 +1,17 @@
 -- Text within bytes: how it goes on, and what it says of the whole.
-use Prim.Native.Nat.{ℕ, suc, _+_, _-_, _≤_, _<_, min}
+use Prim.Native.Nat.{ℕ, _+_, _-_, _≤_, _<_, min}
 use mathlib.Core.Path.{_≡_, refl, sym, ap, _∙_}
 use mathlib.Core.List.{List, [], _∷_, _++_}
 use mathlib.Core.Bool.{Bool, true, false, not}
 use native.Mathlib.Omega.{arith}
-use native.Mathlib.Decide.{ℕ-discrete, decLe}
+use native.Mathlib.Decide.{ℕ-discrete}
 use lib.ListN.{length, take, drop, getD, take-append-drop, length-drop, drop-of-length-le}
 use lib.Seq.{take-add, drop-drop}
 use lib.Dec.{eqb}
 use borrow.Author.Tests.{eq-eqb, ne-eqb, not-true, not-false}
 use Rattle.lent.proofs.Lists.{drop-more}
 use Rattle.utf8.specs.declared.Step.{Step}
-use Rattle.utf8.specs.Utf8.{Range, _‥_, matched, whole, begun, firstStep, isUtf8, isAscii, replacement, repairUpTo, repair}
+use Rattle.utf8.specs.Utf8.{Range, _‥_, firstStep, isUtf8, isAscii, replacement, repairUpTo, repair}
 use Rattle.utf8.proofs.Laws.{step-bounds, utf8-nil, utf8-cons, repair-cons, ascii-sequence, front-sequence, sequence-text, utf8-append, utf8-both, repair-append, utf8-ascii}
 use Rattle.utf8.specs.Rows.{begins}
 use Rattle.utf8.specs.Text.{Text, TextEnd}
@@ -48,44 +48,33 @@ text-join {s} {a} {b} {c} h k =
 
 -- ---- the byte and the step at a place
 
+pub step-least : (s : List ℕ) (at : ℕ) {r : Step} → r ≡ firstStep (drop at s) → min 1 (length s - at) ≤ r .len
+step-least s at e = rw e (simp length-drop at (step-bounds (drop at s) .0))
+
+pub step-most : (s : List ℕ) (at : ℕ) {r : Step} → r ≡ firstStep (drop at s) → r .len ≤ length s - at
+step-most s at e = rw e (simp length-drop at (step-bounds (drop at s) .1))
+
 module _ (s : List ℕ) (at : ℕ) (h : at < length s) where
   -- what holds of a first byte and those behind it
-  there : (P : List ℕ → Type 0) → ((b : ℕ) (bs : List ℕ) → suc (length bs) ≡ length s - at → P (b ∷ bs)) → P (drop at s)
-  there P f = rw (drop-more s at h) (f (getD s at 0) (drop (at + 1) s) (rw length-drop (omega arith)))
+  there : (P : List ℕ → Type 0) → ((b : ℕ) (bs : List ℕ) → P (b ∷ bs)) → P (drop at s)
+  there P f = rw (drop-more s at h) (f (getD s at 0) (drop (at + 1) s))
 
   pub text-byte : getD s at 0 < 0x80 → Text s at (at + 1)
   text-byte l = text-some s at 1 (omega arith) (rw (drop-more s at h) (sequence-text (getD s at 0 ∷ []) (ascii-sequence (getD s at 0) l)))
 
   module _ {r : Step} (e : r ≡ firstStep (drop at s)) where
-    step-fits : (1 ≤ r .len) × (at + r .len ≤ length s)
-    step-fits = rw e (there (λ bs. (1 ≤ firstStep bs .len) × (at + firstStep bs .len ≤ length s)) (λ b bs l. let k = step-bounds b bs in omega arith))
-
     pub text-step : not (r .«well_formed») ≡ false → Text s at (at + r .len)
     text-step k =
-        text-some s at (r .len) (step-fits .1)
-        (rw e (there (λ bs. firstStep bs .«well_formed» ≡ true → isUtf8 (take (firstStep bs .len) bs) ≡ true) (λ b bs l w. sequence-text _ (front-sequence b bs w)) (not-false _ (rw e at k))))
+        text-some s at (r .len) (omega (arith, step-most s at e))
+        (rw e (there (λ bs. firstStep bs .«well_formed» ≡ true → isUtf8 (take (firstStep bs .len) bs) ≡ true) (λ b bs w. sequence-text _ (front-sequence b bs w)) (not-false _ (rw e at k))))
 
     pub repair-ill : firstStep (drop at s) .«well_formed» ≡ false → repair (drop at s) ≡ replacement ++ repair (drop (at + r .len) s)
     repair-ill w =
         rw (e, ← drop-drop (firstStep (drop at s) .len) at s)
-        (there (λ bs. firstStep bs .«well_formed» ≡ false → repair bs ≡ replacement ++ repair (drop (firstStep bs .len) bs)) (λ b bs l w. rw (repair-cons b bs, w)) w)
+        (there (λ bs. firstStep bs .«well_formed» ≡ false → repair bs ≡ replacement ++ repair (drop (firstStep bs .len) bs)) (λ b bs w. rw (repair-cons b bs, w)) w)
 
   utf8-ill : firstStep (drop at s) .«well_formed» ≡ false → isUtf8 (drop at s) ≡ false
-  utf8-ill = there (λ bs. firstStep bs .«well_formed» ≡ false → isUtf8 bs ≡ false) (λ b bs l w. rw (utf8-cons b bs, w))
-
--- a step keeps within the bytes, and takes one where there is one
-step-len : (s : List ℕ) (at : ℕ) {r : Step} → r ≡ firstStep (drop at s) → (min 1 (length s - at) ≤ r .len) × (r .len ≤ length s - at)
-unfolding firstStep whole begun matched
-step-len s at e = elim (decLe (length s) at) [
-  | yes h ↦ rw (e, drop-of-length-le s h) (omega arith)
-  | no h ↦ let l : at < length s = omega arith in let k = step-fits s at l e in omega arith
-]
-
-pub step-least : (s : List ℕ) (at : ℕ) {r : Step} → r ≡ firstStep (drop at s) → min 1 (length s - at) ≤ r .len
-step-least s at e = step-len s at e .0
-
-pub step-most : (s : List ℕ) (at : ℕ) {r : Step} → r ≡ firstStep (drop at s) → r .len ≤ length s - at
-step-most s at e = step-len s at e .1
+  utf8-ill = there (λ bs. firstStep bs .«well_formed» ≡ false → isUtf8 bs ≡ false) (λ b bs w. rw (utf8-cons b bs, w))
 
 pub repair-none : (s : List ℕ) (at : ℕ) → length s ≤ at → repair (drop at s) ≡ []
 unfolding repairUpTo
