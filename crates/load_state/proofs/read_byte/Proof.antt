@@ -2,33 +2,24 @@
 use contract.Running.{givenOf, tables, tablesOf}
 use denote.Triple.Spec.{tripleOf}
 use denote.Triple.Table.{entered, cited}
-use Prim.Native.Nat.{ℕ}
-use mathlib.Core.List.{List}
-use Rattle.format.specs.Read.{loadByte}
-use Rattle.load_state.specs.ReadAt.{ReadAt}
-use Rattle.load_state.specs.declared.cursor.Byte.{Byte}
 use Rattle.load_state.proofs.cursor.Byte as R
 use Rattle.load_state.proofs.cursor.Byte.Laws as R′
+use Rattle.load_state.proofs.Numbers.{byteSays}
 use Rattle.load_state.proofs.Above.{State, Thin, above-meets}
 use Rattle.load_state.proofs.state.Symbol as state-def
-use Rattle.load_state.proofs.state.Symbol.{name as #state}
 use Rattle.load_state.proofs.state.Met as state-thm
 use Rattle.load_state.proofs.load_byte.Symbol as thin-def
-use Rattle.load_state.proofs.load_byte.Symbol.{name as #load-byte}
 use Rattle.load_state.proofs.load_byte.Met as thin-thm
-use Rattle.load_state.proofs.read_byte.Key.{name as #read-byte}
 use Rattle.load_state.proofs.read_byte as top
+use Rattle.load_state.proofs.read_byte.Key as key
 use Rattle.load_state.proofs.read_byte.Statement as stated
 use Rattle.load_state.proofs.read_byte.Code as code
-
-abbrev Says : List ℕ → ℕ → Byte → Type 0
-Says bs at r = ReadAt bs loadByte at (r .value) (r .cursor)
 
 pub read-byte-spec : {M : Type 1} → stated.statement M
 unfolding code.routine tablesOf
 read-byte-spec 𝓤 H 𝓜 𝓖 𝓡 =
     entered 𝓤 H (tripleOf 𝓤 H (𝓖 .A) top.signature (top.spec 𝓤 H (𝓖 .A) (𝓜 .mem) (𝓡 .run)))
-    (tables 𝓤 H 𝓜 𝓡 code.env .C) (tables 𝓤 H 𝓜 𝓡 code.env .Λ) #read-byte code.function (code.unfolded 𝓤 H 𝓜 𝓡)
-    (above-meets R.the-type R′.the-laws Says #load-byte 𝓤 H (𝓖 .A) (givenOf 𝓤 H 𝓜 𝓖) (𝓜 .mem) (𝓡 .run) (tablesOf 𝓤 H 𝓜 (tables 𝓤 H 𝓜 𝓡 code.env))
-    (cited 𝓤 H (State R.the-type R′.the-laws Says #load-byte 𝓤 H (𝓖 .A) (𝓜 .mem) (𝓡 .run)) 𝓜 𝓡 code.env #state state-def.routine code.calls-load-state·state (state-thm.met 𝓤 H 𝓜 𝓖 𝓡))
-    (cited 𝓤 H (Thin R.the-type R′.the-laws Says #load-byte 𝓤 H (𝓖 .A) (𝓜 .mem) (𝓡 .run)) 𝓜 𝓡 code.env #load-byte thin-def.routine code.calls-load-state·load-byte (thin-thm.met 𝓤 H 𝓜 𝓖 𝓡)))
+    (tables 𝓤 H 𝓜 𝓡 code.env .C) (tables 𝓤 H 𝓜 𝓡 code.env .Λ) key.name code.function (code.unfolded 𝓤 H 𝓜 𝓡)
+    (above-meets R.the-type R′.the-laws byteSays thin-def.name 𝓤 H (𝓖 .A) (givenOf 𝓤 H 𝓜 𝓖) (𝓜 .mem) (𝓡 .run) (tablesOf 𝓤 H 𝓜 (tables 𝓤 H 𝓜 𝓡 code.env))
+    (cited 𝓤 H (State R.the-type R′.the-laws byteSays thin-def.name 𝓤 H (𝓖 .A) (𝓜 .mem) (𝓡 .run)) 𝓜 𝓡 code.env state-def.name state-def.routine code.calls-load-state·state (state-thm.met 𝓤 H 𝓜 𝓖 𝓡))
+    (cited 𝓤 H (Thin R.the-type R′.the-laws byteSays thin-def.name 𝓤 H (𝓖 .A) (𝓜 .mem) (𝓡 .run)) 𝓜 𝓡 code.env thin-def.name thin-def.routine code.calls-load-state·load-byte (thin-thm.met 𝓤 H 𝓜 𝓖 𝓡)))
