@@ -1,12 +1,14 @@
 -- Pieces stored one after the other.
-use Prim.Native.Nat.{ℕ, _+_, _-_, _<_, min}
+use Prim.Native.Nat.{ℕ, _+_, _-_, _≤_, _<_, min}
 use mathlib.Core.Path.{_≡_, refl, _∙_}
 use mathlib.Core.List.{List, [], _∷_, _++_, append-assoc}
 use native.Mathlib.Omega.{arith}
+use native.Mathlib.Nat.{add-zero}
 use lib.ListN.{length, length-append}
 use Rattle.lent.specs.Memory.{far, Puts}
 use Rattle.lent.proofs.Writes.{put-none, put-then, put-length}
 use Rattle.format.specs.Store.{Piece, plain, word, _⊕_, string}
+use Rattle.format.specs.Valid.{most}
 use Rattle.load.specs.Loads.{Space, Wrote, Does}
 
 pub nothing : {σ : Space} → Does (plain []) σ σ
@@ -51,38 +53,20 @@ pub plain-does : {σ : Space} {n : ℕ} {ws′ : List ℕ} (l : List ℕ) → Pu
 plain-does l p = record { does = λ τ f h. record { stored = l; many = refl; exact = λ k. refl; words = p; text = put-none } }
 
 module _ {σ : Space} {x y t n : ℕ} {b ws′ ts′ : List ℕ} (ex : σ .textAt < 4294967296 → x ≡ σ .textAt) (ey : t - σ .textAt < 4294967296 → y ≡ t - σ .textAt) (g : Puts b (σ .textAt) (σ .text) t ts′) where
-  -- a tag, and a string's place and length, its bytes in the text
-  pub tagged-does : (tag : ℕ) → Puts (tag ∷ x ∷ y ∷ []) (σ .wordsAt) (σ .words) n ws′ → Does (word tag ⊕ string b) σ (record { wordsAt = n; textAt = t; words = ws′; text = ts′ })
-  tagged-does tag p =
+  -- words, and a string's place and length, its bytes in the text
+  after-does : (l : List ℕ) → Puts (l ++ x ∷ y ∷ []) (σ .wordsAt) (σ .words) n ws′ → Does (plain l ⊕ string b) σ (record { wordsAt = n; textAt = t; words = ws′; text = ts′ })
+  after-does l p =
       record {
         does = λ τ f h.
-            let l : t ≡ min (σ .textAt + length b) far = g .puts (omega arith) h .0 in
-            record {
-              stored = tag ∷ x ∷ y ∷ [];
-              many = refl;
-              exact = λ k.
-                  let i : x ≡ τ + 0 = ex (omega arith) ∙ omega arith in
-                  let j : y ≡ length b = ey (omega arith) ∙ omega arith in
-                  rw (i, j);
-              words = p;
-              text = g;
-            };
+            let m : t ≡ min (σ .textAt + length b) far = g .puts (omega arith) h .0 in
+            let i : τ + length b ≤ most → x ≡ τ + 0 = λ k. ex (omega arith) ∙ omega arith in
+            let j : τ + length b ≤ most → y ≡ length b = λ k. ey (omega arith) ∙ omega arith in
+            record { stored = l ++ x ∷ y ∷ []; many = simp length-append; exact = λ k. rw (i k, j k); words = p; text = g };
       }
 
-  -- without a tag
+  -- a tag before them, or nothing
+  pub tagged-does : (tag : ℕ) → Puts (tag ∷ x ∷ y ∷ []) (σ .wordsAt) (σ .words) n ws′ → Does (word tag ⊕ string b) σ (record { wordsAt = n; textAt = t; words = ws′; text = ts′ })
+  tagged-does tag p = after-does (tag ∷ []) p
+
   pub string-does : Puts (x ∷ y ∷ []) (σ .wordsAt) (σ .words) n ws′ → Does (string b) σ (record { wordsAt = n; textAt = t; words = ws′; text = ts′ })
-  string-does p =
-      record {
-        does = λ τ f h.
-            let l : t ≡ min (σ .textAt + length b) far = g .puts (omega arith) h .0 in
-            record {
-              stored = x ∷ y ∷ [];
-              many = refl;
-              exact = λ k.
-                  let i : x ≡ τ = ex (omega arith) ∙ omega arith in
-                  let j : y ≡ length b = ey (omega arith) ∙ omega arith in
-                  rw (i, j);
-              words = p;
-              text = g;
-            };
-      }
+  string-does p = same-piece (λ τ. rw add-zero) refl (after-does [] p)

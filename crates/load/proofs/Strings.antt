@@ -2,7 +2,7 @@
 use Prim.Native.Nat.{ℕ, zero, suc, _+_, _-_, _≤_, _<_}
 use mathlib.Core.Path.{_≡_, refl, sym, ap, _∙_}
 use mathlib.Core.List.{List, []}
-use mathlib.Core.Bool.{Bool, true, false, cond, not}
+use mathlib.Core.Bool.{Bool, true, false, cond, not, false≢true}
 use native.Mathlib.Omega.{arith}
 use native.Mathlib.Decide.{decLe, decLt}
 use lib.ListN.{length, drop, getD, length-drop}
@@ -11,54 +11,42 @@ use lib.Dec.{eqb}
 use borrow.Author.Tests.{ne-eqb}
 use Rattle.format.specs.Tree.{Source, filled}
 use Rattle.format.specs.Tree.{Constant as Value}
-use Rattle.format.specs.Read.{got, refused, loadByte, loadInt, loadSize, stringOf, loadText, constantOf, loadConstant}
+use Rattle.format.specs.Read.{got, refused, loadByte, loadInt, loadSize, stringOf, loadString, loadText, constantOf, loadConstant}
 use Rattle.format.specs.Stored.{part}
 use Rattle.format.specs.Constants.{meaningOf, valueOf, LiesIn}
 use Rattle.format.specs.declared.Constant.{Constant}
 use Rattle.format.specs.declared.Constant.the-variants.{Nil, Bool as Truth, Num, String}
 use Rattle.load_state.specs.declared.cursor.Cursor.{Cursor}
 use Rattle.load.specs.declared.cursor.Span.{Span}
-use Rattle.load.specs.Loads.{ReadsBy, spanned, NoString, Strings, ReadsConstant}
+use Rattle.load.specs.Loads.{ReadsBy, NoString, Strings, ReadsConstant}
 use Rattle.load_state.proofs.Bytes.{byte-got, byte-none, block-got, block-none}
 use Rattle.load.proofs.Steps.{passed, takes, stops, bind, mapped, stays-then}
 
-pub string-got : (bs : List ℕ) (at n : ℕ) → n < length bs - at → stringOf (suc n) (drop at bs) ≡ got (Source.own (part bs at n)) (drop (at + suc n) bs)
+string-got : (bs : List ℕ) (at n : ℕ) → n < length bs - at → stringOf (suc n) (drop at bs) ≡ got (Source.own (part bs at n)) (drop (at + suc n) bs)
 string-got bs at n h =
     let k : n ≤ length (drop at bs) = rw length-drop (omega arith) in
     let e : at + n + 1 ≡ at + suc n = omega arith in
     rw (block-got n (drop at bs) k, drop-drop n at bs, byte-got bs (at + n) (omega arith), e)
 
-pub string-missing : (bs : List ℕ) (at n : ℕ) → length bs - at ≤ n → stringOf (suc n) (drop at bs) ≡ refused 2
+string-missing : (bs : List ℕ) (at n : ℕ) → length bs - at ≤ n → stringOf (suc n) (drop at bs) ≡ refused 2
 string-missing bs at n h = elim (decLe n (length bs - at)) [
   | yes k ↦ let k′ : n ≤ length (drop at bs) = rw length-drop k in rw (block-got n (drop at bs) k′, drop-drop n at bs, byte-none bs (at + n) (omega arith))
   | no k ↦ let k′ : length (drop at bs) < n = rw length-drop (omega arith) in rw (block-none n (drop at bs) k′)
 ]
 
-none-within : {m : Cursor} {z : Span} (bs : List ℕ) → NoString m z → z .start + z .len ≤ length bs
-none-within bs n = omega (arith, n .start, n .len)
-
-none-spanned : {m : Cursor} {z : Span} (bs : List ℕ) → NoString m z → spanned bs z ≡ Source.inherited
-none-spanned bs n = rw (n .own)
-
 module _ {bs : List ℕ} {s m : Cursor} {size : ℕ} {z : Span} (h : ReadsBy bs loadSize (λ a. a ≡ size) s m) where
+  -- no string is read, or a refusal is met
+  no-string : {r : Cursor} → ReadsBy bs loadString (λ v. v ≡ Source.inherited) s r → NoString r z → Strings bs s z
+  no-string k n = record { reads = rw (n .cursor, n .own) k; within = omega (arith, n .start, n .len); empty = λ e. n .len }
+
   pub string-refused : 0 < m .refusal → NoString m z → Strings bs s z
-  string-refused y n = record { reads = rw (n .cursor) (bind stringOf h (λ x. refl) (λ a e. passed y refl)); within = none-within bs n; empty = λ e. n .len }
+  string-refused y n = no-string (bind stringOf h (λ x. refl) (λ a e. passed y refl)) n
 
   pub string-none : m .refusal ≤ 0 → size ≡ 0 → NoString m z → Strings bs s z
-  string-none y e n =
-      record {
-        reads = rw (n .cursor) (bind stringOf h (λ x. refl) (λ a f. takes y (rw (f, e)) (omega arith) refl (sym (none-spanned bs n))));
-        within = none-within bs n;
-        empty = λ e. n .len;
-      }
+  string-none y e n = no-string (bind stringOf h (λ x. refl) (λ a f. takes y (rw (f, e)) (omega arith) refl refl)) n
 
   pub string-short : {r : Cursor} → m .refusal ≤ 0 → 0 < size → length bs - m .next < size → r .refusal ≡ 2 → NoString r z → Strings bs s z
-  string-short {r} y e k f n =
-      record {
-        reads = rw (n .cursor) (bind stringOf h (λ x. absurd (omega arith)) (λ a g. stops y (short a (omega arith)) f (omega arith)));
-        within = none-within bs n;
-        empty = λ e. n .len;
-      }
+  string-short {r} y e k f n = no-string (bind stringOf h (λ x. absurd (omega arith)) (λ a g. stops y (short a (omega arith)) f (omega arith))) n
     where
       short : (a : ℕ) → (0 < a) × (length bs - m .next < a) → stringOf a (drop (m .next) bs) ≡ refused 2
       short zero q = absurd (omega (arith, q .0))
@@ -69,14 +57,11 @@ module _ {bs : List ℕ} {s m : Cursor} {size : ℕ} {z : Span} (h : ReadsBy bs 
       record {
         reads = bind stringOf h (λ x. absurd (omega arith)) (λ a q. takes y (long a (omega arith)) f (let n : m .next + suc (z .len) ≡ m .next + size = omega arith in rw (g, n)) (rw (o, st)));
         within = omega arith;
-        empty = λ w. absurd (clash (sym o ∙ w));
+        empty = λ w. absurd (false≢true (sym w ∙ o));
       }
     where
       long : (a : ℕ) → a ≡ suc (z .len) → stringOf a (drop (m .next) bs) ≡ got (Source.own (part bs (m .next) (z .len))) (drop (m .next + suc (z .len)) bs)
       long a q = rw q (string-got bs (m .next) (z .len) (omega arith))
-
-      clash : true ≡ false → ⊥
-      clash q = let w : _≡_ {A = ℕ} 0 1 = cc in omega arith
 
 -- a name or a string constant: empty where there is no string
 pub text-of : {bs : List ℕ} {s : Cursor} {z : Span} → Strings bs s z → ReadsBy bs loadText (λ a. a ≡ part bs (z .start) (z .len)) s (z .cursor)
