@@ -1,13 +1,13 @@
 -- Integers in a row: what reading them gives, and what storing them leaves.
 use Prim.Native.Nat.{ℕ, zero, suc, _+_, _-_, _*_, _≤_, _<_, min}
 use mathlib.Core.Path.{_≡_, refl, ap}
-use mathlib.Core.List.{List, [], _∷_}
+use mathlib.Core.List.{List, [], _∷_, _++_}
 use native.Mathlib.Omega.{arith}
 use native.Mathlib.Decide.{decLe}
-use lib.ListN.{length, take, drop, getD}
+use lib.ListN.{length, take, drop}
 use lib.Seq.{sets}
 use Rattle.lent.specs.Memory.{far, Puts}
-use Rattle.lent.proofs.Writes.{sets-suc, put-lost, put-part, put-none}
+use Rattle.lent.proofs.Writes.{sets-append, put-lost, put-part, put-none}
 use Rattle.format.specs.Read.{got, refused, loadInt, many, loadCount, loadList}
 use Rattle.format.specs.Store.{plain, word, ints}
 use Rattle.load.specs.declared.Load.{Load}
@@ -22,11 +22,14 @@ unfolding fours
 fours-length bs at zero = refl
 fours-length bs at (suc n) = ap suc (fours-length bs (at + 4) n)
 
-fours-at : (bs : List ℕ) (at n i : ℕ) → i < n → getD (fours bs at n) i 0 ≡ fourAt bs (at + 4 * i)
+-- one more, at the end
+fours-more : (bs : List ℕ) (at n : ℕ) → fours bs at (n + 1) ≡ fours bs at n ++ fourAt bs (at + 4 * n) ∷ []
 unfolding fours
-fours-at bs at zero i h = absurd (omega arith)
-fours-at bs at (suc n) zero h = let e : at + 4 * 0 ≡ at = omega arith in rw e
-fours-at bs at (suc n) (suc i) h = let e : at + 4 * suc i ≡ at + 4 + 4 * i = omega arith in rw e (fours-at bs (at + 4) n i (omega arith))
+fours-more bs at zero = let e : at + 4 * 0 ≡ at = omega arith in rw e
+fours-more bs at (suc n) =
+    let e : at + 4 * suc n ≡ at + 4 + 4 * n = omega arith in
+    let s : suc n + 1 ≡ suc (n + 1) = omega arith in
+    rw (s, e, fours-more bs (at + 4) n)
 
 fours-take : (bs : List ℕ) (at n k : ℕ) → k ≤ n → take k (fours bs at n) ≡ fours bs at k
 unfolding fours
@@ -38,12 +41,7 @@ fours-take bs at (suc n) (suc k) h = ap (λ (l : List ℕ). fourAt bs at ∷ l) 
 
 -- one more, in a loop
 pub fill-more : (bs l : List ℕ) (from at i : ℕ) {v : ℕ} {l′ : List ℕ} → v ≡ fourAt bs (from + 4 * i) → l′ ≡ sets l at (fours bs from i) → sets l′ (at + i) (v ∷ []) ≡ sets l at (fours bs from (i + 1))
-fill-more bs l from at i e f =
-    let t : take i (fours bs from (i + 1)) ≡ fours bs from i = fours-take bs from (i + 1) i (omega arith) in
-    let u : take (i + 1) (fours bs from (i + 1)) ≡ fours bs from (i + 1) = fours-take bs from (i + 1) (i + 1) (omega arith) in
-    let g : getD (fours bs from (i + 1)) i 0 ≡ fourAt bs (from + 4 * i) = fours-at bs from (i + 1) i (omega arith) in
-    let s = sets-suc l (fours bs from (i + 1)) at i (rw fours-length (omega arith)) in
-    rw (f, e) (rw (t, u, g) at s)
+fill-more bs l from at i e f = rw (f, e, fours-more bs from i) (rw (fours-length bs from i) at (sets-append (fours bs from i) l (fourAt bs (from + 4 * i) ∷ []) at))
 
 module _ (bs : List ℕ) (from n at : ℕ) {at′ : ℕ} {ws ws′ : List ℕ} (p : at′ ≡ min (at + n) far) where
   pub ints-stored : (k : ℕ) → k ≡ min n (length ws - at) → ws′ ≡ sets ws at (fours bs from k) → Puts (fours bs from n) at ws at′ ws′

@@ -14,9 +14,6 @@ Inv-loop bytes at i₀ i = Text bytes at i
 abbrev μ-loop : tie.MeasureT-loop
 μ-loop bytes at i₀ i = length bytes - i
 
-returns : tie.Need-returns Inv-loop μ-loop
-returns c = text-stop (c .before .before .step-at .ensures) (c .if4 .taken) (search needs)
-
 pub text-end-spec : {M : Type 1} → statement M
 text-end-spec = tie.close (tie.spec Inv-loop μ-loop
     (λ c. search (needs, text-none))  -- loop-holds
@@ -28,7 +25,7 @@ text-end-spec = tie.close (tie.spec Inv-loop μ-loop
     (λ c. omega arith) (λ c. search needs) (λ c. search needs)  -- three-requires, add-i-2, loop-less-3
     (λ c. search (needs, text-join, c .before .three .ensures))  -- loop-again-3
     (λ c. search needs)  -- step-at-requires
-    returns
+    (λ c. text-stop (c .before .before .step-at .ensures) (c .if4 .taken) (search needs))  -- returns
     (λ c. omega (arith, step-most))  -- add-i-3
     (λ c. omega (arith, step-least, step-most))  -- loop-less-4
     (λ c. search (needs, text-join, text-step))  -- loop-again-4

@@ -5,16 +5,13 @@ use Rattle.load.proofs.Strings.{constant-refused, constant-nil, constan
 use Rattle.load.proofs.cursor.load_constant.Statement.{statement}
 use Rattle.load.proofs.cursor.load_constant.Tie as tie
 
-returns : tie.Need-returns
-returns c = constant-refused (c .before .before .before .load-byte .ensures) (omega arith)
-
 returns-6 : tie.Need-returns-6
 returns-6 c = constant-bad (c .before .before .before .before .before .load-byte .ensures) (omega arith) (λ e. omega arith) (λ e. omega arith) (λ e. omega arith) (λ e. omega arith) (c .refused .ensures)
 
 pub load-constant-spec : {M : Type 1} → statement M
 load-constant-spec = tie.close (tie.spec
     (λ c. search needs)  -- load-byte-requires
-    returns
+    (λ c. constant-refused (c .before .before .before .load-byte .ensures) (omega arith))  -- returns
     (λ c. search needs) (λ c. search needs)  -- load-byte-requires-2, load-int-requires
     (λ c. search needs) (λ c. search needs)  -- load-int-requires-2, load-string-requires
     (λ c. search needs)  -- refused-requires

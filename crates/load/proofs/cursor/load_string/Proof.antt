@@ -6,9 +6,6 @@ use Rattle.load.proofs.Strings.{string-refused, string-none, string-sho
 use Rattle.load.proofs.cursor.load_string.Statement.{statement}
 use Rattle.load.proofs.cursor.load_string.Tie as tie
 
-returns : tie.Need-returns
-returns c = string-refused (c .before .before .before .before .load-size .ensures) (omega arith) (c .no-string .ensures)
-
 returns-3 : tie.Need-returns-3
 returns-3 c = string-short (c .before .before .before .before .before .before .before .before .load-size .ensures) (omega arith) (omega arith) (omega arith) (c .before .refused .ensures) (c .no-string3 .ensures)
 
@@ -18,7 +15,7 @@ returns-4 c = string-own (c .before .before .before .before .before .before .loa
 pub load-string-spec : {M : Type 1} → statement M
 load-string-spec = tie.close (tie.spec
     (λ c. search needs) (λ c. search needs)  -- load-size-requires, no-string-requires
-    returns
+    (λ c. string-refused (c .before .before .before .before .load-size .ensures) (omega arith) (c .no-string .ensures))  -- returns
     (λ c. search needs)  -- no-string-requires-2
     (λ c. search (needs, string-none))  -- returns-2
     (λ c. search needs) (λ c. search needs)  -- remaining-requires, refused-requires

@@ -7,9 +7,6 @@ use Rattle.load.specs.declared.Load.{Load}
 use Rattle.load.proofs.ints.load_ints.Statement.{statement}
 use Rattle.load.proofs.ints.load_ints.Tie as tie
 
-returns : tie.Need-returns
-returns c = λ t. ints-refused (c .before .before .before .before .before .copy-count .ensures t) (omega arith)
-
 returns-2 : tie.Need-returns-2
 returns-2 c =
     let c₁ = c .before in let c₂ = c₁ .before .before .before .before .before .before .before .before .before in
@@ -24,7 +21,7 @@ returns-3 c =
 pub load-ints-spec : {M : Type 1} → statement M
 load-ints-spec = tie.close (tie.spec
     (λ c. search needs) (λ c. search needs)  -- copy-count-requires, same-length
-    returns
+    (λ c t. ints-refused (c .before .before .before .before .before .copy-count .ensures t) (omega arith))  -- returns
     (λ c. search needs) (λ c. search needs) (λ c. search needs)  -- cast-n, remaining-requires, mul-if2
     (λ c. search needs) (λ c. search needs) (λ c. search needs)  -- refused-requires, at-requires, same-length-2
     returns-2

@@ -6,13 +6,8 @@ use Rattle.load_state.proofs.Bytes.{byte-taken, byte-missing}
 use Rattle.load_state.proofs.cursor.byte_at.Statement.{statement}
 use Rattle.load_state.proofs.cursor.byte_at.Tie as tie
 
-returns : tie.Need-returns
-returns c = byte-taken (omega arith) refl refl refl
-
-returns-2 : tie.Need-returns-2
-returns-2 c = byte-missing (omega arith) (c .refused .ensures)
-
 pub byte-at-spec : {M : Type 1} → statement M
 byte-at-spec = tie.close (tie.spec
     (λ c. search needs) (λ c. search needs) (λ c. search needs)  -- shared-slice-read-t7, add-t8, refused-requires
-    returns returns-2)
+    (λ c. byte-taken (omega arith) refl refl refl)  -- returns
+    (λ c. byte-missing (omega arith) (c .refused .ensures)))  -- returns-2

@@ -6,15 +6,9 @@ use Rattle.load_state.proofs.Bytes.{int-taken, int-missing}
 use Rattle.load_state.proofs.cursor.int_at.Statement.{statement}
 use Rattle.load_state.proofs.cursor.int_at.Tie as tie
 
-returns : tie.Need-returns
-returns c = int-missing (omega arith) (c .refused .ensures)
-
-returns-2 : tie.Need-returns-2
-returns-2 c = int-taken (omega arith) (c .four-at .ensures) refl refl
-
 pub int-at-spec : {M : Type 1} → statement M
 int-at-spec = tie.close (tie.spec
     (λ c. search needs) (λ c. search needs)  -- remaining-requires, refused-requires
-    returns
+    (λ c. int-missing (omega arith) (c .refused .ensures))  -- returns
     (λ c. search needs) (λ c. search needs)  -- four-at-requires, add-t3
-    returns-2)
+    (λ c. int-taken (omega arith) (c .four-at .ensures) refl refl))  -- returns-2

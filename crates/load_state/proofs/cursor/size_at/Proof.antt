@@ -6,17 +6,11 @@ use Rattle.load_state.proofs.Bytes.{size-taken, size-missing}
 use Rattle.load_state.proofs.cursor.size_at.Statement.{statement}
 use Rattle.load_state.proofs.cursor.size_at.Tie as tie
 
-returns : tie.Need-returns
-returns c = size-missing (omega arith) (c .refused .ensures)
-
-returns-2 : tie.Need-returns-2
-returns-2 c = size-taken (omega arith) (omega arith) refl refl
-
 pub size-at-spec : {M : Type 1} → statement M
 size-at-spec = tie.close (tie.spec
     (λ c. search needs) (λ c. search needs)  -- remaining-requires, refused-requires
-    returns
+    (λ c. size-missing (omega arith) (c .refused .ensures))  -- returns
     (λ c. search needs) (λ c. search needs) (λ c. search needs)  -- four-at-requires, wider-requires, add-four-at
     (λ c. search needs) (λ c. search needs) (λ c. search needs)  -- four-at-requires-2, wider-requires-2, mul-t9
     (λ c. search needs) (λ c. search needs)  -- add-t10, add-t5
-    returns-2)
+    (λ c. size-taken (omega arith) (omega arith) refl refl))  -- returns-2

@@ -13,9 +13,6 @@ returns-2 c = exactly-short _ (c .before .before .before .before .before .before
 returns-3 : tie.Need-returns-3
 returns-3 c = exactly-others _ _ _ _ _ (omega arith) _ (omega arith) (c .before .before .same .ensures) (c .before .if3 .taken) (c .refused2 .ensures) (omega arith)
 
-returns-4 : tie.Need-returns-4
-returns-4 c = exactly-these _ _ _ _ _ (omega arith) _ (omega arith) (c .before .same .ensures) (c .if3 .left) refl refl
-
 pub load-exactly-spec : {M : Type 1} → statement M
 load-exactly-spec = tie.close (tie.spec
     (λ c. search (needs, passed))  -- returns
@@ -23,4 +20,5 @@ load-exactly-spec = tie.close (tie.spec
     returns-2
     (λ c. search needs) (λ c. search needs) (λ c. search needs)  -- add-end, sub-same, part-same-start
     (λ c. search needs) (λ c. search needs) (λ c. search needs)  -- part-same-end, same-requires, refused-requires-2
-    returns-3 returns-4)
+    returns-3
+    (λ c. exactly-these _ _ _ _ _ (omega arith) _ (omega arith) (c .before .same .ensures) (c .if3 .left) refl refl))  -- returns-4
