@@ -1,6 +1,6 @@
 -- Whatever is read of bytes is a well-formed tree once its names are repaired, so the store that undump leaves is well formed.
 use Prim.Native.Nat.{ℕ, zero, suc, _≤_, _<_, _^_}
-use mathlib.Core.Path.{_≡_, refl, sym, ap}
+use mathlib.Core.Path.{_≡_, refl, ap}
 use mathlib.Core.List.{List, [], _∷_, map}
 use mathlib.Core.Bool.{Bool, true, false, cond, not}
 use native.Mathlib.Omega.{arith}
@@ -11,6 +11,7 @@ use borrow.Author.Tests.{leb-true}
 use Rattle.lent.specs.Memory.{Every, Byte, Word, Bytes}
 use Rattle.lent.proofs.Lists.{every-take, every-drop}
 use Rattle.utf8.specs.Utf8.{repair}
+use Rattle.utf8.proofs.Rows.{by-test}
 use Rattle.utf8.proofs.Laws.{utf8-repair}
 use Rattle.format.specs.Tree.{Constant, Source, Function, Functions, count, filled}
 use Rattle.format.specs.Read.{Read, Reader, got, refused, andThen, _>>=_, return, refuse, loadBlock, loadByte, littleEndian, loadNumber, loadInt, stringOf, loadString, loadText, limit, countOf, loadCount, many, loadList, constantOf, loadConstant, manyFunctions, Constants, loadConstants, loadLocal, loadDebug, loadFunction, same, signature, format, loadExactly, loadHeader}
@@ -48,8 +49,7 @@ weaken {A} {r} {P} {Q} f p = record { gives = λ bs h. by (r bs) (p .gives bs h)
 
 -- a test before going on
 test : {A : Type 0} {r s : Reader A} {P : A → Type 0} (b : Bool) → (b ≡ true → Gives r P) → (b ≡ false → Gives s P) → Gives (cond b r s) P
-test true p q = p refl
-test false p q = q refl
+test {r = r} {s = s} {P = P} b = by-test (λ b. Gives (cond b r s) P) b
 
 -- ---- lists of which each item is changed
 
@@ -68,11 +68,12 @@ abbrev Block : ℕ → List ℕ → Type 0
 Block n s = Bytes s × (length s ≡ n)
 
 block-gives : (n : ℕ) → Gives (loadBlock n) (Block n)
-block-gives n = record { gives = λ bs h. by bs h (leb n (length bs)) refl }
-  where
-    by : (bs : List ℕ) → Bytes bs → (b : Bool) → leb n (length bs) ≡ b → Good (Block n) (elim b [ true ↦ got (take n bs) (drop n bs) | false ↦ refused 2 ])
-    by bs h true t = ((every-take Byte n bs h, length-take-le n bs (leb-true n (length bs) t)), every-drop Byte n bs h)
-    by bs h false t = omega arith
+block-gives n =
+    record {
+      gives = λ bs h.
+          by-test (λ b. Good (Block n) (elim b [ true ↦ got (take n bs) (drop n bs) | false ↦ refused 2 ])) (leb n (length bs))
+          (λ t. ((every-take Byte n bs h, length-take-le n bs (leb-true n (length bs) t)), every-drop Byte n bs h)) (λ t. omega arith);
+    }
 
 byte-gives : Gives loadByte Byte
 unfolding Every

@@ -10,6 +10,7 @@ use lib.Seq.{take-at, drop-at}
 use lib.Dec.{eqb}
 use borrow.Author.Tests.{le-leb, eq-eqb, eqb-true}
 use Rattle.utf8.specs.Utf8.{repair}
+use Rattle.utf8.proofs.Rows.{by-test}
 use Rattle.utf8.proofs.Laws.{repair-utf8}
 use Rattle.lent.specs.Memory.{Every, Word}
 use Rattle.format.specs.Tree.{Constant, Source, Local, Debug, Parts, Function, Functions, count, filled, kept, noDebug, with, rootSource, fill, fillAll, stripped, strippedAll}
@@ -156,7 +157,7 @@ filled-short outer Source.inherited h m = h
 filled-short outer (Source.own s) h m = m
 
 -- what holds of both holds of either
-either : {A : Type 0} (P : A → Type 0) (b : Bool) {x y : A} → P x → P y → P (cond b x y)
+pub either : {A : Type 0} (P : A → Type 0) (b : Bool) {x y : A} → P x → P y → P (cond b x y)
 either P true h k = h
 either P false h k = k
 
@@ -268,19 +269,12 @@ same-self (a ∷ s) = rw (eq-eqb a a refl) (same-self s)
 -- a test that tells whether two lists are the same is the definition's
 pub same-is : (t : Bool) (a b : List ℕ) → (t ≡ true → a ≡ b) × (a ≡ b → t ≡ true) → same a b ≡ t
 same-is true a b h = rw (h .0 refl) (same-self b)
-same-is false a b h = by (same a b) refl
-  where
-    by : (x : Bool) → same a b ≡ x → x ≡ false
-    by true e = sym (h .1 (same-true a b e))
-    by false e = refl
+same-is false a b h = by-test (λ x. x ≡ false) (same a b) (λ e. sym (h .1 (same-true a b e))) (λ e. refl)
 
 -- an elided source is found again under the one that it was elided for
 refilled : (around s under : List ℕ) → (s ≡ around → under ≡ s) → filled under (elided around s) ≡ s
-refilled around s under h = by (same s around) refl
-  where
-    by : (b : Bool) → same s around ≡ b → filled under (cond b Source.inherited (Source.own s)) ≡ s
-    by true e = h (same-true s around e)
-    by false e = refl
+refilled around s under h =
+    by-test (λ b. filled under (cond b Source.inherited (Source.own s)) ≡ s) (same s around) (λ e. h (same-true s around e)) (λ e. refl)
 
 mutual
   unfolding readBack fill stripped

@@ -12,6 +12,7 @@ use borrow.Author.Tests.{ltb-true, ltb-false, lt-ltb, le-ltb, not-true, not-fals
 use Rattle.lent.specs.Memory.{Every}
 use Rattle.lent.proofs.Lists.{every-take, every-drop}
 use Rattle.utf8.specs.Utf8.{repair, isAscii}
+use Rattle.utf8.proofs.Rows.{by-test}
 use Rattle.utf8.proofs.Laws.{utf8-ascii, repair-utf8}
 
 -- ---- ASCII is each byte below 0x80, in both directions
@@ -81,11 +82,8 @@ ascii-part s at n e = every-ascii _ (every-take _ n (drop at s) (every-drop _ at
 
 -- what is not ASCII in a part is not ASCII
 pub part-not : (s : List ℕ) (at n : ℕ) {t : Bool} → t ≡ isAscii (take n (drop at s)) → not t ≡ true → false ≡ isAscii s
-part-not s at n {t} e h = go (isAscii s) refl
-  where
-    go : (a : Bool) → isAscii s ≡ a → false ≡ a
-    go true k = sym (not-true t h) ∙ e ∙ ascii-part s at n k
-    go false k = refl
+part-not s at n {t} e h =
+    by-test (λ a. false ≡ a) (isAscii s) (λ k. sym (not-true t h) ∙ e ∙ ascii-part s at n k) (λ k. refl)
 
 -- the bytes up to a place are ASCII
 pub record Front (s : List ℕ) (to : ℕ) : Type 0 where

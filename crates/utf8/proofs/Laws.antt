@@ -2,7 +2,7 @@
 use Prim.Native.Nat.{ℕ, zero, suc, _≤_, _<_, min}
 use mathlib.Core.Path.{_≡_, refl, sym, ap, _∙_}
 use mathlib.Core.List.{List, [], _∷_, _++_, append-assoc, append-nil}
-use mathlib.Core.Bool.{Bool, true, false, cond, _&&_, false≢true, and-eq-true-iff}
+use mathlib.Core.Bool.{true, cond, _&&_, false≢true, and-eq-true-iff}
 use native.Mathlib.Omega.{arith}
 use native.Mathlib.Nat.{le-refl}
 use lib.ListN.{length, take, drop, length-drop, take-append-drop}
@@ -15,7 +15,7 @@ use Rattle.utf8.specs.declared.Step.{Step}
 use Rattle.utf8.specs.Utf8.{Row, table3-7, within, matched, whole, firstStep, replacement, repairedStep, repairUpTo, repair, utf8UpTo, isUtf8}
 use Rattle.utf8.specs.Rows.{rowOf}
 use Rattle.utf8.proofs.Leads.{step-none}
-use Rattle.utf8.proofs.Rows.{rowStep, in-range, matched-le, row-step}
+use Rattle.utf8.proofs.Rows.{by-test, rowStep, in-range, matched-le, row-step}
 
 -- ---- one step after the other
 
@@ -95,12 +95,9 @@ matched-front : (row : Row) (bs rest : List ℕ) → matched row bs ≡ length r
 unfolding matched
 matched-front [] bs rest h = refl
 matched-front (r ∷ row) [] rest h = absurd (omega arith)
-matched-front (r ∷ row) (b ∷ bs) rest h = go (matched-front row bs rest) (within b r) h
-  where
-    go : (matched row bs ≡ length row → matched row (take (length row) bs ++ rest) ≡ length row) → (t : Bool) → cond t (suc (matched row bs)) 0 ≡ suc (length row)
-        → cond t (suc (matched row (take (length row) bs ++ rest))) 0 ≡ suc (length row)
-    go i true e = ap suc (i (omega arith))
-    go i false e = e
+matched-front (r ∷ row) (b ∷ bs) rest h =
+    by-test (λ t. cond t (suc (matched row bs)) 0 ≡ suc (length row) → cond t (suc (matched row (take (length row) bs ++ rest))) 0 ≡ suc (length row)) (within b r)
+    (λ e k. ap suc (matched-front row bs rest (omega arith))) (λ e k. k) h
 
 row-sequence : (row : Row) (b : ℕ) (bs : List ℕ) → rowOf table3-7 b ≡ row → rowStep row bs .«well_formed» ≡ true → Sequence (take (rowStep row bs .len) (b ∷ bs))
 unfolding matched
@@ -159,11 +156,8 @@ unfolding repairUpTo
 repair-utf8 s h = rw append-nil at (repair-append s [] h)
 
 repaired-sequence : (b : ℕ) (bs : List ℕ) → Sequence (repairedStep (firstStep (b ∷ bs)) (b ∷ bs))
-repaired-sequence b bs = go (firstStep (b ∷ bs) .«well_formed») refl
-  where
-    go : (t : Bool) → firstStep (b ∷ bs) .«well_formed» ≡ t → Sequence (cond t (take (firstStep (b ∷ bs) .len) (b ∷ bs)) replacement)
-    go true e = front-sequence b bs e
-    go false e = replacement-sequence
+repaired-sequence b bs =
+    by-test (λ t. Sequence (cond t (take (firstStep (b ∷ bs) .len) (b ∷ bs)) replacement)) (firstStep (b ∷ bs) .«well_formed») (front-sequence b bs) (λ e. replacement-sequence)
 
 -- what repair gives is text
 pub utf8-repair : (s : List ℕ) → isUtf8 (repair s) ≡ true
@@ -184,11 +178,9 @@ matched-bytes : (row : Row) (bs : List ℕ) → Low row → matched row bs ≡ l
 unfolding Every matched
 matched-bytes row [] h e = tt
 matched-bytes [] (b ∷ bs) h e = absurd (omega arith)
-matched-bytes (r ∷ row) (b ∷ bs) h e = go (matched-bytes row bs (h .1)) (within b r) refl e
-  where
-    go : (matched row bs ≡ length bs → Bytes bs) → (t : Bool) → within b r ≡ t → cond t (suc (matched row bs)) 0 ≡ suc (length bs) → Byte b × Bytes bs
-    go i true e k = (omega (arith, in-range b r e), i (omega arith))
-    go i false e k = absurd (omega arith)
+matched-bytes (r ∷ row) (b ∷ bs) h e =
+    by-test (λ t. cond t (suc (matched row bs)) 0 ≡ suc (length bs) → Byte b × Bytes bs) (within b r)
+    (λ i k. (omega (arith, in-range b r i), matched-bytes row bs (h .1) (omega arith))) (λ i k. absurd (omega arith)) e
 
 -- a byte that leads a row
 abbrev Leads : Row → ℕ → Type 0
@@ -199,11 +191,8 @@ leads : (rows : List Row) (b : ℕ) → Every Low rows → Leads (rowOf rows b) 
 unfolding Every rowOf
 leads [] b h = tt
 leads ([] ∷ rows) b h = leads rows b (h .1)
-leads ((r ∷ row) ∷ rows) b h = go (leads rows b (h .1)) (within b r) refl
-  where
-    go : Leads (rowOf rows b) b → (t : Bool) → within b r ≡ t → Leads (cond t (r ∷ row) (rowOf rows b)) b
-    go i true e = (omega (arith, in-range b r e), h .0 .1)
-    go i false e = i
+leads ((r ∷ row) ∷ rows) b h =
+    by-test (λ t. Leads (cond t (r ∷ row) (rowOf rows b)) b) (within b r) (λ e. (omega (arith, in-range b r e), h .0 .1)) (λ e. leads rows b (h .1))
 
 row-bytes : (row : Row) (b : ℕ) (bs : List ℕ) → Leads row b → rowStep row bs ≡ record { len = suc (length bs); «well_formed» = true } → Bytes (b ∷ bs)
 unfolding Every matched

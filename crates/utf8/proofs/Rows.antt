@@ -11,6 +11,11 @@ use Rattle.utf8.specs.declared.Step.{Step}
 use Rattle.utf8.specs.Utf8.{Range, Row, table3-7, within, matched, whole, begun, firstStep}
 use Rattle.utf8.specs.Rows.{rowOf}
 
+-- by a test: what holds of each result holds of the test's, where that result is known
+pub by-test : (P : Bool → Type 0) (b : Bool) → (b ≡ true → P true) → (b ≡ false → P false) → P b
+by-test P true h k = h refl
+by-test P false h k = k refl
+
 -- how many bytes begin a row's sequence: the lead byte, and those behind it that lie in their ranges
 abbrev pub taken : Row → List ℕ → ℕ
 taken row bs = suc (matched (drop 1 row) bs)
@@ -52,20 +57,13 @@ found : (rows : List Row) (from b : ℕ) (bs : List ℕ) → Rising from rows �
 unfolding rowOf whole begun matched
 found [] from b bs h = (refl, refl)
 found ([] ∷ rows) from b bs h = absurd h
-found ((r ∷ row) ∷ rows) from b bs h = go (found rows (suc (r .high)) b bs (h .2)) (within b r) refl
+found ((r ∷ row) ∷ rows) from b bs h =
+    by-test (λ t. Found (cond t (r ∷ row) (rowOf rows b)) bs (cond (eqb (m t) (suc (length row))) (suc (length row)) (whole rows (b ∷ bs))) (max (m t) (begun rows (b ∷ bs)))) (within b r)
+    (λ e. let l = in-range b r e in let k = below rows (suc (r .high)) b bs (h .2) (omega arith) in (rw (k .0), rw (k .1) (omega arith)))
+    (λ e. let z : max 0 (begun rows (b ∷ bs)) ≡ begun rows (b ∷ bs) = omega arith in rw (eqb·zero-suc (length row), z) (found rows (suc (r .high)) b bs (h .2)))
   where
     m : Bool → ℕ
     m t = cond t (suc (matched row bs)) 0
-
-    go : Found (rowOf rows b) bs (whole rows (b ∷ bs)) (begun rows (b ∷ bs)) → (t : Bool) → within b r ≡ t
-        → Found (cond t (r ∷ row) (rowOf rows b)) bs (cond (eqb (m t) (suc (length row))) (suc (length row)) (whole rows (b ∷ bs))) (max (m t) (begun rows (b ∷ bs)))
-    go i true e =
-        let l = in-range b r e in
-        let k = below rows (suc (r .high)) b bs (h .2) (omega arith) in
-        (rw (k .0), rw (k .1) (omega arith))
-    go i false e =
-        let z : max 0 (begun rows (b ∷ bs)) ≡ begun rows (b ∷ bs) = omega arith in
-        rw (eqb·zero-suc (length row), z) i
 
 -- ---- the first step
 
@@ -73,27 +71,18 @@ pub matched-le : (row : Row) (bs : List ℕ) → matched row bs ≤ length bs
 unfolding matched
 matched-le [] bs = omega arith
 matched-le (r ∷ row) [] = omega arith
-matched-le (r ∷ row) (b ∷ bs) = go (matched-le row bs) (within b r)
-  where
-    go : matched row bs ≤ length bs → (t : Bool) → cond t (suc (matched row bs)) 0 ≤ suc (length bs)
-    go i true = omega arith
-    go i false = omega arith
+matched-le (r ∷ row) (b ∷ bs) =
+    by-test (λ t. cond t (suc (matched row bs)) 0 ≤ suc (length bs)) (within b r) (λ e. omega (arith, matched-le row bs)) (λ e. omega arith)
 
 -- the first step of l bytes, from whole and begun
 abbrev stepFrom : ℕ → ℕ → ℕ → Step
 stepFrom l w n = cond (eqb w 0) (record { len = min l (max 1 n); «well_formed» = false }) (record { len = w; «well_formed» = true })
 
 step-found : (row : Row) (bs : List ℕ) (w n : ℕ) → Found row bs w n → stepFrom (suc (length bs)) w n ≡ rowStep row bs
-step-found row bs w n h = go (eqb (taken row bs) (length row)) refl (h .0)
-  where
-    go : (t : Bool) → eqb (taken row bs) (length row) ≡ t → w ≡ cond t (length row) 0 → stepFrom (suc (length bs)) w n ≡ record { len = taken row bs; «well_formed» = t }
-    go true e p =
-        let l = eqb-true (taken row bs) (length row) e in
-        let q : w ≡ taken row bs = omega arith in
-        rw (ne-eqb w 0 (omega arith), q)
-    go false e p =
-        let q : min (suc (length bs)) (max 1 n) ≡ taken row bs = omega (arith, matched-le (drop 1 row) bs) in
-        rw (p, q)
+step-found row bs w n h =
+    by-test (λ t. w ≡ cond t (length row) 0 → stepFrom (suc (length bs)) w n ≡ record { len = taken row bs; «well_formed» = t }) (eqb (taken row bs) (length row))
+    (λ e p. let l = eqb-true (taken row bs) (length row) e in let q : w ≡ taken row bs = omega arith in rw (ne-eqb w 0 (omega arith), q))
+    (λ e p. let q : min (suc (length bs)) (max 1 n) ≡ taken row bs = omega (arith, matched-le (drop 1 row) bs) in rw (p, q)) (h .0)
 
 -- the first step is that of the row that the first byte leads
 pub row-step : (b : ℕ) (bs : List ℕ) → firstStep (b ∷ bs) ≡ rowStep (rowOf table3-7 b) bs
