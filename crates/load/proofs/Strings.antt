@@ -2,13 +2,14 @@
 use Prim.Native.Nat.{ℕ, zero, suc, _+_, _-_, _≤_, _<_}
 use mathlib.Core.Path.{_≡_, refl, sym, ap, _∙_}
 use mathlib.Core.List.{List, []}
-use mathlib.Core.Bool.{Bool, true, false, cond, not, false≢true}
+use mathlib.Core.Bool.{true, cond, not, false≢true}
 use native.Mathlib.Omega.{arith}
 use native.Mathlib.Decide.{decLe, decLt}
 use lib.ListN.{length, drop, getD, length-drop}
 use lib.Seq.{drop-drop}
 use lib.Dec.{eqb}
 use borrow.Author.Tests.{ne-eqb}
+use Rattle.utf8.proofs.Rows.{by-test}
 use Rattle.format.specs.Tree.{Source, filled}
 use Rattle.format.specs.Tree.{Constant as Value}
 use Rattle.format.specs.Read.{got, refused, loadByte, loadInt, loadSize, stringOf, loadString, loadText, constantOf, loadConstant}
@@ -65,11 +66,8 @@ module _ {bs : List ℕ} {s m : Cursor} {size : ℕ} {z : Span} (h : ReadsBy bs 
 
 -- a name or a string constant: empty where there is no string
 pub text-of : {bs : List ℕ} {s : Cursor} {z : Span} → Strings bs s z → ReadsBy bs loadText (λ a. a ≡ part bs (z .start) (z .len)) s (z .cursor)
-text-of {bs} {s} {z} k = mapped (filled []) (λ x p. rw p (by (z .own) refl)) (k .reads)
-  where
-    by : (own : Bool) → z .own ≡ own → filled [] (cond own (Source.own (part bs (z .start) (z .len))) Source.inherited) ≡ part bs (z .start) (z .len)
-    by true e = refl
-    by false e = rw (k .empty e)
+text-of {bs} {s} {z} k =
+    mapped (filled []) (λ x p. rw p (by-test (λ own. filled [] (cond own (Source.own (part bs (z .start) (z .len))) Source.inherited) ≡ part bs (z .start) (z .len)) (z .own) (λ e. refl) (λ e. rw (k .empty e)))) (k .reads)
 
 -- ---- constants
 
