@@ -1,6 +1,6 @@
 -- The proof of demand 3. Reading a dump finds the tree that was written and ends where the dump ends, whatever stands behind it,
 -- so a call that is not refused moves on by the dump, one that is refused stays, and the dumps that are left are those that stand there.
-use Prim.Native.Nat.{ℕ, zero, suc, _+_, _-_, _<_}
+use Prim.Native.Nat.{ℕ, _+_, _-_, _<_}
 use mathlib.Core.Path.{_≡_, refl, sym, ap, _∙_}
 use mathlib.Core.Logic.{_⊎_, inl, inr}
 use mathlib.Core.Option.{Option, none, some}
@@ -22,17 +22,14 @@ use Rattle.format.specs.Stored.{treeOf}
 use Rattle.format.specs.Undump.{loadChunk, UndumpLeft, undumpRefused, Refuses, wordsUsed, textUsed}
 use Rattle.format.specs.Dump.{WriteLeft, writeLeft}
 use Rattle.chunk.specs.Demand3.{DumpCall, Accepted, bytesOf, dumpsOf, endToEnd, dumpedSource, UndumpCall, leftBy, Calls, FindsStripped, Takes, CallOnDump, dumpsLeft, Session, Demand3}
-use Rattle.format.proofs.RoundTrip.{Reads, readBack, chunk-law, found-valid, found-filled}
+use Rattle.utf8.proofs.Rows.{by-test}
+use Rattle.format.proofs.RoundTrip.{Reads, either, readBack, chunk-law, found-valid, found-filled}
 use Rattle.format.proofs.Stored.{tree-holds, holds-tree, holds-one}
 use Rattle.format.proofs.Filled.{stripped-not, fill-one}
 use Rattle.format.proofs.Calls.{Outcome, Stores, undump-outcome, undump-refused, refusal-is, stored-holds, DumpRefuses, DumpOutcome, dump-outcome}
 
 got-both : {A : Type 0} {a b : A} {s t : List ℕ} → got a s ≡ got b t → (a ≡ b) × (s ≡ t)
 got-both e = (cc, cc)
-
-positive : (n : ℕ) → (n ≡ 0 → ⊥) → 0 < n
-positive zero h = absurd (h refl)
-positive (suc n) h = omega arith
 
 -- ---- a dump
 
@@ -218,16 +215,8 @@ moved-on d a ds behind bytes b c = by (eqb (c .answer .refusal) 0) refl
         let read : c .answer .read ≡ length (bytesOf d) = step-law d a bytes (endToEnd ds ++ behind) b c .takes (eqb-true _ _ e) .read in
         rw (read, b) (drop-at (bytesOf d) (endToEnd ds ++ behind) _ refl)
     by false e =
-        let read : c .answer .read ≡ 0 = ap (λ (u : UndumpLeft). u .answer .read) (untouched-law d a bytes (endToEnd ds ++ behind) b c _ (positive _ (eqb-false _ _ e)) refl) in
+        let read : c .answer .read ≡ 0 = ap (λ (u : UndumpLeft). u .answer .read) (untouched-law d a bytes (endToEnd ds ++ behind) b c (c .answer .refusal) (omega (arith, eqb-false (c .answer .refusal) 0 e)) refl) in
         rw (read, b) (sym (append-assoc (bytesOf d) (endToEnd ds) behind))
-
-left-accepted : (refusal : ℕ) (d : DumpCall) (ds : List DumpCall) → Accepted d → Every Accepted ds → Every Accepted (cond (eqb refusal 0) ds (d ∷ ds))
-unfolding Every
-left-accepted refusal d ds a rest = by (eqb refusal 0)
-  where
-    by : (none : Bool) → Every Accepted (cond none ds (d ∷ ds))
-    by true = rest
-    by false = (a, rest)
 
 session-law : {slice : List ℕ} {place : ℕ} (cs : Calls slice place) (ds : List DumpCall) (behind : List ℕ) → Every Accepted ds → drop place slice ≡ endToEnd ds ++ behind → Session cs ds
 unfolding Session endToEnd Every
@@ -236,7 +225,7 @@ session-law (Calls.call c cs) [] behind a e = tt
 session-law {slice} {place} (Calls.call c cs) (d ∷ ds) behind a e =
     let b : drop place slice ≡ bytesOf d ++ (endToEnd ds ++ behind) = e ∙ append-assoc (bytesOf d) (endToEnd ds) behind in (
       step-law d (a .0) (drop place slice) (endToEnd ds ++ behind) b c,
-      session-law cs _ behind (left-accepted (c .answer .refusal) d ds (a .0) (a .1)) (sym (drop-drop _ place slice) ∙ moved-on d (a .0) ds behind (drop place slice) b c),
+      session-law cs _ behind (either (Every Accepted) (eqb (c .answer .refusal) 0) (a .1) a) (sym (drop-drop _ place slice) ∙ moved-on d (a .0) ds behind (drop place slice) b c),
     )
 
 -- ---- refused dump calls
@@ -244,20 +233,15 @@ session-law {slice} {place} (Calls.call c cs) (d ∷ ds) behind a e =
 dumps-accepted : (ds : List DumpCall) → Every Accepted (dumpsOf ds)
 unfolding dumpsOf Every
 dumps-accepted [] = tt
-dumps-accepted (d ∷ ds) = by (dumps-accepted ds) (eqb (d .answer .refusal) 0) refl
-  where
-    by : Every Accepted (dumpsOf ds) → (b : Bool) → eqb (d .answer .refusal) 0 ≡ b → Every Accepted (cond b (d ∷ dumpsOf ds) (dumpsOf ds))
-    by i true e = (eqb-true _ _ e, i)
-    by i false e = i
+dumps-accepted (d ∷ ds) =
+    by-test (λ b. Every Accepted (cond b (d ∷ dumpsOf ds) (dumpsOf ds))) (eqb (d .answer .refusal) 0) (λ e. (eqb-true _ _ e, dumps-accepted ds)) (λ e. dumps-accepted ds)
 
 dumps-bytes : (ds : List DumpCall) → endToEnd (dumpsOf ds) ≡ endToEnd ds
 unfolding dumpsOf endToEnd
 dumps-bytes [] = refl
-dumps-bytes (d ∷ ds) = by (dumps-bytes ds) (eqb (d .answer .refusal) 0) refl
-  where
-    by : endToEnd (dumpsOf ds) ≡ endToEnd ds → (b : Bool) → eqb (d .answer .refusal) 0 ≡ b → endToEnd (cond b (d ∷ dumpsOf ds) (dumpsOf ds)) ≡ bytesOf d ++ endToEnd ds
-    by i true e = rw i
-    by i false e = rw (i, refused-bytes d (eqb-false _ _ e))
+dumps-bytes (d ∷ ds) =
+    by-test (λ b. endToEnd (cond b (d ∷ dumpsOf ds) (dumpsOf ds)) ≡ bytesOf d ++ endToEnd ds) (eqb (d .answer .refusal) 0)
+    (λ e. rw (dumps-bytes ds)) (λ e. rw (dumps-bytes ds, refused-bytes d (eqb-false _ _ e)))
 
 -- ---- what the bytes tell
 
