@@ -13,6 +13,17 @@ use Rattle.format.specs.Tree.{Source, Debug, Parts, Function, Functions,
 use Rattle.format.specs.Valid.{ValidParts, Valid, ValidAll, HoldOne}
 use Rattle.format.specs.Agree.{SameBody, SameDebug, SameParts, StrippedParts, ByFunction, ByFunctions, Agree, Stripped, OwnSource, HoldAgreeing}
 
+-- what holds of a function where it holds of those in it, and of a list of functions where it holds of each, holds of every tree
+module _ (P : Function → Type 0) (Q : Functions → Type 0) (function : (p : Parts) (fs : Functions) → Q fs → P (Function.function p fs)) (none : Q Functions.none)
+    (more : (f : Function) (fs : Functions) → P f → Q fs → Q (Functions.more f fs)) where
+  mutual
+    pub by-tree : (f : Function) → P f
+    by-tree (Function.function p fs) = function p fs (by-trees fs)
+
+    by-trees : (fs : Functions) → Q fs
+    by-trees Functions.none = none
+    by-trees (Functions.more f fs) = more f fs (by-tree f) (by-trees fs)
+
 -- what holds of every item of two lists one after the other holds of every item of each
 every-both : {A : Type 0} (P : A → Type 0) (s t : List A) → Every P (s ++ t) → Every P s × Every P t
 unfolding Every
@@ -35,43 +46,28 @@ parts-one {d = d} {d′ = d′} h e k =
 
 -- ---- fill changes inherited sources alone
 
-mutual
-  unfolding fill ByFunction
+-- the tree filled in agrees with the tree, whatever it stands under
+pub fill-agrees : (f : Function) (outer under : List ℕ) → Agree f outer (fill f outer) under
+unfolding fill ByFunction
+fill-agrees =
+    by-tree (λ f. (outer under : List ℕ) → Agree f outer (fill f outer) under) (λ fs. (outer under : List ℕ) → ByFunctions SameParts fs outer (fillAll fs outer) under)
+    (λ p fs h outer under. (record { source = refl; body = same-body _ _ p; debug = same-debug (p .debug) }, h _ _)) (λ outer under. tt) (λ f fs h k outer under. (h outer under, k outer under))
 
-  -- the tree filled in agrees with the tree, whatever it stands under
-  pub fill-agrees : (f : Function) (outer under : List ℕ) → Agree f outer (fill f outer) under
-  fill-agrees (Function.function p fs) outer under =
-      (record { source = refl; body = same-body _ _ p; debug = same-debug (p .debug) }, fill-all-agrees fs (filled outer (p .source)) (filled outer (p .source)))
+-- each source of it is its function's own
+pub fill-owns : (f : Function) (outer : List ℕ) → Every OwnSource (preorder (fill f outer))
+unfolding fill preorder Every
+fill-owns =
+    by-tree (λ f. (outer : List ℕ) → Every OwnSource (preorder (fill f outer))) (λ fs. (outer : List ℕ) → Every OwnSource (preorderAll (fillAll fs outer)))
+    (λ p fs h outer. (record { bytes = filled outer (p .source); is = refl }, h _)) (λ outer. tt) (λ f fs h k outer. every-append OwnSource (preorder (fill f outer)) _ (h outer) (k outer))
 
-  fill-all-agrees : (fs : Functions) (outer under : List ℕ) → ByFunctions SameParts fs outer (fillAll fs outer) under
-  fill-all-agrees Functions.none outer under = tt
-  fill-all-agrees (Functions.more f fs) outer under = (fill-agrees f outer under, fill-all-agrees fs outer under)
-
-mutual
-  unfolding fill preorder Every
-
-  -- each source of it is its function's own
-  pub fill-owns : (f : Function) (outer : List ℕ) → Every OwnSource (preorder (fill f outer))
-  fill-owns (Function.function p fs) outer = (record { bytes = filled outer (p .source); is = refl }, fill-all-owns fs (filled outer (p .source)))
-
-  fill-all-owns : (fs : Functions) (outer : List ℕ) → Every OwnSource (preorderAll (fillAll fs outer))
-  fill-all-owns Functions.none outer = tt
-  fill-all-owns (Functions.more f fs) outer = every-append OwnSource (preorder (fill f outer)) _ (fill-owns f outer) (fill-all-owns fs outer)
-
-mutual
-  unfolding fill preorder Every
-
-  -- where each source is its function's own, nothing changes
-  pub fill-own : (f : Function) (outer : List ℕ) → Every OwnSource (preorder f) → fill f outer ≡ f
-  fill-own (Function.function p fs) outer h =
-      let e : with (Source.own (filled outer (p .source))) (p .debug) p ≡ p = rw (h .0 .is) in
-      cc (fill-all-own fs (filled outer (p .source)) (h .1))
-
-  fill-all-own : (fs : Functions) (outer : List ℕ) → Every OwnSource (preorderAll fs) → fillAll fs outer ≡ fs
-  fill-all-own Functions.none outer h = refl
-  fill-all-own (Functions.more f fs) outer h =
-      let k = every-both OwnSource (preorder f) (preorderAll fs) h in
-      cc (fill-own f outer (k .0), fill-all-own fs outer (k .1))
+-- where each source is its function's own, nothing changes
+pub fill-own : (f : Function) (outer : List ℕ) → Every OwnSource (preorder f) → fill f outer ≡ f
+unfolding fill preorder Every
+fill-own =
+    by-tree (λ f. (outer : List ℕ) → Every OwnSource (preorder f) → fill f outer ≡ f) (λ fs. (outer : List ℕ) → Every OwnSource (preorderAll fs) → fillAll fs outer ≡ fs)
+    (λ p fs i outer h. let e : with (Source.own (filled outer (p .source))) (p .debug) p ≡ p = rw (h .0 .is) in cc (i (filled outer (p .source)) (h .1)))
+    (λ outer h. refl)
+    (λ f fs i j outer h. let k = every-both OwnSource (preorder f) (preorderAll fs) h in cc (i outer (k .0), j outer (k .1)))
 
 -- the root's source is that of the first function of the tree filled in
 pub root-source : (f : Function) (name : List ℕ) → partsOf (fill f name) .source ≡ Source.own (rootSource f name)
@@ -116,16 +112,13 @@ mutual
 
 -- ---- strip
 
-mutual
-  unfolding stripped ByFunction
-
-  stripped-under : (f : Function) (outer outer′ : List ℕ) → ByFunction (λ outer p outer′ p′. StrippedParts p p′) f outer (stripped f true) outer′
-  stripped-under (Function.function p fs) outer outer′ =
-      (record { source = refl; body = same-body _ _ p; lines = refl; locals = refl; upvalues = refl }, stripped-all-under fs _ _)
-
-  stripped-all-under : (fs : Functions) (outer outer′ : List ℕ) → ByFunctions (λ outer p outer′ p′. StrippedParts p p′) fs outer (strippedAll fs true) outer′
-  stripped-all-under Functions.none outer outer′ = tt
-  stripped-all-under (Functions.more f fs) outer outer′ = (stripped-under f outer outer′, stripped-all-under fs outer outer′)
+stripped-under : (f : Function) (outer outer′ : List ℕ) → ByFunction (λ outer p outer′ p′. StrippedParts p p′) f outer (stripped f true) outer′
+unfolding stripped ByFunction
+stripped-under =
+    by-tree (λ f. (outer outer′ : List ℕ) → ByFunction (λ outer p outer′ p′. StrippedParts p p′) f outer (stripped f true) outer′)
+    (λ fs. (outer outer′ : List ℕ) → ByFunctions (λ outer p outer′ p′. StrippedParts p p′) fs outer (strippedAll fs true) outer′)
+    (λ p fs h outer outer′. (record { source = refl; body = same-body _ _ p; lines = refl; locals = refl; upvalues = refl }, h _ _))
+    (λ outer outer′. tt) (λ f fs h k outer outer′. (h outer outer′, k outer outer′))
 
 mutual
   unfolding stripped ByFunction
@@ -146,15 +139,9 @@ mutual
 pub strip-one : (f f′ : Function) → (stripped f true ≡ f′) ↔ Stripped f f′
 strip-one f f′ = (λ e. rw e at (stripped-under f [] []), stripped-one f [] f′ [])
 
-mutual
-  unfolding stripped
-
-  pub stripped-not : (f : Function) → stripped f false ≡ f
-  stripped-not (Function.function p fs) = rw (stripped-none fs)
-
-  stripped-none : (fs : Functions) → strippedAll fs false ≡ fs
-  stripped-none Functions.none = refl
-  stripped-none (Functions.more f fs) = rw (stripped-not f, stripped-none fs)
+pub stripped-not : (f : Function) → stripped f false ≡ f
+unfolding stripped
+stripped-not = by-tree (λ f. stripped f false ≡ f) (λ fs. strippedAll fs false ≡ fs) (λ p fs h. rw h) refl (λ f fs h k. rw (h, k))
 
 -- ---- in preorder
 

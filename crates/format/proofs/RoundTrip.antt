@@ -19,6 +19,7 @@ use Rattle.format.specs.Write.{dumpNumber, dumpInt, dumpSize, dumpString
 use Rattle.format.specs.Store.{Piece, pieces, constantPiece, localPiece, string, sourcePiece, functionPiece, functionPieces, textOf}
 use Rattle.format.specs.Valid.{depth, most, Name, ValidSource, ValidConstant, ValidLocal, ValidList, ValidDebug, ValidParts, Valid, ValidAll}
 use Rattle.format.specs.Undump.{repairedSource, repairedLocal, repaired, repairedAll, loadChunk}
+use Rattle.format.proofs.Filled.{by-tree}
 
 -- the reader r finds a where bs begin what it is given, and leaves what stands behind them
 pub record Reads {A : Type 0} (r : Reader A) (bs : List ℕ) (a : A) : Type 0 where
@@ -276,17 +277,14 @@ refilled : (around s under : List ℕ) → (s ≡ around → under ≡ s) → fi
 refilled around s under h =
     by-test (λ b. filled under (cond b Source.inherited (Source.own s)) ≡ s) (same s around) (λ e. h (same-true s around e)) (λ e. refl)
 
-mutual
-  unfolding readBack fill stripped
-
-  pub found-filled : (f : Function) (strip : Bool) (around outer under : List ℕ) → (rootSource f outer ≡ around → under ≡ rootSource f outer)
-      → fill (readBack f strip around outer) under ≡ fill (stripped f strip) outer
-  found-filled (Function.function p fs) strip around outer under h =
-      rw (refilled around (filled outer (p .source)) under h, found-all-filled fs strip (filled outer (p .source)))
-
-  found-all-filled : (fs : Functions) (strip : Bool) (source : List ℕ) → fillAll (readBackAll fs strip source) source ≡ fillAll (strippedAll fs strip) source
-  found-all-filled Functions.none strip source = refl
-  found-all-filled (Functions.more f fs) strip source = rw (found-filled f strip source source source (λ e. sym e), found-all-filled fs strip source)
+pub found-filled : (f : Function) (strip : Bool) (around outer under : List ℕ) → (rootSource f outer ≡ around → under ≡ rootSource f outer)
+    → fill (readBack f strip around outer) under ≡ fill (stripped f strip) outer
+unfolding readBack fill stripped
+found-filled f strip =
+    by-tree (λ f. (around outer under : List ℕ) → (rootSource f outer ≡ around → under ≡ rootSource f outer) → fill (readBack f strip around outer) under ≡ fill (stripped f strip) outer)
+    (λ fs. (source : List ℕ) → fillAll (readBackAll fs strip source) source ≡ fillAll (strippedAll fs strip) source)
+    (λ p fs i around outer under h. rw (refilled around (filled outer (p .source)) under h, i (filled outer (p .source))))
+    (λ source. refl) (λ f fs i j source. rw (i source source source (λ e. sym e), j source)) f
 
 -- ---- a whole chunk
 
