@@ -10,9 +10,10 @@ use Rattle.lent.specs.Memory.{far, Puts}
 use Rattle.lent.proofs.Writes.{sets-append, put-lost, put-part, put-none}
 use Rattle.format.specs.Read.{got, refused, loadInt, many, loadCount, loadList}
 use Rattle.format.specs.Store.{plain, word, ints}
+use Rattle.load_state.specs.declared.cursor.Cursor.{Cursor}
 use Rattle.load.specs.declared.Load.{Load}
 use Rattle.load_state.specs.ReadAt.{fourAt}
-use Rattle.load.specs.Loads.{ReadsBy, fours, space, Does, world, Loads}
+use Rattle.load.specs.Loads.{ReadsBy, fours, space, Does, world, moved, Loads}
 use Rattle.load_state.proofs.Bytes.{int-got, int-none}
 use Rattle.load.proofs.Steps.{passed, takes, stops, bind}
 use Rattle.load.proofs.Stores.{join}
@@ -69,18 +70,19 @@ many-none bs at (suc n) h = elim (decLe 4 (length bs - at)) [
 
 -- ---- a list of integers, after its count
 
-module _ {bs : List ℕ} {s p : Load} {n : ℕ} {ws ws₁ t : List ℕ}
-    (h : ReadsBy bs loadCount (λ a. (a ≡ n) × Does (word a) (space s ws t) (space p ws₁ t)) (s .cursor) (p .cursor)) where
-  pub ints-refused : 0 < p .cursor .refusal → Loads bs (loadList loadInt) ints (world s ws t) (world p ws₁ t)
-  ints-refused z = bind (many loadInt) h (λ y. refl) (λ a e. passed z refl)
+module _ {bs : List ℕ} {s p : Load} {n : ℕ} {ws ws₁ : List ℕ}
+    (h : (t : List ℕ) → ReadsBy bs loadCount (λ a. (a ≡ n) × Does (word a) (space s ws t) (space p ws₁ t)) (s .cursor) (p .cursor)) where
+  pub ints-refused : 0 < p .cursor .refusal → (t : List ℕ) → Loads bs (loadList loadInt) ints (world s ws t) (world p ws₁ t)
+  ints-refused z t = bind (many loadInt) (h t) (λ y. refl) (λ a e. passed z refl)
 
-  pub ints-short : {r : Load} {ws₂ : List ℕ} → p .cursor .refusal ≤ 0 → length bs - p .cursor .next < 4 * n → r .cursor .refusal ≡ 2 → Loads bs (loadList loadInt) ints (world s ws t) (world r ws₂ t)
-  ints-short z k f = bind (many loadInt) h (λ y. absurd (omega arith)) (λ a e. stops z (rw (e .0) (many-none bs (p .cursor .next) n k)) f (omega arith))
+  pub ints-short : {r : Load} {m : Cursor} {ws₂ : List ℕ} → p .cursor .refusal ≤ 0 → length bs - p .cursor .next < 4 * n → r ≡ moved p m → m .refusal ≡ 2
+      → (t : List ℕ) → Loads bs (loadList loadInt) ints (world s ws t) (world r ws₂ t)
+  ints-short z k e f t = rw e (bind (many loadInt) (h t) (λ y. absurd (omega arith)) (λ a e. stops z (rw (e .0) (many-none bs (p .cursor .next) n k)) f (omega arith)))
 
   pub ints-loaded : {r : Load} {ws₂ : List ℕ} → p .cursor .refusal ≤ 0 → 4 * n ≤ length bs - p .cursor .next → r .cursor .refusal ≡ 0 → r .cursor .next ≡ p .cursor .next + 4 * n → r .text ≡ p .text
-      → Puts (fours bs (p .cursor .next) n) (p .words) ws₁ (r .words) ws₂ → Loads bs (loadList loadInt) ints (world s ws t) (world r ws₂ t)
-  ints-loaded {r} {ws₂} z k f g u w =
-      bind (many loadInt) h (λ y. absurd (omega arith))
+      → Puts (fours bs (p .cursor .next) n) (p .words) ws₁ (r .words) ws₂ → (t : List ℕ) → Loads bs (loadList loadInt) ints (world s ws t) (world r ws₂ t)
+  ints-loaded {r} {ws₂} z k f g u w t =
+      bind (many loadInt) (h t) (λ y. absurd (omega arith))
       (λ a e. takes {a = fours bs (p .cursor .next) n} {rest = drop (p .cursor .next + 4 * n) bs} z (rw (e .0) (many-got bs (p .cursor .next) n k)) f (rw g) (rw (fours-length bs (p .cursor .next) n) (join (rw (e .0) at (e .1)) stored)))
     where
       stored : Does (plain (fours bs (p .cursor .next) n)) (space p ws₁ t) (space r ws₂ t)

@@ -39,22 +39,19 @@ string-part bs start len = let e : start + len - start ≡ len = omega arith in 
 abbrev pub lentPart : List ℕ → Span → List ℕ
 lentPart bs z = take (z .start + z .len - z .start) (drop (z .start) bs)
 
-part-is : (bs : List ℕ) (z : Span) → lentPart bs z ≡ part bs (z .start) (z .len)
-part-is bs z = string-part bs (z .start) (z .len)
-
 module _ {bs : List ℕ} {s p r : Load} {z : Span} {t : ℕ} {ws ws′ ts ts′ : List ℕ} (h : Strings bs (s .cursor) z) (e : p ≡ moved s (z .cursor)) where
   -- a name is repaired into the text, and its place and length are stored
   pub name-loaded : Puts (repair (lentPart bs z)) (s .text) ts t ts′ → r .cursor ≡ p .cursor
       → ((b u u′ : List ℕ) → Puts b (p .text) u t u′ → Does (string b) (space p ws u) (space r ws′ u′)) → Loads bs loadText repairedName (world s ws ts) (world r ws′ ts′)
   name-loaded g f k =
-      let g′ : Puts (repair (part bs (z .start) (z .len))) (s .text) ts t ts′ = rw (part-is bs z) at g in
+      let g′ : Puts (repair (part bs (z .start) (z .len))) (s .text) ts t ts′ = rw string-part at g in
       stores (text-of h) (f ∙ rw e) (λ a q. rw q (rw e at (k (repair (part bs (z .start) (z .len))) ts ts′ (rw e g′))))
 
   -- a source of its own
   pub source-own : z .own ≡ true → r .cursor ≡ p .cursor → Puts (repair (lentPart bs z)) (p .text) ts t ts′
       → ((b u u′ : List ℕ) → Puts b (p .text) u t u′ → Does (word 1 ⊕ string b) (space p ws u) (space r ws′ u′)) → Loads bs loadString repairedSourcePiece (world s ws ts) (world r ws′ ts′)
   source-own o f g k =
-      let g′ : Puts (repair (part bs (z .start) (z .len))) (p .text) ts t ts′ = rw (part-is bs z) at g in
+      let g′ : Puts (repair (part bs (z .start) (z .len))) (p .text) ts t ts′ = rw string-part at g in
       stores (h .reads) (f ∙ rw e) (λ a w. rw (w, o) (rw e at (k (repair (part bs (z .start) (z .len))) ts ts′ g′)))
 
 -- no source: three zeros
