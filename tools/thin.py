@@ -2,12 +2,12 @@
 """thin.py: write the proofs of the functions of crates/load_state that hold a LoadState and call another.
 
   load_x(s) = x_at(s.chunk, s.pos)               closes by proofs/Thin
-  read_x(chunk, pos) = load_x(state(chunk, pos)) closes by proofs/Above
+  read_x(chunk, pos) = load_x(state(chunk, pos)) closes by the same file
 
 Both laws are walked once, for every x; a proof here only names the answer's type, what is said of it (proofs/Numbers, written here too),
 and the functions that are called.
 For a further number x: add it to NUMBERS (its answer's struct in src/cursor.rt, its reader in format/specs/Read), and run this anywhere
-in the repository, then `rt fmt`. A change of what such a function calls, or in which order, is a change of Thin or Above.
+in the repository, then `rt fmt`. A change of what such a function calls, or in which order, is a change of Thin.
 """
 import os
 
@@ -41,8 +41,8 @@ use Rattle.load_state.proofs.cursor.x_at.Met as at-thm
     (cited 𝓤 H (XAt R.the-type R′.the-laws xSays at-def.name 𝓤 H (𝓖 .A)) 𝓜 𝓡 code.env at-def.name at-def.routine code.calls-load-state·cursor·x-at (at-thm.met 𝓤 H 𝓜 𝓖 𝓡)))
 '''
 
-ABOVE = '''-- The plain function of `Above`, over the thin call `load_x`. Written by tools/thin.py.
-''' + USES + '''use Rattle.load_state.proofs.Above.{State, Thin, above-meets}
+ABOVE = '''-- The plain function of `Thin`, above the thin call `load_x`. Written by tools/thin.py.
+''' + USES + '''use Rattle.load_state.proofs.Thin.{State, Thin, above-meets}
 use Rattle.load_state.proofs.state.Symbol as state-def
 use Rattle.load_state.proofs.state.Met as state-thm
 use Rattle.load_state.proofs.load_x.Symbol as thin-def
