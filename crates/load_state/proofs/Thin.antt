@@ -3,7 +3,7 @@
 --     thin         the MIR of a thin call `load_x(s) = x_at(s.chunk, s.pos)`, as `rt mir load_state` prints it
 --     thin-meets   it meets `caller`'s contract where what the call table has under key meets `callee`'s
 --     over         the MIR of a plain function above it, `read_x(chunk, pos) = load_x(state(chunk, pos))`
---     above-meets  it meets `above`'s contract, which is that of x_at, where the call table's two entries meet theirs
+--     above-meets  it meets `callee`'s contract, that of x_at, where the call table's two entries meet theirs
 -- All that a walk knows of what is called is that it meets its contract. A LoadState is Copy: what it owns is had twice. One copy is kept
 -- whole for the exit; of the other, what chunk owns goes to the callee, beside the lifetime's token, which comes back.
 -- After a change of the code: `thin` and `over` must be the new MIR again, and the lines of a walk follow its statements in their order (the
@@ -179,15 +179,7 @@ module _ (R : Declared) (Lr : LL.Laws R) (P : List ℕ → ℕ → R .D → Type
   thin-meets 𝓤 H A W 𝓣 known-step = walk-meets 𝓤 H A caller stayed W (goes-none 𝓤 H A W 1 B yes (λ κs x w. refl), tt) (caller-says 𝓤) (WpFn 𝓤 H (𝓣 .C) (𝓣 .Λ) thin) (WpFn-mono 𝓤 H (W .laws) 𝓣 thin)
       (thin-walks 𝓤 H A W (𝓣 .C) (𝓣 .Λ) (fmOf 𝓤 H (W .laws) 𝓣) known-step)
 
--- ---- above a thin call
-
-module _ (R : Declared) (Lr : LL.Laws R) (P : List ℕ → ℕ → R .D → Type 0) (key : Name) where
-  -- the contract, which is that of x_at
-  abbrev above : Ended
-  above = callee R Lr P key
-
-  abbrev above-says : {M : Type 1} (𝓤 : URA M) → Clauses 𝓤 above
-  above-says = callee-says R Lr P key
+  -- ---- above a thin call
 
   abbrev over : Fn
   over = record {
@@ -198,7 +190,7 @@ module _ (R : Declared) (Lr : LL.Laws R) (P : List ℕ → ℕ → R .D → Type
     body = seq (call #state (copy (place 1 []) ∷ copy (place 2 []) ∷ []) (place 3 [])) (seq (call key (copy (place 3 []) ∷ []) (place 0 [])) return);
   }
 
-  abbrev above-stayed : Stays (above .signature .params) (above .kept)
+  abbrev above-stayed : Stays (callee .signature .params) (callee .kept)
   above-stayed = (stay-none-slice (0 ∷ []) tt (plain (λ _. u8)) yes, (stay-none (λ _. usize) yes, tt))
 
   module _ {M : Type 1} (𝓤 : URA M) (H : Heap 𝓤) (A : Atoms 𝓤) (mem : Memory → SProp 𝓤) (run : Routine → Fun 𝓤) where
@@ -207,7 +199,7 @@ module _ (R : Declared) (Lr : LL.Laws R) (P : List ℕ → ℕ → R .D → Type
     State = tripleOf 𝓤 H A state.signature (state.spec 𝓤 H A mem run)
 
     abbrev pub Thin : Contract 𝓤
-    Thin = tripleOf 𝓤 H A (caller R Lr P key .signature) (closing 𝓤 H A (caller R Lr P key) (caller-says R Lr P key 𝓤))
+    Thin = tripleOf 𝓤 H A (caller .signature) (closing 𝓤 H A caller (caller-says 𝓤))
 
   module _ {M : Type 1} (𝓤 : URA M) (H : Heap 𝓤) (A : Atoms 𝓤) (W : Given 𝓤 H A) (mem : Memory → SProp 𝓤) (run : Routine → Fun 𝓤) (κ : Lft) (q : Share) (s : RefT (List ℕ)) (n : ℕ) (ok : n < 2 ^ 64) where
     -- the machine value that s has
@@ -218,11 +210,11 @@ module _ (R : Declared) (Lr : LL.Laws R) (P : List ℕ → ℕ → R .D → Type
     abbrev αᵉ : NamedLft
     αᵉ = record { mir = erased; lft = κ }
 
-    abbrev at : Vals (above .signature) (κ, tt)
+    abbrev at : Vals (callee .signature) (κ, tt)
     at = (sv ∷ [], (vint w64 n ∷ [], tt))
 
     abbrev AbovePost : Val → SProp 𝓤
-    AbovePost = walkOf 𝓤 H A above above-stayed (above-says 𝓤) .post (((κ, tt), (q, tt), tt, (s, (n, tt)), at), tt)
+    AbovePost = walkOf 𝓤 H A callee above-stayed (callee-says 𝓤) .post (((κ, tt), (q, tt), tt, (s, (n, tt)), at), tt)
 
     abbrev OwnSlice : Fml
     OwnSlice = ShrSlice (named 0) κ u8 .own s (sv ∷ [])
@@ -234,7 +226,7 @@ module _ (R : Declared) (Lr : LL.Laws R) (P : List ℕ → ℕ → R .D → Type
     abbrev to-state : State 𝓤 H A mem run .Ghost
     to-state = (((κ, tt), (q, tt), tt, (s, (n, tt)), at), tt)
 
-    goes-state : ent 𝓤 (onEntry 𝓤 H A (above .signature) (κ, tt) (q, tt) (s, (n, tt)) at) (sep 𝓤 (State 𝓤 H A mem run .pre to-state) (sem 𝓤 H A OwnSlice))
+    goes-state : ent 𝓤 (onEntry 𝓤 H A (callee .signature) (κ, tt) (q, tt) (s, (n, tt)) at) (sep 𝓤 (State 𝓤 H A mem run .pre to-state) (sem 𝓤 H A OwnSlice))
     goes-state =
         qed W ((‵ (flft κ q) ⊛ ‵ ftrue) ∷ ‵ (owns (ShrSlice (named 0) κ u8 ∷ usize ∷ []) (s, (n, tt)) at) ∷ []) ∵
         move ! (1 ∷ []) $ fsplit ! $ use1 W (‵ OwnSlice ⊛ ‵ OwnSlice) (shr-slice-copy 𝓤 H A W (named 0) κ u8 .twice s (sv ∷ [])) $ split ! $
@@ -249,19 +241,19 @@ module _ (R : Declared) (Lr : LL.Laws R) (P : List ℕ → ℕ → R .D → Type
     goes-thin : (r : LoadState) (u : Val) → ent 𝓤 (⋆ 𝓤 H A (‵ (St r u) ∷ (‵ (flft κ q) ⊛ ‵ ftrue) ∷ [])) (Thin 𝓤 H A mem run .pre (to-thin r u))
     goes-thin r u = qed W (‵ (St r u) ∷ (‵ (flft κ q) ⊛ ‵ ftrue) ∷ []) ∵ nothing ! $ move ! (1 ∷ 0 ∷ []) $ fjoin ! $ move ! (1 ∷ 0 ∷ []) $ join ! $ frame ! $ done !
 
-    thin-said : (r : LoadState) (b : R .D) → ent 𝓤 (ensured 𝓤 H A (caller R Lr P key) (caller-says R Lr P key 𝓤) (κ, tt) (r, tt) tt b) (fact 𝓤 (P (now (r .chunk)) (r .pos) b))
-    thin-said r b = exE 𝓤 _ (λ ws. snd∗ 𝓤 (sem 𝓤 H A (lasts (caller R Lr P key) (κ, tt) (r, tt) ws)) (fact 𝓤 (P (now (r .chunk)) (r .pos) b)))
+    thin-said : (r : LoadState) (b : R .D) → ent 𝓤 (ensured 𝓤 H A caller (caller-says 𝓤) (κ, tt) (r, tt) tt b) (fact 𝓤 (P (now (r .chunk)) (r .pos) b))
+    thin-said r b = exE 𝓤 _ (λ ws. snd∗ 𝓤 (sem 𝓤 H A (lasts caller (κ, tt) (r, tt) ws)) (fact 𝓤 (P (now (r .chunk)) (r .pos) b)))
 
     above-exits : (b : R .D) (u : Val) → P (now s) n b → ent 𝓤 (⋆ 𝓤 H A (‵ ((row R) .own b (u ∷ [])) ∷ (‵ (flft κ q) ⊛ ‵ ftrue) ∷ ‵ OwnSlice ∷ [])) (AbovePost u)
     above-exits b u e =
         qed W (‵ ((row R) .own b (u ∷ [])) ∷ (‵ (flft κ q) ⊛ ‵ ftrue) ∷ ‵ OwnSlice ∷ []) ∵
-        suffices ! _ (ends-at 𝓤 H A above above-stayed (above-says 𝓤) W (((κ, tt), (q, tt), tt, (s, (n, tt)), at), tt) u b (tt, (tt, tt)) (tt, (tt, tt))) $ says ! e $
+        suffices ! _ (ends-at 𝓤 H A callee above-stayed (callee-says 𝓤) W (((κ, tt), (q, tt), tt, (s, (n, tt)), at), tt) u b (tt, (tt, tt)) (tt, (tt, tt))) $ says ! e $
         move ! (1 ∷ []) $ frame ! $ nothing ! $ owned ! usize (Is usize) (uint-makes 𝓤 H A W w64) n _ (refl, ok) $ fjoin ! $ move ! (2 ∷ 0 ∷ []) $ fjoin ! $ frame ! $ done !
 
     module _ (C : Calls 𝓤 H) (Λ : Loops 𝓤 H) (fm : FmC 𝓤 H (W .laws) C) (known-state : Triple 𝓤 (C #state) (State 𝓤 H A mem run)) (known-thin : Triple 𝓤 (C key) (Thin 𝓤 H A mem run)) where
-      above-walk : Is (ShrSlice (named 0) κ u8) s (sv ∷ []) → ent 𝓤 (onEntry 𝓤 H A (above .signature) (κ, tt) (q, tt) (s, (n, tt)) at) (WpFn 𝓤 H C Λ over (sv ∷ vint w64 n ∷ []) AbovePost)
+      above-walk : Is (ShrSlice (named 0) κ u8) s (sv ∷ []) → ent 𝓤 (onEntry 𝓤 H A (callee .signature) (κ, tt) (q, tt) (s, (n, tt)) at) (WpFn 𝓤 H C Λ over (sv ∷ vint w64 n ∷ []) AbovePost)
       above-walk p =
-          qed W (raw (onEntry 𝓤 H A (above .signature) (κ, tt) (q, tt) (s, (n, tt)) at) ∷ []) ∵ enter ! C Λ over (sv ∷ vint w64 n ∷ []) _ $
+          qed W (raw (onEntry 𝓤 H A (callee .signature) (κ, tt) (q, tt) (s, (n, tt)) at) ∷ []) ∵ enter ! C Λ over (sv ∷ vint w64 n ∷ []) _ $
           alloc1 ! (λ l₀. alloc1 ! (λ l₁. alloc1 ! (λ l₂. alloc1 ! (λ l₃. alloc0 ! $ params1 ! $ pass1 ! (init ! 4 refl (shr-slice-lawful 𝓤 H A W (named 0) κ u8 .typed s (sv ∷ []) p .0)) $ pass1 ! (init ! 2 refl (tt, record { fits = ok })) $ pass0 ! $
           move ! (8 ∷ []) $ use1 W (raw (State 𝓤 H A mem run .pre to-state) ⊛ ‵ OwnSlice) goes-state $ split ! $
           calls-at ! fm (State 𝓤 H A mem run) known-state to-state (and-then ! (load ! (from ! (stop !)) (look ! 6 refl)) (and-then ! (load ! (from ! (stop !)) (look ! 4 refl)) (no-more !))) (λ u.
@@ -272,7 +264,7 @@ module _ (R : Declared) (Lr : LL.Laws R) (P : List ℕ → ℕ → R .D → Type
           land ! (from ! (stop !)) (init ! 3 refl (LL.lawful (T.the-type αᵉ) (T′.the-laws αᵉ) 𝓤 H A W .typed r _ is .0)) $
           use2 W (raw (Thin 𝓤 H A mem run .pre (to-thin r u))) (goes-thin r u) $
           calls-at ! fm (Thin 𝓤 H A mem run) known-thin (to-thin r u) (and-then ! (load ! (from ! (stop !)) (look ! 2 refl)) (no-more !)) (λ ub.
-          use1 W (later (some (λ (b : R .D). ((‵ (flft κ q) ⊛ ‵ ftrue) ⊛ ‵ ((row R) .own b (ub ∷ []))) ⊛ raw (ensured 𝓤 H A (caller R Lr P key) (caller-says R Lr P key 𝓤) (κ, tt) (r, tt) tt b)))) (id⊢ 𝓤 _) $ await ! tt $ pick ! (λ b.
+          use1 W (later (some (λ (b : R .D). ((‵ (flft κ q) ⊛ ‵ ftrue) ⊛ ‵ ((row R) .own b (ub ∷ []))) ⊛ raw (ensured 𝓤 H A caller (caller-says 𝓤) (κ, tt) (r, tt) tt b)))) (id⊢ 𝓤 _) $ await ! tt $ pick ! (λ b.
           split ! $ move ! (1 ∷ []) $ use1 W (raw (fact 𝓤 (P (now (r .chunk)) (r .pos) b))) (thin-said r b) $ heard ! (P (now (r .chunk)) (r .pos) b) (λ eb. split ! $ move ! (1 ∷ []) $
           -- [the result; the token; what s owns; _3; …; _2; …; _1; …; room for _0; …]
           peeks ! (row R) (Is (row R)) (shows 𝓤 H A (row R)) b (ub ∷ []) (λ isb.
@@ -283,12 +275,12 @@ module _ (R : Declared) (Lr : LL.Laws R) (P : List ℕ → ℕ → R .D → Type
 
   module _ {M : Type 1} (𝓤 : URA M) (H : Heap 𝓤) (A : Atoms 𝓤) (W : Given 𝓤 H A) (mem : Memory → SProp 𝓤) (run : Routine → Fun 𝓤) where
     above-walks : (C : Calls 𝓤 H) (Λ : Loops 𝓤 H) → FmC 𝓤 H (W .laws) C → Triple 𝓤 (C #state) (State 𝓤 H A mem run) → Triple 𝓤 (C key) (Thin 𝓤 H A mem run)
-        → Walks 𝓤 H A above above-stayed (WpFn 𝓤 H C Λ over) (above-says 𝓤)
-    above-walks C Λ fm ks kt = walked 𝓤 H A above above-stayed (above-says 𝓤) (WpFn 𝓤 H C Λ over) (λ κs. (slice-vals, (uint-vals w64, tt))) (λ κs. (shr-slice-tells (named 0) (κs .0) u8, (uint-tells w64, tt)))
+        → Walks 𝓤 H A callee above-stayed (WpFn 𝓤 H C Λ over) (callee-says 𝓤)
+    above-walks C Λ fm ks kt = walked 𝓤 H A callee above-stayed (callee-says 𝓤) (WpFn 𝓤 H C Λ over) (λ κs. (slice-vals, (uint-vals w64, tt))) (λ κs. (shr-slice-tells (named 0) (κs .0) u8, (uint-tells w64, tt)))
         (λ κs qs bounds a g are. via 𝓤 _ (fst∗ 𝓤 _ (emp 𝓤)) (above-walk 𝓤 H A W mem run (κs .0) (qs .0) (a .0) (a .1 .0) (are .1 .0 .1) C Λ fm ks kt (are .0)))
 
   pub above-meets : {M : Type 1} (𝓤 : URA M) (H : Heap 𝓤) (A : Atoms 𝓤) (W : Given 𝓤 H A) (mem : Memory → SProp 𝓤) (run : Routine → Fun 𝓤) (𝓣 : Tables 𝓤 H)
       → Triple 𝓤 (𝓣 .C #state) (State 𝓤 H A mem run) → Triple 𝓤 (𝓣 .C key) (Thin 𝓤 H A mem run)
-      → Meets 𝓤 H A (above .signature) (WpFn 𝓤 H (𝓣 .C) (𝓣 .Λ) over) (closing 𝓤 H A above (above-says 𝓤))
-  above-meets 𝓤 H A W mem run 𝓣 ks kt = walk-meets 𝓤 H A above above-stayed W (goes-none-slice 𝓤 H A W 1 (0 ∷ []) tt (plain (λ _. u8)) yes, (goes-none 𝓤 H A W 1 (λ _. usize) yes (λ κs x w. refl), tt)) (above-says 𝓤) (WpFn 𝓤 H (𝓣 .C) (𝓣 .Λ) over) (WpFn-mono 𝓤 H (W .laws) 𝓣 over)
+      → Meets 𝓤 H A (callee .signature) (WpFn 𝓤 H (𝓣 .C) (𝓣 .Λ) over) (closing 𝓤 H A callee (callee-says 𝓤))
+  above-meets 𝓤 H A W mem run 𝓣 ks kt = walk-meets 𝓤 H A callee above-stayed W (goes-none-slice 𝓤 H A W 1 (0 ∷ []) tt (plain (λ _. u8)) yes, (goes-none 𝓤 H A W 1 (λ _. usize) yes (λ κs x w. refl), tt)) (callee-says 𝓤) (WpFn 𝓤 H (𝓣 .C) (𝓣 .Λ) over) (WpFn-mono 𝓤 H (W .laws) 𝓣 over)
       (above-walks 𝓤 H A W mem run (𝓣 .C) (𝓣 .Λ) (fmOf 𝓤 H (W .laws) 𝓣) ks kt)
