@@ -14,8 +14,7 @@ use Rattle.lent.proofs.Lists.{every-append}
 use Rattle.utf8.specs.declared.Step.{Step}
 use Rattle.utf8.specs.Utf8.{Row, table3-7, within, matched, whole, firstStep, replacement, repairedStep, repairUpTo, repair, utf8UpTo, isUtf8}
 use Rattle.utf8.specs.Rows.{rowOf}
-use Rattle.utf8.proofs.Leads.{step-none}
-use Rattle.utf8.proofs.Rows.{by-test, rowStep, in-range, matched-le, row-step}
+use Rattle.utf8.proofs.Rows.{step-none, by-test, rowStep, in-range, matched-le, row-step}
 
 -- ---- one step after the other
 

@@ -1,15 +1,20 @@
--- What stands first follows from the row of table 3-7 that the first byte leads, since no two rows share a lead byte (row-step).
-use Prim.Native.Nat.{ℕ, suc, _≤_, _<_, min, max}
-use mathlib.Core.Path.{_≡_, refl}
+-- What stands first follows from the row of table 3-7 that the first byte leads, since no two rows share a lead byte (row-step);
+-- bytes at places against the ranges of a row; and a lead byte's row, by a test that is computed for each byte.
+use Prim.Native.Nat.{ℕ, zero, suc, _+_, _-_, _≤_, _<_, min, max}
+use mathlib.Core.Path.{_≡_, refl, sym, _∙_}
 use mathlib.Core.List.{List, [], _∷_}
-use mathlib.Core.Bool.{Bool, true, false, cond, and-eq-true-iff}
+use mathlib.Core.Bool.{Bool, true, false, cond, _&&_, false≢true, and-eq-true-iff}
 use native.Mathlib.Omega.{arith}
-use lib.ListN.{length, drop}
+use lib.ListN.{length, drop, getD, drop-of-length-le}
 use lib.Dec.{leb, eqb, eqb·zero-suc}
 use borrow.Author.Tests.{lt-leb, leb-true, eqb-true, ne-eqb}
 use Rattle.utf8.specs.declared.Step.{Step}
-use Rattle.utf8.specs.Utf8.{Range, Row, table3-7, within, matched, whole, begun, firstStep}
-use Rattle.utf8.specs.Rows.{rowOf}
+use Rattle.utf8.specs.Utf8.{Range, _‥_, Row, table3-7, within, matched, whole, begun, firstStep}
+use Rattle.utf8.specs.Rows.{rowOf, secondLow, secondHigh, secondRange, ranges, begunAt, begins}
+use native.Mathlib.Nat.{add-assoc}
+use native.Mathlib.Decide.{decLe}
+use lib.Seq.{drop-drop}
+use Rattle.lent.proofs.Lists.{drop-more}
 
 -- by a test: what holds of each result holds of the test's, where that result is known
 pub by-test : (P : Bool → Type 0) (b : Bool) → (b ≡ true → P true) → (b ≡ false → P false) → P b
@@ -88,3 +93,126 @@ step-found row bs w n h =
 pub row-step : (b : ℕ) (bs : List ℕ) → firstStep (b ∷ bs) ≡ rowStep (rowOf table3-7 b) bs
 unfolding firstStep
 row-step b bs = step-found (rowOf table3-7 b) bs (whole table3-7 (b ∷ bs)) (begun table3-7 (b ∷ bs)) (found table3-7 0 b bs rising)
+
+-- ---- bytes at places against the ranges of a row
+
+module _ (s : List ℕ) (at : ℕ) (r : Range) where
+  pub begins-none : length s ≤ at → begins r (drop at s) ≡ false
+  unfolding begins
+  begins-none h = rw (drop-of-length-le s h)
+
+  pub begins-some : at < length s → begins r (drop at s) ≡ within (getD s at 0) r
+  unfolding begins
+  begins-some h = rw (drop-more s at h)
+
+  begins-within : begins r (drop at s) ≡ true → at < length s
+  begins-within e = elim (decLe (length s) at) [
+    | yes h ↦ absurd (false≢true (sym (begins-none h) ∙ e))
+    | no h ↦ omega arith
+  ]
+
+  pub begins-byte : begins r (drop at s) ≡ true → (at < length s) × (r .low ≤ getD s at 0) × (getD s at 0 ≤ r .high)
+  begins-byte e =
+      let l = begins-within e in
+      let h = in-range (getD s at 0) r (sym (begins-some l) ∙ e) in
+      (l, h .0, h .1)
+
+matched-begins : (r : Range) (row : Row) (bs : List ℕ) → matched (r ∷ row) bs ≡ cond (begins r bs) (suc (matched row (drop 1 bs))) 0
+unfolding begins matched
+matched-begins r row [] = refl
+matched-begins r row (b ∷ bs) = refl
+
+-- k bytes from a place on begin a sequence of n: they lie in their ranges, and the next has to lie in r
+pub record Begun (s : List ℕ) (at n k : ℕ) (r : Range) : Type 0 where
+  pub within : at + k ≤ length s
+  pub bytes : begunAt s at n ≡ k + matched (ranges (n - k) r) (drop (at + k) s)
+
+pub begun-start : (s : List ℕ) (at n : ℕ) {low high : ℕ} → at < length s → low ≡ secondLow (getD s at 0) → high ≡ secondHigh (getD s at 0) → Begun s at n 1 (low ‥ high)
+begun-start s at n h e f = record { within = omega arith; bytes = rw (e, f) (omega arith) }
+
+module _ {s : List ℕ} {at n k : ℕ} {r : Range} where
+  pub begun-more : {t : Bool} → k < n → t ≡ begins r (drop (at + k) s) → t ≡ true → Begun s at n k r → Begun s at n (k + 1) (0x80 ‥ 0xbf)
+  begun-more j e h l =
+      let b : begins r (drop (at + k) s) ≡ true = sym e ∙ h in
+      let i : n - k ≡ suc (n - (k + 1)) = omega arith in
+      let m : matched (ranges (n - k) r) (drop (at + k) s) ≡ suc (matched (ranges (n - (k + 1)) (0x80 ‥ 0xbf)) (drop (at + (k + 1)) s)) =
+      rw (i, matched-begins r (ranges (n - (k + 1)) (0x80 ‥ 0xbf)) (drop (at + k) s), b, drop-drop 1 (at + k) s, add-assoc at k 1) in
+      let w = begins-within s (at + k) r b in
+      record { within = omega arith; bytes = l .bytes ∙ rw m (omega arith) }
+
+  pub begun-stop : {t : Bool} → k < n → t ≡ begins r (drop (at + k) s) → t ≡ false → Begun s at n k r → k ≡ begunAt s at n
+  begun-stop j e h l =
+      let i : n - k ≡ suc (n - (k + 1)) = omega arith in
+      let m : matched (ranges (n - k) r) (drop (at + k) s) ≡ 0 = rw (i, matched-begins r (ranges (n - (k + 1)) (0x80 ‥ 0xbf)) (drop (at + k) s), sym e ∙ h) in
+      sym (l .bytes ∙ rw m (omega arith))
+
+  pub begun-done : n ≤ k → Begun s at n k r → k ≡ begunAt s at n
+  unfolding matched
+  begun-done h l = let i : n - k ≡ 0 = omega arith in sym (l .bytes ∙ rw i (omega arith))
+
+-- ---- tests of rows
+
+same : Row → Row → Bool
+same [] [] = true
+same [] (s ∷ q) = false
+same (r ∷ p) [] = false
+same (r ∷ p) (s ∷ q) = eqb (r .low) (s .low) && (eqb (r .high) (s .high) && same p q)
+
+same-is : (p q : Row) → same p q ≡ true → p ≡ q
+unfolding same
+same-is [] [] e = refl
+same-is [] (s ∷ q) e = absurd (false≢true e)
+same-is (r ∷ p) [] e = absurd (false≢true e)
+same-is (r ∷ p) (s ∷ q) e =
+    let h = and-eq-true-iff (eqb (r .low) (s .low)) (eqb (r .high) (s .high) && same p q) .0 e in
+    let k = and-eq-true-iff (eqb (r .high) (s .high)) (same p q) .0 (h .1) in
+    let low : r .low ≡ s .low = eqb-true (r .low) (s .low) (h .0) in
+    let high : r .high ≡ s .high = eqb-true (r .high) (s .high) (k .0) in
+    λ i. record { low = low i; high = high i } ∷ same-is p q (k .1) i
+
+-- whether a test passes at n numbers from one on
+unfoldable passes : (ℕ → Bool) → ℕ → ℕ → Bool
+passes f from zero = true
+passes f from (suc n) = f from && passes f (suc from) n
+
+passes-at : (f : ℕ → Bool) (from n b : ℕ) → passes f from n ≡ true → from ≤ b → b < from + n → f b ≡ true
+unfolding passes
+passes-at f from zero b e h k = absurd (omega arith)
+passes-at f from (suc n) b e h k =
+    let t = and-eq-true-iff (f from) (passes f (suc from) n) .0 e in
+    elim (decLe (suc from) b) [
+      | yes l ↦ passes-at f (suc from) n b (t .1) l (omega arith)
+      | no l ↦ let q : b ≡ from = omega arith in rw q (t .0)
+    ]
+
+-- ---- the rows of table 3-7
+
+-- the bytes of a range lead rows of n
+abbrev pub Led : ℕ → ℕ → ℕ → Type 0
+Led n low high = (b : ℕ) → low ≤ b → b ≤ high → n ≡ length (rowOf table3-7 b)
+
+-- computed for each of them
+pub rows-led : Led 1 0x00 0x7f × Led 0 0x80 0xc1 × Led 2 0xc2 0xdf × Led 3 0xe0 0xef × Led 4 0xf0 0xf4 × Led 0 0xf5 0xff
+unfolding passes rowOf
+rows-led = (led 1 0x00 0x7f refl, led 0 0x80 0xc1 refl, led 2 0xc2 0xdf refl, led 3 0xe0 0xef refl, led 4 0xf0 0xf4 refl, led 0 0xf5 0xff refl)
+  where
+    led : (n low high : ℕ) → passes (λ b. eqb n (length (rowOf table3-7 b))) low (suc high - low) ≡ true → Led n low high
+    led n low high e b h k = eqb-true n (length (rowOf table3-7 b)) (passes-at (λ b. eqb n (length (rowOf table3-7 b))) low (suc high - low) b e h (omega arith))
+
+-- behind the lead byte are the ranges that the code has
+lead-ranges : (b : ℕ) → b < 256 → ranges (length (rowOf table3-7 b) - 1) (secondRange b) ≡ drop 1 (rowOf table3-7 b)
+unfolding same passes rowOf
+lead-ranges b h =
+    same-is (ranges (length (rowOf table3-7 b) - 1) (secondRange b)) (drop 1 (rowOf table3-7 b))
+    (passes-at (λ b. same (ranges (length (rowOf table3-7 b) - 1) (secondRange b)) (drop 1 (rowOf table3-7 b))) 0 256 b refl (omega arith) (omega arith))
+
+-- ---- the step at a place
+
+-- m bytes begin the row, which has n
+pub step-led : (s : List ℕ) (at n m : ℕ) → at < length s → getD s at 0 < 256 → n ≡ length (rowOf table3-7 (getD s at 0)) → m ≡ begunAt s at n
+    → record { len = m; «well_formed» = eqb m n } ≡ firstStep (drop at s)
+step-led s at n m h k e q = rw (drop-more s at h, row-step, q, e, lead-ranges (getD s at 0) k)
+
+pub step-none : (s : List ℕ) (at : ℕ) → length s ≤ at → record { len = 0; «well_formed» = false } ≡ firstStep (drop at s)
+unfolding firstStep whole begun matched
+step-none s at h = rw (drop-of-length-le s h)

@@ -16,8 +16,7 @@ use Rattle.utf8.proofs.Laws.{step-bounds, utf8-nil, utf8-cons, repair-c
 use Rattle.utf8.specs.Rows.{begins}
 use Rattle.utf8.specs.Text.{Text, TextEnd}
 use Rattle.utf8.proofs.Ascii.{ascii-every}
-use Rattle.utf8.proofs.Leads.{Led, step-led}
-use Rattle.utf8.proofs.Ranges.{begins-byte, Begun, begun-done}
+use Rattle.utf8.proofs.Rows.{Led, step-led, begins-byte, Begun, begun-done}
 
 -- ---- text from a place on
 

@@ -4,7 +4,7 @@ use borrow.Author.Tests.{not-true, not-false}
 use Prim.Native.Nat.{_-_}
 use native.Mathlib.Omega.{arith}
 use Rattle.utf8.specs.Utf8.{_‥_}
-use Rattle.utf8.proofs.Ranges.{Begun, begun-start, begun-more, begun-stop, begun-done}
+use Rattle.utf8.proofs.Rows.{Begun, begun-start, begun-more, begun-stop, begun-done}
 use Rattle.utf8.proofs.begun_at.Statement.{statement}
 use Rattle.utf8.proofs.begun_at.Tie as tie
 

@@ -3,8 +3,7 @@ use borrow.Author.Needs.{needs}
 use borrow.Author.Tests.{not-false}
 use native.Mathlib.Omega.{arith}
 use mathlib.Core.Path.{refl}
-use Rattle.utf8.proofs.Leads.{rows-led}
-use Rattle.utf8.proofs.Ranges.{begun-start, begun-more}
+use Rattle.utf8.proofs.Rows.{rows-led, begun-start, begun-more}
 use Rattle.utf8.proofs.Texts.{text-led}
 use Rattle.utf8.proofs.three.Statement.{statement}
 use Rattle.utf8.proofs.three.Tie as tie

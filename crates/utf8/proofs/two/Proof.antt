@@ -2,8 +2,7 @@
 use borrow.Author.Needs.{needs}
 use native.Mathlib.Omega.{arith}
 use mathlib.Core.Path.{refl}
-use Rattle.utf8.proofs.Leads.{rows-led}
-use Rattle.utf8.proofs.Ranges.{begun-start, begun-more}
+use Rattle.utf8.proofs.Rows.{rows-led, begun-start, begun-more}
 use Rattle.utf8.proofs.Texts.{text-led}
 use Rattle.utf8.proofs.two.Statement.{statement}
 use Rattle.utf8.proofs.two.Tie as tie
