@@ -6,4 +6,3 @@ pub mod Samples
 pub mod Writing
 pub mod Filled
 pub mod Loops
-pub mod Constants

@@ -6,13 +6,17 @@ use mathlib.Core.Option.{none, some}
 use mathlib.Core.List.{List, [], _∷_, _++_, append-assoc, append-nil}
 use mathlib.Core.Bool.{true, false}
 use native.Mathlib.Omega.{arith}
-use lib.ListN.{length}
+use native.Mathlib.Nat.{add-zero}
+use lib.ListN.{length, length-take, length-drop}
 use lib.Seq.{take-at, drop-at, drop-drop}
 use Rattle.format.specs.Tree.{Constant, Source, Local, Debug, Parts, Function, Functions, count}
 use Rattle.format.specs.Read.{Read, Reader, got, refused, _>>=_, return, loadByte as word, many, manyFunctions}
 use Rattle.format.specs.Store.{Piece, word as wordPiece, _⊕_, string, pieces, list, ints, sourcePiece, constantPiece, localPiece, debugPiece, packed, functionPiece, functionPieces, textOf}
 use Rattle.format.specs.Valid.{depth, ValidParts, Valid, ValidAll, Holds}
 use Rattle.format.specs.Stored.{part, Here, storedSource, storedConstant, storedName, storedLocal, storedDebug, storedFunction, holds?, heldBy, treeOf}
+use Rattle.format.specs.Constants.{meaningOf, valueOf, constantWords, LiesIn}
+use Rattle.format.specs.declared.Constant.{Constant as Answer}
+use Rattle.format.specs.declared.Constant.the-variants.{Nil, Bool as Truth, Num, String}
 use Rattle.format.proofs.RoundTrip.{Reads, pure, step, last, value-is, byte-law}
 
 module _ {xs : List ℕ} where
@@ -136,3 +140,10 @@ tree-of words text f = (tree-holds words text f, holds-tree)
 
 pub holds-one : {words text : List ℕ} {f g : Function} → Holds words text f → Holds words text g → f ≡ g
 holds-one p q = let e = sym (holds-tree p) ∙ holds-tree q in cc
+
+-- the number and the values of a constant of an answer are the words that its value has in a store, its text at the constant's place
+pub constant-numbered : (bytes : List ℕ) (k : Answer) → LiesIn bytes k → constantPiece (valueOf bytes k) .words (meaningOf k .first) ≡ constantWords k
+constant-numbered bytes Nil h = refl
+constant-numbered bytes (Truth b) h = refl
+constant-numbered bytes (Num high low) h = refl
+constant-numbered bytes (String place n) h = let e : length (part bytes place n) ≡ n = simp (length-take, length-drop) (omega arith) in rw (e, add-zero place)

@@ -1,5 +1,4 @@
 pub mod Steps
 pub mod Strings
 pub mod Stores
-pub mod Loads
 pub mod Fours

@@ -10,8 +10,7 @@ use lib.Seq.{drop-drop}
 use lib.Dec.{eqb}
 use borrow.Author.Tests.{ne-eqb}
 use Rattle.utf8.proofs.Rows.{by-test}
-use Rattle.format.specs.Tree.{Source, filled}
-use Rattle.format.specs.Tree.{Constant as Value}
+use Rattle.format.specs.Tree.{Source, filled, Constant as Value}
 use Rattle.format.specs.Read.{got, refused, loadByte, loadInt, loadSize, stringOf, loadString, loadText, constantOf, loadConstant}
 use Rattle.format.specs.Stored.{part}
 use Rattle.format.specs.Constants.{meaningOf, valueOf, LiesIn}

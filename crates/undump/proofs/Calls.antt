@@ -1,15 +1,16 @@
--- A whole chunk, counted and then written: what undump answers and leaves, at each of its returns.
+-- The header: bytes that are there, or are not, or are others.
+-- Then a whole chunk, counted and then written: what undump answers and leaves, at each of its returns.
 use Prim.Native.Nat.{ℕ, _+_, _-_, _≤_, _<_, min}
 use mathlib.Core.Path.{_≡_, refl, sym, ap, _∙_}
 use mathlib.Core.List.{List, [], _++_, append-nil}
 use mathlib.Core.Bool.{Bool, true, false, not}
 use native.Mathlib.Omega.{arith}
 use lib.ListN.{length, take, drop, length-drop, drop-of-length-le}
-use lib.Seq.{sets, sets-eq, length-take-le}
+use lib.Seq.{sets, sets-eq, length-take-le, drop-drop}
 use borrow.Author.Tests.{le-leb, lt-leb, not-true, not-false}
 use Rattle.lent.specs.Memory.{far}
 use Rattle.format.specs.Tree.{Function}
-use Rattle.format.specs.Read.{Read, got, refused, loadHeader, loadFunction}
+use Rattle.format.specs.Read.{Read, got, refused, loadHeader, loadFunction, loadBlock, loadExactly, same, signature, format}
 use Rattle.format.specs.Store.{functionPiece, wordsOf, textOf}
 use Rattle.format.specs.Valid.{depth, most}
 use Rattle.format.specs.Undump.{repaired, loadChunk, undumpRefused, nameOk, over, undumpedBy, undumped}
@@ -20,7 +21,34 @@ use Rattle.load_state.specs.ReadAt.{Ends}
 use Rattle.load.specs.Loads.{ReadsBy, space, Does, world, Loads}
 use Rattle.load_function.specs.Repaired.{repairedFunction}
 use Rattle.undump.specs.Undump.{beginning, undumpLeft}
-use Rattle.load.proofs.Steps.{bind, mapped}
+use Rattle.load.proofs.Steps.{bind, mapped, takes, stops}
+use Rattle.format.proofs.RoundTrip.{same-is}
+use Rattle.load_state.proofs.Bytes.{block-got, block-none}
+
+module _ (bs bytes : List ℕ) (n : ℕ) (s r : Cursor) (z : s .refusal ≤ 0) where
+  pub exactly-short : length bs - s .next < length bytes → r .refusal ≡ 2 → ReadsBy bs (loadExactly bytes n) (λ v. Unit {0}) s r
+  exactly-short h f = let k : length (drop (s .next) bs) < length bytes = rw length-drop h in stops z (rw (block-none (length bytes) (drop (s .next) bs) k)) f (omega arith)
+
+  module _ (t : Bool) (h : length bytes ≤ length bs - s .next)
+      (tells : (t ≡ true → take (s .next + length bytes - s .next) (drop (s .next) bs) ≡ bytes) × (take (s .next + length bytes - s .next) (drop (s .next) bs) ≡ bytes → t ≡ true)) where
+    -- the bytes read, and what the test says of them
+    read : loadBlock (length bytes) (drop (s .next) bs) ≡ got (take (length bytes) (drop (s .next) bs)) (drop (s .next + length bytes) bs)
+    read = let k : length bytes ≤ length (drop (s .next) bs) = rw length-drop h in block-got (length bytes) (drop (s .next) bs) k ∙ rw (drop-drop (length bytes) (s .next) bs)
+
+    test : same (take (length bytes) (drop (s .next) bs)) bytes ≡ t
+    test = let e : s .next + length bytes - s .next ≡ length bytes = omega arith in rw e at (same-is t _ bytes tells)
+
+    pub exactly-others : not t ≡ true → r .refusal ≡ n → 0 < n → ReadsBy bs (loadExactly bytes n) (λ v. Unit {0}) s r
+    exactly-others e f k = stops z (rw (read, test, not-true t e)) f k
+
+    pub exactly-these : not t ≡ false → r .refusal ≡ 0 → r .next ≡ s .next + length bytes → ReadsBy bs (loadExactly bytes n) (λ v. Unit {0}) s r
+    exactly-these e f g = takes {a = take (length bytes) (drop (s .next) bs)} {rest = drop (s .next + length bytes) bs} z (rw (read, test, not-false t e)) f (rw g) tt
+
+pub header-loaded : {bs : List ℕ} {s m r : Cursor} → ReadsBy bs (loadExactly signature 3) (λ v. Unit {0}) s m → ReadsBy bs (loadExactly format 4) (λ v. Unit {0}) m r → ReadsBy bs loadHeader (λ v. Unit {0}) s r
+unfolding loadHeader
+header-loaded h k = bind _ h (k .stays) (λ v e. k)
+
+-- ---- a whole chunk
 
 -- a state that nothing was stored from
 abbrev pub fresh : Cursor → Load

@@ -1,7 +1,7 @@
 -- The integer that was read is the word that is stored.
 use borrow.Author.Needs.{needs}
 use Rattle.load.proofs.Steps.{weaken}
-use Rattle.load.proofs.Loads.{copied}
+use Rattle.load.proofs.Stores.{copied}
 use Rattle.load.proofs.copy_int.Statement.{statement}
 use Rattle.load.proofs.copy_int.Tie as tie
 

@@ -1,6 +1,6 @@
 use borrow.Author.Needs.{needs}
 use borrow.Author.Tests.{not-true, not-false}
-use Rattle.load.proofs.Loads.{source-none, source-own}
+use Rattle.load.proofs.Stores.{source-none, source-own}
 use Rattle.load.proofs.load_source.Statement.{statement}
 use Rattle.load.proofs.load_source.Tie as tie
 

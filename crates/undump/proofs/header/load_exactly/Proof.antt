@@ -3,7 +3,7 @@ use borrow.Author.Needs.{needs}
 use native.Mathlib.Omega.{arith}
 use mathlib.Core.Path.{refl}
 use Rattle.load.proofs.Steps.{passed}
-use Rattle.undump.proofs.Headers.{exactly-short, exactly-others, exactly-these}
+use Rattle.undump.proofs.Calls.{exactly-short, exactly-others, exactly-these}
 use Rattle.undump.proofs.header.load_exactly.Statement.{statement}
 use Rattle.undump.proofs.header.load_exactly.Tie as tie
 

@@ -1,6 +1,6 @@
 -- The signature, then the other eight bytes.
 use borrow.Author.Needs.{needs}
-use Rattle.undump.proofs.Headers.{header-loaded}
+use Rattle.undump.proofs.Calls.{header-loaded}
 use Rattle.undump.proofs.header.load_header.Statement.{statement}
 use Rattle.undump.proofs.header.load_header.Tie as tie
 
