@@ -51,14 +51,16 @@ pub fill-agrees : (f : Function) (outer under : List ℕ) → Agree f outer (fil
 unfolding fill ByFunction
 fill-agrees =
     by-tree (λ f. (outer under : List ℕ) → Agree f outer (fill f outer) under) (λ fs. (outer under : List ℕ) → ByFunctions SameParts fs outer (fillAll fs outer) under)
-    (λ p fs h outer under. (record { source = refl; body = same-body _ _ p; debug = same-debug (p .debug) }, h _ _)) (λ outer under. tt) (λ f fs h k outer under. (h outer under, k outer under))
+    (λ p fs h outer under. (record { source = refl; body = same-body _ _ p; debug = same-debug (p .debug) }, h _ _))
+    (λ outer under. tt) (λ f fs h k outer under. (h outer under, k outer under))
 
 -- each source of it is its function's own
 pub fill-owns : (f : Function) (outer : List ℕ) → Every OwnSource (preorder (fill f outer))
 unfolding fill preorder Every
 fill-owns =
     by-tree (λ f. (outer : List ℕ) → Every OwnSource (preorder (fill f outer))) (λ fs. (outer : List ℕ) → Every OwnSource (preorderAll (fillAll fs outer)))
-    (λ p fs h outer. (record { bytes = filled outer (p .source); is = refl }, h _)) (λ outer. tt) (λ f fs h k outer. every-append OwnSource (preorder (fill f outer)) _ (h outer) (k outer))
+    (λ p fs h outer. (record { bytes = filled outer (p .source); is = refl }, h _))
+    (λ outer. tt) (λ f fs h k outer. every-append OwnSource (preorder (fill f outer)) _ (h outer) (k outer))
 
 -- where each source is its function's own, nothing changes
 pub fill-own : (f : Function) (outer : List ℕ) → Every OwnSource (preorder f) → fill f outer ≡ f

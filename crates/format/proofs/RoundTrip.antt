@@ -182,7 +182,8 @@ mutual
       (step _ _ (byte-law (p .maxStackSize))
       (step _ _ (list-law loadInt dumpInt int-law (p .code) (v .0 .code))
       (step _ _ (constants-law (loadFunction allowance) (p .constants) (count fs) (readBackAll fs strip s) _ (v .0 .constants) (omega arith) (v .1) (functions-law fs allowance strip s (v .2) (omega arith) short))
-      (last _ (pure _) (either (λ d. Reads loadDebug (dumpDebug d) d) strip (debug-law noDebug no-debug (omega arith) (omega arith)) (debug-law (p .debug) (v .0 .debug) (omega arith) (omega arith)))))))))))))
+      (last _ (pure _) (either (λ d. Reads loadDebug (dumpDebug d) d) strip
+      (debug-law noDebug no-debug (omega arith) (omega arith)) (debug-law (p .debug) (v .0 .debug) (omega arith) (omega arith)))))))))))))
 
   pub functions-law : (fs : Functions) (allowance : ℕ) (strip : Bool) (source : List ℕ) → ValidAll fs allowance → length (functionPieces fs .text) ≤ most → length source ≤ most
       → Reads (manyFunctions (loadFunction allowance) (count fs)) (dumpFunctions fs strip source) (readBackAll fs strip source)

@@ -66,7 +66,8 @@ module _ {bs : List ℕ} {s m : Cursor} {size : ℕ} {z : Span} (h : ReadsBy bs 
 -- a name or a string constant: empty where there is no string
 pub text-of : {bs : List ℕ} {s : Cursor} {z : Span} → Strings bs s z → ReadsBy bs loadText (λ a. a ≡ part bs (z .start) (z .len)) s (z .cursor)
 text-of {bs} {s} {z} k =
-    mapped (filled []) (λ x p. rw p (by-test (λ own. filled [] (cond own (Source.own (part bs (z .start) (z .len))) Source.inherited) ≡ part bs (z .start) (z .len)) (z .own) (λ e. refl) (λ e. rw (k .empty e)))) (k .reads)
+    mapped (filled []) (λ x p. rw p
+    (by-test (λ own. filled [] (cond own (Source.own (part bs (z .start) (z .len))) Source.inherited) ≡ part bs (z .start) (z .len)) (z .own) (λ e. refl) (λ e. rw (k .empty e)))) (k .reads)
 
 -- ---- constants
 

@@ -64,9 +64,10 @@ counted {ts = ts} Many c t = bind Many (c ts) (t .stays) (λ a e. rw (e .0) (wea
 pub loading-start : {L : Type 0} {bs : List ℕ} {Many : ℕ → Reader L} {size : L → ℕ} {all : L → Piece} {n : ℕ} {σ : World} → Loading bs Many size all n σ 0 σ
 loading-start = record { within = omega arith; words = refl; text = refl; loop = loop-start }
 
-module _ {A L : Type 0} {R : Reader A} {Many : ℕ → Reader L} {size : L → ℕ} {piece : A → Piece} {all : L → Piece} (laws : Listing R Many size piece all) {bs : List ℕ} {n i : ℕ} where
-  pub loading-turn : {σ₀ σ m : World} → Loading bs Many size all n σ₀ i σ → Loads bs R piece σ m → i < n → length (m .words) ≡ length (σ .words) → length (m .text) ≡ length (σ .text)
-      → Loading bs Many size all n σ₀ (i + 1) m
+module _ {A L : Type 0} {R : Reader A} {Many : ℕ → Reader L} {size : L → ℕ} {piece : A → Piece} {all : L → Piece}
+    (laws : Listing R Many size piece all) {bs : List ℕ} {n i : ℕ} where
+  pub loading-turn : {σ₀ σ m : World} → Loading bs Many size all n σ₀ i σ → Loads bs R piece σ m → i < n
+      → length (m .words) ≡ length (σ .words) → length (m .text) ≡ length (σ .text) → Loading bs Many size all n σ₀ (i + 1) m
   loading-turn {σ = σ} {m = m} h d k w t = record { within = omega arith; words = w ∙ h .words; text = t ∙ h .text; loop = loop-turn k (h .loop) more }
     where
       more : (k : ℕ) (ρ : World) → LoadsAll bs Many size all k m ρ → LoadsAll bs Many size all (suc k) σ ρ
@@ -84,7 +85,7 @@ module _ {A L : Type 0} {R : Reader A} {Many : ℕ → Reader L} {size : L → �
 
 -- ---- a local
 
-pub local-loaded : {bs ws₁ ws₂ ws₃ ts : List ℕ} {σ : World} {a b r : Load} → Loads bs loadText repairedName σ (world a ws₁ ts) → ((t : List ℕ) → Loads bs loadInt word (world a ws₁ t) (world b ws₂ t))
-    → ((t : List ℕ) → Loads bs loadInt word (world b ws₂ t) (world r ws₃ t)) → Loads bs loadLocal repairedLocalPiece σ (world r ws₃ ts)
+pub local-loaded : {bs ws₁ ws₂ ws₃ ts : List ℕ} {σ : World} {a b r : Load} → Loads bs loadText repairedName σ (world a ws₁ ts)
+    → ((t : List ℕ) → Loads bs loadInt word (world a ws₁ t) (world b ws₂ t)) → ((t : List ℕ) → Loads bs loadInt word (world b ws₂ t) (world r ws₃ t)) → Loads bs loadLocal repairedLocalPiece σ (world r ws₃ ts)
 local-loaded {ts = ts} h k l =
     bind _ h (stays-then (k ts .stays) (l ts .stays)) (λ n d. bind _ (k ts) (l ts .stays) (λ s e. bind _ (l ts) (λ z. refl) (λ t f. done _ (join d (join e f)))))

@@ -15,10 +15,11 @@ use Rattle.load_function.proofs.Lists.{function-items, Counts, Loading,
 use Rattle.load.proofs.Steps.{stops, bind, done, stays-then}
 use Rattle.load.proofs.Stores.{join, regroup}
 
-pub debug-loaded : {bs ws ws₁ ts : List ℕ} {s a : Load} {m ρ : World} → ((t : List ℕ) → Loads bs (loadList loadInt) ints (world s ws t) (world a ws₁ t)) → Loads bs (loadList loadLocal) repairedLocals (world a ws₁ ts) m
-    → Loads bs (loadList loadText) repairedNames m ρ → Loads bs loadDebug repairedDebugPiece (world s ws ts) ρ
+pub debug-loaded : {bs ws ws₁ ts : List ℕ} {s a : Load} {m ρ : World} → ((t : List ℕ) → Loads bs (loadList loadInt) ints (world s ws t) (world a ws₁ t))
+    → Loads bs (loadList loadLocal) repairedLocals (world a ws₁ ts) m → Loads bs (loadList loadText) repairedNames m ρ → Loads bs loadDebug repairedDebugPiece (world s ws ts) ρ
 unfolding loadDebug
-debug-loaded {ts = ts} h k l = bind _ (h ts) (stays-then (k .stays) (l .stays)) (λ li d. bind _ k (l .stays) (λ lo e. bind _ l (λ z. refl) (λ up f. done _ (join d (join e f)))))
+debug-loaded {ts = ts} h k l =
+    bind _ (h ts) (stays-then (k .stays) (l .stays)) (λ li d. bind _ k (l .stays) (λ lo e. bind _ l (λ z. refl) (λ up f. done _ (join d (join e f)))))
 
 -- the constants, then the functions
 constants-loaded : {bs : List ℕ} {σ a ρ : World} (allowance : ℕ) → Loads bs (loadList loadConstant) (list constantPiece) σ a
@@ -26,7 +27,8 @@ constants-loaded : {bs : List ℕ} {σ a ρ : World} (allowance : ℕ) → Loads
 unfolding loadConstants
 constants-loaded allowance h k = bind _ h (k .stays) (λ ks d. bind _ k (λ z. refl) (λ fs e. done _ (join d e)))
 
-module _ {bs : List ℕ} {σ ρ : World} {s s₀ : Load} {ws ws₀ ts : List ℕ} {n i : ℕ} (allowance : ℕ) (h : Loads bs (loadList loadConstant) (list constantPiece) σ (world s ws ts)) (c : Counts bs loadCount n s ws s₀ ws₀)
+module _ {bs : List ℕ} {σ ρ : World} {s s₀ : Load} {ws ws₀ ts : List ℕ} {n i : ℕ} (allowance : ℕ)
+    (h : Loads bs (loadList loadConstant) (list constantPiece) σ (world s ws ts)) (c : Counts bs loadCount n s ws s₀ ws₀)
     (l : Loading bs (manyFunctions (loadFunction allowance)) (λ fs. count (repairedAll fs)) (λ fs. functionPieces (repairedAll fs)) n (world s₀ ws₀ ts) i ρ) where
   pub constants-stop : i < n → 0 < ρ .load .cursor .refusal → Loads bs (loadConstants (loadFunction allowance)) repairedConstants σ ρ
   constants-stop k z = constants-loaded allowance h (loading-stop (function-items allowance) c l k z)
@@ -35,7 +37,8 @@ module _ {bs : List ℕ} {σ ρ : World} {s s₀ : Load} {ws ws₀ ts : List ℕ
   constants-end k = constants-loaded allowance h (loading-end (function-items allowance) c l k)
 
 -- 7
-pub function-too-deep : {bs ws ts : List ℕ} {s r : Load} {m : Cursor} {n : ℕ} → n ≡ 0 → s .cursor .refusal ≤ 0 → r ≡ moved s m → m .refusal ≡ 7 → Loads bs (loadFunction n) repairedFunction (world s ws ts) (world r ws ts)
+pub function-too-deep : {bs ws ts : List ℕ} {s r : Load} {m : Cursor} {n : ℕ} → n ≡ 0 → s .cursor .refusal ≤ 0 → r ≡ moved s m → m .refusal ≡ 7
+    → Loads bs (loadFunction n) repairedFunction (world s ws ts) (world r ws ts)
 unfolding loadFunction
 function-too-deep e z f g = rw (e, f) (stops z refl g (omega arith))
 

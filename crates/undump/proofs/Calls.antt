@@ -33,7 +33,9 @@ module _ (bs bytes : List ℕ) (n : ℕ) (s r : Cursor) (z : s .refusal ≤ 0) w
       (tells : (t ≡ true → take (s .next + length bytes - s .next) (drop (s .next) bs) ≡ bytes) × (take (s .next + length bytes - s .next) (drop (s .next) bs) ≡ bytes → t ≡ true)) where
     -- the bytes read, and what the test says of them
     read : loadBlock (length bytes) (drop (s .next) bs) ≡ got (take (length bytes) (drop (s .next) bs)) (drop (s .next + length bytes) bs)
-    read = let k : length bytes ≤ length (drop (s .next) bs) = rw length-drop h in block-got (length bytes) (drop (s .next) bs) k ∙ rw (drop-drop (length bytes) (s .next) bs)
+    read =
+        let k : length bytes ≤ length (drop (s .next) bs) = rw length-drop h in
+        block-got (length bytes) (drop (s .next) bs) k ∙ rw (drop-drop (length bytes) (s .next) bs)
 
     test : same (take (length bytes) (drop (s .next) bs)) bytes ≡ t
     test = let e : s .next + length bytes - s .next ≡ length bytes = omega arith in rw e at (same-is t _ bytes tells)
@@ -126,12 +128,13 @@ module _ (bs ws ts : List ℕ) (c : Cursor) (need : Load) (u v : List ℕ) where
 
 -- ---- the returns of undump
 
-pub unnamed : (bs name ws ts : List ℕ) {ok : Bool} {a : Undumped} → ok ≡ nameOk name → not ok ≡ true → a ≡ undumpRefused 1 [] [] .answer → undumpLeft a ws ts ≡ undumped bs name ws ts
+pub unnamed : (bs name ws ts : List ℕ) {ok : Bool} {a : Undumped} → ok ≡ nameOk name → not ok ≡ true → a ≡ undumpRefused 1 [] [] .answer
+    → undumpLeft a ws ts ≡ undumped bs name ws ts
 unfolding undumped
 unnamed bs name ws ts {ok} o e r = rw (r, ← o, not-true ok e)
 
-module _ (name ws ts : List ℕ) {bs u v : List ℕ} {c : Cursor} {need : Load} {ok : Bool} (o : ok ≡ nameOk name) (e : not ok ≡ false) (h : ReadsBy bs loadHeader (λ v. Unit {0}) beginning c)
-    (k : Loads bs (loadFunction depth) repairedFunction (world (fresh c) [] []) (world need u v)) where
+module _ (name ws ts : List ℕ) {bs u v : List ℕ} {c : Cursor} {need : Load} {ok : Bool} (o : ok ≡ nameOk name) (e : not ok ≡ false)
+    (h : ReadsBy bs loadHeader (λ v. Unit {0}) beginning c) (k : Loads bs (loadFunction depth) repairedFunction (world (fresh c) [] []) (world need u v)) where
   pub refused-reading : {a : Undumped} → 0 < need .cursor .refusal → a ≡ undumpRefused (need .cursor .refusal) [] [] .answer → undumpLeft a ws ts ≡ undumped bs name ws ts
   unfolding undumped
   refused-reading z r = rw (r, ← o, not-false ok e) (sym (refused-by bs ws ts c need u v (loadChunk bs) (chunk-loaded h k) z))

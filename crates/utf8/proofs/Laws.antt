@@ -156,7 +156,8 @@ repair-utf8 s h = rw append-nil at (repair-append s [] h)
 
 repaired-sequence : (b : ℕ) (bs : List ℕ) → Sequence (repairedStep (firstStep (b ∷ bs)) (b ∷ bs))
 repaired-sequence b bs =
-    by-test (λ t. Sequence (cond t (take (firstStep (b ∷ bs) .len) (b ∷ bs)) replacement)) (firstStep (b ∷ bs) .«well_formed») (front-sequence b bs) (λ e. replacement-sequence)
+    by-test (λ t. Sequence (cond t (take (firstStep (b ∷ bs) .len) (b ∷ bs)) replacement)) (firstStep (b ∷ bs) .«well_formed»)
+    (front-sequence b bs) (λ e. replacement-sequence)
 
 -- what repair gives is text
 pub utf8-repair : (s : List ℕ) → isUtf8 (repair s) ≡ true

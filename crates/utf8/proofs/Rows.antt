@@ -63,7 +63,8 @@ unfolding rowOf whole begun matched
 found [] from b bs h = (refl, refl)
 found ([] ∷ rows) from b bs h = absurd h
 found ((r ∷ row) ∷ rows) from b bs h =
-    by-test (λ t. Found (cond t (r ∷ row) (rowOf rows b)) bs (cond (eqb (m t) (suc (length row))) (suc (length row)) (whole rows (b ∷ bs))) (max (m t) (begun rows (b ∷ bs)))) (within b r)
+    by-test (λ t. Found (cond t (r ∷ row) (rowOf rows b)) bs (cond (eqb (m t) (suc (length row))) (suc (length row)) (whole rows (b ∷ bs))) (max (m t) (begun rows (b ∷ bs))))
+    (within b r)
     (λ e. let l = in-range b r e in let k = below rows (suc (r .high)) b bs (h .2) (omega arith) in (rw (k .0), rw (k .1) (omega arith)))
     (λ e. let z : max 0 (begun rows (b ∷ bs)) ≡ begun rows (b ∷ bs) = omega arith in rw (eqb·zero-suc (length row), z) (found rows (suc (r .high)) b bs (h .2)))
   where

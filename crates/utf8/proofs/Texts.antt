@@ -80,7 +80,8 @@ unfolding repairUpTo
 repair-none s at h = rw (drop-of-length-le s h)
 
 -- a sequence of n bytes, its lead byte in a range whose bytes all lead rows of n
-pub text-led : {s : List ℕ} {at : ℕ} {t : Bool} {r : Range} (n low high : ℕ) → Led n low high → high < 256 → t ≡ begins (low ‥ high) (drop at s) → not t ≡ false → Begun s at n n r → Text s at (at + n)
+pub text-led : {s : List ℕ} {at : ℕ} {t : Bool} {r : Range} (n low high : ℕ) → Led n low high → high < 256
+    → t ≡ begins (low ‥ high) (drop at s) → not t ≡ false → Begun s at n n r → Text s at (at + n)
 text-led {s} {at} {t} n low high led k e h l =
     let b = begins-byte s at (low ‥ high) (sym e ∙ not-false t h) in
     text-step s at (b .0) (step-led s at n n (b .0) (omega arith) (led (getD s at 0) (b .1) (b .2)) (begun-done (omega arith) l)) (rw (eq-eqb n n refl))

@@ -112,7 +112,8 @@ pub +load-constants+load-function-spec : {M : Type 1} → statement M
     let c₃ = c₂ .before .before .before .before .before in let c₄ = c₃ .before .before .before .before in
     let c₅ = c₄ .before .before .before .before .before .before .before .before .before .before in
     let c₆ = c₅ .before .before .before .before in let c₇ = c₆ .before .before .before .before .before .before in
-    c₁ .load-debug .kept .1 .0 ∙ c₂ .load-constants .kept .1 .0 ∙ c₃ .load-code .kept .1 .0 ∙ c₄ .put .kept .0 ∙ c₅ .copy-int2 .kept .1 .0 ∙ c₆ .copy-int .kept .1 .0 ∙ c₇ .load-source .kept .1 .0)  -- same-length
+    c₁ .load-debug .kept .1 .0 ∙ c₂ .load-constants .kept .1 .0 ∙ c₃ .load-code .kept .1 .0 ∙ c₄ .put .kept .0
+    ∙ c₅ .copy-int2 .kept .1 .0 ∙ c₆ .copy-int .kept .1 .0 ∙ c₇ .load-source .kept .1 .0)  -- same-length
     (λ c.
     let c₁ = c .before .before .before .before in let c₂ = c₁ .before .before .before .before .before .before .before in
     let c₃ = c₂ .before .before .before .before .before .before .before .before .before .before .before .before .before .before .before .before .before .before .before .before .before .before .before .before .before .before .before .before .before in
