@@ -215,7 +215,8 @@ moved-on d a ds behind bytes b c = by (eqb (c .answer .refusal) 0) refl
         let read : c .answer .read ≡ length (bytesOf d) = step-law d a bytes (endToEnd ds ++ behind) b c .takes (eqb-true _ _ e) .read in
         rw (read, b) (drop-at (bytesOf d) (endToEnd ds ++ behind) _ refl)
     by false e =
-        let read : c .answer .read ≡ 0 = ap (λ (u : UndumpLeft). u .answer .read) (untouched-law d a bytes (endToEnd ds ++ behind) b c (c .answer .refusal) (omega (arith, eqb-false (c .answer .refusal) 0 e)) refl) in
+        let some : 0 < c .answer .refusal = omega (arith, eqb-false (c .answer .refusal) 0 e) in
+        let read : c .answer .read ≡ 0 = ap (λ (u : UndumpLeft). u .answer .read) (untouched-law d a bytes (endToEnd ds ++ behind) b c _ some refl) in
         rw (read, b) (sym (append-assoc (bytesOf d) (endToEnd ds) behind))
 
 session-law : {slice : List ℕ} {place : ℕ} (cs : Calls slice place) (ds : List DumpCall) (behind : List ℕ) → Every Accepted ds → drop place slice ≡ endToEnd ds ++ behind → Session cs ds
