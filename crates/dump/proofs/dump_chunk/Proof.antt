@@ -5,7 +5,7 @@ use Rattle.dump.proofs.dump_chunk.Statement.{statement}
 use Rattle.dump.proofs.dump_chunk.Tie as tie
 
 dump-header-requires : tie.Need-dump-header-requires
-dump-header-requires c κs = header-fits (c .before .before .before .before .before .pre)
+dump-header-requires c κs = search (needs, header-fits)
 
 dump-function-requires : tie.Need-dump-function-requires
 dump-function-requires c κs =

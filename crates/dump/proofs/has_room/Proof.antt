@@ -17,9 +17,7 @@ returns-3 : tie.Need-returns-3
 returns-3 c = λ e. absurd (false≢true e)
 
 returns-4 : tie.Need-returns-4
-returns-4 c =
-    let c₁ = c .before .before .before in
-    room-left (c₁ .args .space) (c₁ .args .words) (c₁ .args .a) (c₁ .args .b) (omega arith) (omega arith) (omega arith)
+returns-4 c = search (needs, room-left)
 
 pub has-room-spec : {M : Type 1} → statement M
 has-room-spec = tie.close (tie.spec returns returns-2

@@ -17,7 +17,7 @@ slice-write-out-4 : tie.Need-slice-write-out-4
 slice-write-out-4 c = simp length-set (omega (arith, c .pre))
 
 returns : tie.Need-returns
-returns c = int-stored (c .args .out .now) (c .args .at) (c .args .n)
+returns c = search (needs, int-stored)
 
 pub dump-int-spec : {M : Type 1} → statement M
 dump-int-spec = tie.close (tie.spec

@@ -18,15 +18,10 @@ abbrev μ-loop : tie.MeasureT-loop
 μ-loop out₀ at l i₀ out i = length l - i
 
 loop-holds : tie.Need-loop-holds Inv-loop μ-loop
-loop-holds c = (omega arith, refl, ints-start _ (c .before .before .args .l .now) _)
+loop-holds c = search (needs, ints-start)
 
 loop-again : tie.Need-loop-again Inv-loop μ-loop
-loop-again c =
-    let c₁ = c .before .before in let c₂ = c₁ .before .before .before .before in let c₃ = c₂ .before .before .before in
-    (omega arith, c₁ .dump-int .kept .0 ∙ c₂ .loop .inv .1, ints-turn (c₃ .args .out .now) (c₃ .args .l .now) (c₃ .args .at) (c₂ .loop .i) (omega arith) (c₂ .loop .inv .2) (c₁ .dump-int .ensures))
-
-same-length : tie.Need-same-length Inv-loop μ-loop
-same-length c = c .before .loop .inv .1
+loop-again c = search (needs, ints-turn)
 
 returns : tie.Need-returns Inv-loop μ-loop
 returns c = let e : c .before .loop .i ≡ length (c .before .before .before .before .args .l .now) = omega arith in c .before .loop .inv .2 ∙ rw (e, take-length (c .before .before .before .before .args .l .now))
@@ -36,4 +31,6 @@ dump-ints-spec = tie.close (tie.spec Inv-loop μ-loop loop-holds
     (λ c. omega arith) (λ c. omega arith) (λ c. omega arith)  -- mul-dump-int, add-dump-int, mul-dump-int-2
     (λ c. omega arith) (λ c. search needs) (λ c. omega arith)  -- shared-slice-read-dump-int, dump-int-requires, add-i
     (λ c. omega arith)  -- loop-less
-    loop-again same-length returns)
+    loop-again
+    (λ c. search needs)  -- same-length
+    returns)

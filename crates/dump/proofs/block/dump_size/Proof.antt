@@ -5,9 +5,7 @@ use Rattle.dump.proofs.block.dump_size.Statement.{statement}
 use Rattle.dump.proofs.block.dump_size.Tie as tie
 
 returns : tie.Need-returns
-returns c =
-    let c₁ = c .before .before in let c₂ = c₁ .before .before .before .before in let c₃ = c₂ .before .before .before in
-    size-stored (c₃ .args .out .now) (c₃ .args .at) (c₃ .args .n) (c₂ .dump-int .ensures) (c₁ .dump-int2 .ensures)
+returns c = search (needs, size-stored)
 
 pub dump-size-spec : {M : Type 1} → statement M
 dump-size-spec = tie.close (tie.spec

@@ -10,10 +10,7 @@ same-length : tie.Need-same-length
 same-length c = simp length-set (c .before .before .copy .kept .0 ∙ c .before .before .before .before .before .before .dump-size .kept .0)
 
 returns : tie.Need-returns
-returns c =
-    let c₁ = c .before .before in let c₂ = c₁ .before .before .before .before in
-    let c₃ = c₂ .before .before .before .before in
-    string-stored (c₃ .args .out .now) (c₃ .args .s .now) (c₃ .args .at) (c₂ .dump-size .ensures) (c₁ .copy .ensures)
+returns c = search (needs, string-stored)
 
 pub dump-string-spec : {M : Type 1} → statement M
 dump-string-spec = tie.close (tie.spec

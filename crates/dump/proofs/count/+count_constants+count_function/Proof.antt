@@ -85,12 +85,8 @@ count-constants-μ-loop words text strip source allowance n p₀ i₀ p i = n - 
 count-constants-loop-holds : (t : ℕ) → count-constants-lts.Need-loop-holds (count-constants-calls t) (count-constants-at t) count-constants.Post count-constants-Inv-loop count-constants-μ-loop
 count-constants-loop-holds t c = loop-start
 
-count-constants-count-function-requires :
-    (t : ℕ) → count-constants-lts.Need-count-function-requires (count-constants-calls t) (count-constants-at t) count-constants.Post count-constants-Inv-loop count-constants-μ-loop
-count-constants-count-function-requires t c κs = (omega (arith, c .before .before .before .before .before .before .before .before .pre .0), tt)
-
 count-constants-loop-again : (t : ℕ) → count-constants-lts.Need-loop-again (count-constants-calls t) (count-constants-at t) count-constants.Post count-constants-Inv-loop count-constants-μ-loop
-count-constants-loop-again t c = loop-turn (omega arith) (c .before .before .loop .inv) (all-more (c .count-function .ensures))
+count-constants-loop-again t c = search (needs, loop-turn, all-more)
 
 count-constants-returns : (t : ℕ) → count-constants-lts.Need-returns (count-constants-calls t) (count-constants-at t) count-constants.Post count-constants-Inv-loop count-constants-μ-loop
 count-constants-returns t c =
@@ -100,9 +96,6 @@ count-constants-returns t c =
 
 count-function-returns : (t : ℕ) → count-function-lts.Need-returns (count-function-calls t) (count-function-at t) count-function.Post
 count-function-returns t c = λ f v. absurd (none-deep (c .if1 .taken) f v)
-
-count-function-sub-count-constants : (t : ℕ) → count-function-lts.Need-sub-count-constants (count-function-calls t) (count-function-at t) count-function.Post
-count-function-sub-count-constants t c = omega (arith, c .before .before .before .before .before .before .if1 .left)
 
 count-function-count-constants-requires :
     (t : ℕ) → count-function-lts.Need-count-constants-requires (count-function-calls t) (count-function-at t) count-function.Post
@@ -125,14 +118,14 @@ pub +count-constants+count-function-spec : {M : Type 1} → statement M
     count-constants-μ-loop
     (λ c. search needs) (λ c. search needs)  -- count-values-requires, word-at-requires
     (λ c. search needs)  -- ahead-requires
-    (count-constants-loop-holds t) (count-constants-count-function-requires t)
-    (λ c. omega arith) (λ c. omega arith)  -- add-i, loop-less
+    (count-constants-loop-holds t)
+    (λ c. search needs) (λ c. omega arith) (λ c. omega arith)  -- count-function-requires, add-i, loop-less
     (count-constants-loop-again t) (count-constants-returns t))
     λ t. count-function-lts.spec (count-function-calls t) (count-function-at t) count-function.Post
     (count-function-returns t)
     (λ c. search needs) (λ c. search needs)  -- own-source-requires, count-source-requires
     (λ c. search needs) (λ c. search needs) (λ c. search needs)  -- ahead-requires, ahead-requires-2, ahead-requires-3
-    (λ c. search needs)  -- count-code-requires
-    (count-function-sub-count-constants t) (count-function-count-constants-requires t)
+    (λ c. search needs) (λ c. search needs)  -- count-code-requires, sub-count-constants
+    (count-function-count-constants-requires t)
     (λ c. search needs)  -- count-debug-requires
     (count-function-returns-2 t)

@@ -5,7 +5,7 @@ use Rattle.dump.proofs.count.count_code.Statement.{statement}
 use Rattle.dump.proofs.count.count_code.Tie as tie
 
 returns : tie.Need-returns
-returns c = code-counted (c .before .word-at .ensures) (c .ahead .ensures)
+returns c = search (needs, code-counted)
 
 pub count-code-spec : {M : Type 1} → statement M
 count-code-spec = tie.close (tie.spec

@@ -6,7 +6,7 @@ use Rattle.dump.proofs.count.count_debug.Statement.{statement}
 use Rattle.dump.proofs.count.count_debug.Tie as tie
 
 returns : tie.Need-returns
-returns c = λ d t. debug-stripped (c .before .before .if1 .taken) (c .before .after-debug .ensures) (no-debug-counted (c .further .ensures)) d
+returns c = search (needs, debug-stripped, no-debug-counted)
 
 returns-2 : tie.Need-returns-2
 returns-2 c = λ d t. debug-dumped (c .before .before .before .if1 .left) (c .before .before .count-code .ensures) (λ l. c .before .count-locals .ensures l t) (λ l. c .count-names .ensures l t) d

@@ -94,21 +94,10 @@ dump-constants-loop-holds t c =
     (refl, loop-start, left-start (λ f. Valid f (c₄ .args .allowance)) functionPiece (λ f. dumpFunction f (c₄ .args .strip) (c₄ .args .source .now) (c₄ .args .source .now)) (λ l h. h) (c₂ .word-at .ensures) (children-ready (c₄ .args .allowance) (c₄ .args .strip) (c₄ .args .source .now) (c₄ .pre .1) (c₃ .dump-values .ensures)) (c₁ .dump-word .ensures))
 
 dump-constants-dump-function-requires : (t : ℕ) → dump-constants-lts.Need-dump-function-requires (dump-constants-calls t) (dump-constants-at t) dump-constants.Post dump-constants-Inv-loop dump-constants-μ-loop
-dump-constants-dump-function-requires t c κs =
-    let c₁ = c .before .before in
-    let c₂ = c₁ .before .before .before .before .before .before .before .before .before .before .before .before .before .before in
-    (omega (arith, c₂ .pre .0), left-item (λ f. Valid f (c₂ .args .allowance)) functionPiece (λ f. dumpFunction f (c₂ .args .strip) (c₂ .args .source .now) (c₂ .args .source .now)) (omega arith) (c₁ .loop .inv .2))
+dump-constants-dump-function-requires t c κs = search (needs, left-item, functionPiece, dumpFunction)
 
 dump-constants-loop-again : (t : ℕ) → dump-constants-lts.Need-loop-again (dump-constants-calls t) (dump-constants-at t) dump-constants.Post dump-constants-Inv-loop dump-constants-μ-loop
-dump-constants-loop-again t c =
-    let c₁ = c .before .before in let c₂ = c₁ .before .before .before in
-    let a = c₂ .before .before .before .before .before .before .before .before .before .before .before .before .before .before .args in
-    (c₁ .dump-function .kept .1 .1 .1 .1 .1 .0 ∙ c₂ .loop .inv .0, loop-turn (omega arith) (c₂ .loop .inv .1) (all-more {bytes = λ f. dumpFunction f (a .strip) (a .source .now) (a .source .now)} (c₁ .dump-function .ensures)), left-more (λ f. Valid f (a .allowance)) functionPiece (λ f. dumpFunction f (a .strip) (a .source .now) (a .source .now)) (omega arith) (c₂ .loop .inv .2) (c₁ .dump-function .ensures))
-
-dump-constants-same-length : (t : ℕ) → dump-constants-lts.Need-same-length (dump-constants-calls t) (dump-constants-at t) dump-constants.Post dump-constants-Inv-loop dump-constants-μ-loop
-dump-constants-same-length t c =
-    let c₁ = c .before in let c₂ = c₁ .before .before .before in let c₃ = c₂ .before .before .before .before .before in
-    c₁ .loop .inv .0 ∙ c₂ .dump-word .kept .1 .0 ∙ c₃ .dump-values .kept .1 .1 .0
+dump-constants-loop-again t c = search (needs, loop-turn, all-more, dumpFunction, left-more, functionPiece)
 
 dump-constants-returns : (t : ℕ) → dump-constants-lts.Need-returns (dump-constants-calls t) (dump-constants-at t) dump-constants.Post dump-constants-Inv-loop dump-constants-μ-loop
 dump-constants-returns t c =
@@ -117,15 +106,10 @@ dump-constants-returns t c =
     constants-dumped (c₅ .args .allowance) (c₅ .args .strip) (c₅ .args .source .now) (c₄ .dump-values .ensures) (c₃ .word-at .ensures) (c₂ .dump-word .ensures) (loop-end (omega arith) (c₁ .loop .inv .1) all-none)
 
 dump-function-returns : (t : ℕ) → dump-function-lts.Need-returns (dump-function-calls t) (dump-function-at t) dump-function.Post
-dump-function-returns t c = λ f v. absurd (none-deep (c .if1 .taken) f v)
+dump-function-returns t c = search (needs, none-deep)
 
 dump-function-dump-source-requires : (t : ℕ) → dump-function-lts.Need-dump-source-requires (dump-function-calls t) (dump-function-at t) dump-function.Post
-dump-function-dump-source-requires t c κs =
-    let c₁ = c .before in let c₂ = c₁ .before .before .before .before .before .before in
-    let a = c₂ .args in
-    let r = c₂ .pre .1 in
-    let n = a .allowance - 1 in
-    source-ready (reached (a .s) (a .out .now)) n (a .strip) (a .root) (a .outer .now) (c₁ .own-source .result .now) (c₁ .own-source .ensures) (r .value) (r .fits)
+dump-function-dump-source-requires t c κs = search (needs, source-ready, reached)
 
 dump-function-dump-word-requires : (t : ℕ) → dump-function-lts.Need-dump-word-requires (dump-function-calls t) (dump-function-at t) dump-function.Post
 dump-function-dump-word-requires t c κs =
@@ -166,11 +150,6 @@ dump-function-dump-code-requires t c κs =
     let e : a .allowance ≡ suc n = omega (arith, c₆ .if1 .left) in
     let v : Valid (r .value) (suc n) = rw e at (r .valid) in
     code-ready (reached (a .s) (a .out .now)) n (a .strip) (a .root) (a .outer .now) (c₅ .own-source .result .now) (c₅ .own-source .ensures) (c₄ .dump-source .ensures) (c₃ .dump-word .ensures) (c₂ .dump-word2 .ensures) (c₁ .dump-packed .ensures) (r .value) v (r .fits)
-
-dump-function-sub-dump-constants : (t : ℕ) → dump-function-lts.Need-sub-dump-constants (dump-function-calls t) (dump-function-at t) dump-function.Post
-dump-function-sub-dump-constants t c =
-    let c₁ = c .before .before .before .before .before .before .before .before .before .before .before .before .before .before .before .before .before .before .before .before .before .before in
-    omega (arith, c₁ .if1 .left)
 
 dump-function-dump-constants-requires : (t : ℕ) → dump-function-lts.Need-dump-constants-requires (dump-function-calls t) (dump-function-at t) dump-function.Post
 dump-function-dump-constants-requires t c κs =
@@ -224,11 +203,14 @@ pub +dump-constants+dump-function-spec : {M : Type 1} → statement M
     (λ c. search needs)  -- word-at-requires
     (dump-constants-dump-word-requires t) (dump-constants-loop-holds t) (dump-constants-dump-function-requires t)
     (λ c. omega arith) (λ c. omega arith)  -- add-i, loop-less
-    (dump-constants-loop-again t) (dump-constants-same-length t) (dump-constants-returns t))
+    (dump-constants-loop-again t)
+    (λ c. search needs)  -- same-length
+    (dump-constants-returns t))
     λ t. dump-function-lts.spec (dump-function-calls t) (dump-function-at t) dump-function.Post
     (dump-function-returns t)
     (λ c. search needs)  -- own-source-requires
     (dump-function-dump-source-requires t) (dump-function-dump-word-requires t) (dump-function-dump-word-requires-2 t)
-    (dump-function-dump-packed-requires t) (dump-function-dump-code-requires t) (dump-function-sub-dump-constants t)
+    (dump-function-dump-packed-requires t) (dump-function-dump-code-requires t)
+    (λ c. search needs)  -- sub-dump-constants
     (dump-function-dump-constants-requires t) (dump-function-dump-debug-requires t) (dump-function-same-length t)
     (dump-function-returns-2 t)

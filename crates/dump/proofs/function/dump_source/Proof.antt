@@ -18,9 +18,7 @@ add-t12 c =
     omega (arith, source-within (c₁ .pre .value) _ (c₁ .pre .fits))
 
 returns : tie.Need-returns
-returns c =
-    let c₁ = c .before .before in let c₂ = c₁ .before .before in let c₃ = c₂ .before .before .before .before .before in
-    source-dumped (c₃ .args .root) (c₃ .args .outer .now) (c₃ .args .source .now) (c₂ .is-elided .ensures) skips-on (c₁ .put-source .ensures)
+returns c = search (needs, source-dumped, skips-on)
 
 pub dump-source-spec : {M : Type 1} → statement M
 dump-source-spec = tie.close (tie.spec

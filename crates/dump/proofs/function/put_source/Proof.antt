@@ -8,14 +8,7 @@ use Rattle.dump.proofs.function.put_source.Statement.{statement}
 use Rattle.dump.proofs.function.put_source.Tie as tie
 
 dump-size-requires : tie.Need-dump-size-requires
-dump-size-requires c κs =
-    let c₁ = c .before in let c₂ = c₁ .before .before .before in
-    room-elided (c₂ .args .at) (c₂ .args .source .now) (c₁ .if1 .taken) (c₂ .pre)
-
-add-result : tie.Need-add-result
-add-result c =
-    let c₁ = c .before .before .before .before in let c₂ = c₁ .before .before .before in
-    omega (arith, room-elided (c₂ .args .at) (c₂ .args .source .now) (c₁ .if1 .taken) (c₂ .pre))
+dump-size-requires c κs = search (needs, room-elided)
 
 returns : tie.Need-returns
 returns c =
@@ -23,14 +16,7 @@ returns c =
     put-elided (c₃ .args .at) (c₃ .args .source .now) (c₂ .if1 .taken) (size-fits 0 (omega (arith, room-elided (c₃ .args .at) (c₃ .args .source .now) (c₂ .if1 .taken) (c₃ .pre))) refl (c₁ .dump-size .ensures))
 
 dump-string-requires : tie.Need-dump-string-requires
-dump-string-requires c κs =
-    let c₁ = c .before in let c₂ = c₁ .before .before .before in
-    room-own (c₂ .args .at) (c₂ .args .source .now) (c₁ .if1 .left) (c₂ .pre)
-
-add-result-2 : tie.Need-add-result-2
-add-result-2 c =
-    let c₁ = c .before .before .before .before in let c₂ = c₁ .before .before .before in
-    omega (arith, room-own (c₂ .args .at) (c₂ .args .source .now) (c₁ .if1 .left) (c₂ .pre))
+dump-string-requires c κs = search (needs, room-own)
 
 add-result-3 : tie.Need-add-result-3
 add-result-3 c =
@@ -43,8 +29,10 @@ returns-2 c =
     put-own (c₃ .args .at) (c₃ .args .source .now) (c₂ .if1 .left) (string-fits (c₃ .args .source .now) (omega (arith, room-own (c₃ .args .at) (c₃ .args .source .now) (c₂ .if1 .left) (c₃ .pre))) refl (c₁ .dump-string .ensures))
 
 pub put-source-spec : {M : Type 1} → statement M
-put-source-spec = tie.close (tie.spec dump-size-requires add-result
-    (λ c. search needs)  -- same-length
-    returns dump-string-requires add-result-2 add-result-3
+put-source-spec = tie.close (tie.spec dump-size-requires
+    (λ c. search needs) (λ c. search needs)  -- add-result, same-length
+    returns dump-string-requires
+    (λ c. search needs)  -- add-result-2
+    add-result-3
     (λ c. search needs)  -- same-length-2
     returns-2)

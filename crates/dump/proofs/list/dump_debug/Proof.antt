@@ -9,15 +9,13 @@ put-no-debug-requires : tie.Need-put-no-debug-requires
 put-no-debug-requires c κs = no-debug-fits (c .before .if1 .taken) (c .before .before .before .before .before .pre)
 
 returns : tie.Need-returns
-returns c = debug-stripped (c .before .before .before .before .before .if1 .taken) (c .after-debug .ensures) (c .before .before .before .put-no-debug .ensures)
+returns c = search (needs, debug-stripped)
 
 dump-code-requires : tie.Need-dump-code-requires
 dump-code-requires c κs = lines-ready (c .before .if1 .left) (c .before .before .before .before .before .pre)
 
 dump-locals-requires : tie.Need-dump-locals-requires
-dump-locals-requires c κs =
-    let c₁ = c .before .before .before in let c₂ = c₁ .before .before in let c₃ = c₂ .before .before .before .before in
-    locals-ready (c₂ .if1 .left) (c₃ .pre) (c₁ .dump-code .ensures)
+dump-locals-requires c κs = search (needs, locals-ready)
 
 dump-names-requires : tie.Need-dump-names-requires
 dump-names-requires c κs =

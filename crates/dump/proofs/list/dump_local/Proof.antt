@@ -6,7 +6,7 @@ use Rattle.dump.proofs.list.dump_local.Statement.{statement}
 use Rattle.dump.proofs.list.dump_local.Tie as tie
 
 dump-name-requires : tie.Need-dump-name-requires
-dump-name-requires c κs = local-name (c .before .before .before .before .pre)
+dump-name-requires c κs = search (needs, local-name)
 
 dump-word-requires : tie.Need-dump-word-requires
 dump-word-requires c κs =

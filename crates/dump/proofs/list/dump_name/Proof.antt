@@ -14,22 +14,9 @@ use Rattle.dump.proofs.list.dump_name.Tie as tie
 cast-part : tie.Need-cast-part
 cast-part c = omega (arith, c .before .before .before .shared-slice-known .given (c .before .before .before .before .args .s .at))
 
-cast-part-2 : tie.Need-cast-part-2
-cast-part-2 c = omega (arith, c .before .before .before .before .shared-slice-known .given (c .before .before .before .before .before .args .s .at + 1))
-
 dump-string-requires : tie.Need-dump-string-requires
 dump-string-requires c κs =
     let c₁ = c .before in let c₂ = c₁ .before .before .before .before .before .before in
-    omega (arith, part-short (c₂ .args .text .now) (getD (c₂ .args .words .now) (c₂ .args .s .at) 0) (getD (c₂ .args .words .now) (c₂ .args .s .at + 1) 0) (c₁ .part .ensures), (c₂ .pre))
-
-add-t16 : tie.Need-add-t16
-add-t16 c =
-    let c₁ = c .before .before .before .before in let c₂ = c₁ .before .before .before .before .before .before in
-    omega (arith, part-short (c₂ .args .text .now) (getD (c₂ .args .words .now) (c₂ .args .s .at) 0) (getD (c₂ .args .words .now) (c₂ .args .s .at + 1) 0) (c₁ .part .ensures), (c₂ .pre))
-
-add-t12 : tie.Need-add-t12
-add-t12 c =
-    let c₁ = c .before .before .before .before in let c₂ = c₁ .before .before .before .before .before .before in
     omega (arith, part-short (c₂ .args .text .now) (getD (c₂ .args .words .now) (c₂ .args .s .at) 0) (getD (c₂ .args .words .now) (c₂ .args .s .at + 1) 0) (c₁ .part .ensures), (c₂ .pre))
 
 returns : tie.Need-returns
@@ -43,10 +30,8 @@ dump-name-spec = tie.close (tie.spec
     (λ c. search needs) (λ c. search needs)  -- mul-part, shared-slice-read-part
     cast-part
     (λ c. search needs) (λ c. search needs) (λ c. search needs)  -- add-part, mul-part-2, shared-slice-read-part-2
-    cast-part-2
-    (λ c. search needs)  -- part-requires
+    (λ c. search needs) (λ c. search needs)  -- cast-part-2, part-requires
     dump-string-requires
-    (λ c. search needs)  -- add-t8
-    add-t16 add-t12
+    (λ c. search needs) (λ c. search needs) (λ c. search needs)  -- add-t8, add-t16, add-t12
     (λ c. search needs)  -- same-length
     returns)

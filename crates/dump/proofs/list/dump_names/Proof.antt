@@ -1,4 +1,5 @@
 -- The loop's invariant: whatever writes the other items from here writes the whole list from the start, and there is room for them.
+use borrow.Author.Needs.{needs}
 use native.Mathlib.Omega.{arith}
 use Prim.Native.Nat.{_-_}
 use mathlib.Core.Path.{_≡_, refl, _∙_}
@@ -25,10 +26,10 @@ shared-slice-read-n : tie.Need-shared-slice-read-n Inv-loop μ-loop
 shared-slice-read-n c = omega (arith, count-fits string dumpText (c .before .before .before .before .pre))
 
 dump-word-requires : tie.Need-dump-word-requires Inv-loop μ-loop
-dump-word-requires c κs = count-fits string dumpText (c .before .before .before .before .before .pre)
+dump-word-requires c κs = search (needs, count-fits, string, dumpText)
 
 loop-holds : tie.Need-loop-holds Inv-loop μ-loop
-loop-holds c = (refl, loop-start, left-start Any string dumpText (λ l h. every-any l) refl (c .before .before .before .before .before .before .before .before .pre) (c .before .before .dump-word .ensures))
+loop-holds c = search (needs, loop-start, left-start, string, dumpText, every-any)
 
 dump-name-requires : tie.Need-dump-name-requires Inv-loop μ-loop
 dump-name-requires c κs = let r = left-item Any string dumpText (omega arith) (c .before .before .loop .inv .2) in name-fits (r .value) (r .fits)
@@ -44,9 +45,6 @@ loop-again c =
     let c₁ = c .before .before in let c₂ = c₁ .before .before .before in
     (c₁ .dump-name .kept .1 .1 .0 ∙ c₂ .loop .inv .0, loop-turn (omega arith) (c₂ .loop .inv .1) (all-more (λ v k. c₁ .dump-name .ensures v)), left-more Any string dumpText (omega arith) (c₂ .loop .inv .2) (λ v k. c₁ .dump-name .ensures v))
 
-same-length : tie.Need-same-length Inv-loop μ-loop
-same-length c = c .before .loop .inv .0 ∙ c .before .before .before .before .dump-word .kept .1 .0
-
 returns : tie.Need-returns Inv-loop μ-loop
 returns c = λ l. counted refl (c .before .before .before .before .dump-word .ensures) (loop-end (omega arith) (c .before .loop .inv .1) all-none) l (every-any l)
 
@@ -54,4 +52,6 @@ pub dump-names-spec : {M : Type 1} → statement M
 dump-names-spec = tie.close (tie.spec Inv-loop μ-loop mul-n shared-slice-read-n dump-word-requires loop-holds
     dump-name-requires add-i
     (λ c. omega arith)  -- loop-less
-    loop-again same-length returns)
+    loop-again
+    (λ c. search needs)  -- same-length
+    returns)

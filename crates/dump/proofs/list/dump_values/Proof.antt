@@ -1,4 +1,5 @@
 -- The loop's invariant: whatever writes the other items from here writes the whole list from the start, and there is room for them.
+use borrow.Author.Needs.{needs}
 use native.Mathlib.Omega.{arith}
 use Prim.Native.Nat.{_-_}
 use mathlib.Core.Path.{_≡_, refl, _∙_}
@@ -25,13 +26,13 @@ shared-slice-read-n : tie.Need-shared-slice-read-n Inv-loop μ-loop
 shared-slice-read-n c = omega (arith, count-fits constantPiece dumpConstant (c .before .before .before .before .pre))
 
 dump-word-requires : tie.Need-dump-word-requires Inv-loop μ-loop
-dump-word-requires c κs = count-fits constantPiece dumpConstant (c .before .before .before .before .before .pre)
+dump-word-requires c κs = search (needs, count-fits, constantPiece, dumpConstant)
 
 loop-holds : tie.Need-loop-holds Inv-loop μ-loop
-loop-holds c = (refl, loop-start, left-start Any constantPiece dumpConstant (λ l h. every-any l) refl (c .before .before .before .before .before .before .before .before .pre) (c .before .before .dump-word .ensures))
+loop-holds c = search (needs, loop-start, left-start, constantPiece, dumpConstant, every-any)
 
 dump-constant-requires : tie.Need-dump-constant-requires Inv-loop μ-loop
-dump-constant-requires c κs = left-item Any constantPiece dumpConstant (omega arith) (c .before .before .loop .inv .2)
+dump-constant-requires c κs = search (needs, left-item, constantPiece, dumpConstant)
 
 add-i : tie.Need-add-i Inv-loop μ-loop
 add-i c =
@@ -44,9 +45,6 @@ loop-again c =
     let c₁ = c .before .before in let c₂ = c₁ .before .before .before in
     (c₁ .dump-constant .kept .1 .1 .0 ∙ c₂ .loop .inv .0, loop-turn (omega arith) (c₂ .loop .inv .1) (all-more (λ v k. c₁ .dump-constant .ensures v)), left-more Any constantPiece dumpConstant (omega arith) (c₂ .loop .inv .2) (λ v k. c₁ .dump-constant .ensures v))
 
-same-length : tie.Need-same-length Inv-loop μ-loop
-same-length c = c .before .loop .inv .0 ∙ c .before .before .before .before .dump-word .kept .1 .0
-
 returns : tie.Need-returns Inv-loop μ-loop
 returns c = λ l. counted refl (c .before .before .before .before .dump-word .ensures) (loop-end (omega arith) (c .before .loop .inv .1) all-none) l (every-any l)
 
@@ -54,4 +52,6 @@ pub dump-values-spec : {M : Type 1} → statement M
 dump-values-spec = tie.close (tie.spec Inv-loop μ-loop mul-n shared-slice-read-n dump-word-requires loop-holds
     dump-constant-requires add-i
     (λ c. omega arith)  -- loop-less
-    loop-again same-length returns)
+    loop-again
+    (λ c. search needs)  -- same-length
+    returns)

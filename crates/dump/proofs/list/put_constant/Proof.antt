@@ -15,11 +15,6 @@ slice-write-out c =
     let c₁ = c .before .before .before .before in
     omega (arith, room-nil (c₁ .args .at) (ap (valueOf (c₁ .args .text .now)) (c .enum-told .given .1)) (c₁ .pre))
 
-add-result : tie.Need-add-result
-add-result c =
-    let c₁ = c .before .before .before .before in
-    omega (arith, room-nil (c₁ .args .at) (ap (valueOf (c₁ .args .text .now)) (c .enum-told .given .1)) (c₁ .pre))
-
 slice-write-out-2 : tie.Need-slice-write-out-2
 slice-write-out-2 c =
     let c₁ = c .before in let c₂ = c₁ .before .before .before .before in
@@ -93,8 +88,8 @@ returns-4 c =
 pub put-constant-spec : {M : Type 1} → statement M
 put-constant-spec = tie.close (tie.spec
     (λ c. search needs)  -- enum-told
-    slice-write-out add-result
-    (λ c. search needs)  -- enum-known-k
+    slice-write-out
+    (λ c. search needs) (λ c. search needs)  -- add-result, enum-known-k
     slice-write-out-2
     (λ c. search needs) (λ c. search needs)  -- cast-out, add-out
     slice-write-out-3
