@@ -7,9 +7,9 @@ use native.Mathlib.Nat.{mul-suc}
 use native.Mathlib.Numerals.{add-one}
 use lib.ListN.{length, take, getD, set, length-append}
 use lib.Seq.{sets, take-suc, take-length, length-take-le}
-use Rattle.lent.specs.Memory.{far, Puts}
-use Rattle.lent.proofs.Writes.{sets-append, put-stored}
-use Rattle.format.specs.Write.{dumpNumber, dumpInt, dumpSize, dumpText, each}
+use Rattle.lent.specs.Memory.{Puts}
+use Rattle.lent.proofs.Writes.{sets-append, put-within}
+use Rattle.format.specs.Write.{dumpNumber, dumpInt, dumpSize, dumpText, dumpList, each}
 
 -- ---- one integer
 
@@ -52,7 +52,7 @@ size-ints n =
 -- ---- one behind the other
 
 -- b is stored behind a
-stored-then : {l m : List ℕ} (a b out : List ℕ) (at k : ℕ) → length a ≡ k → l ≡ sets out at a → m ≡ sets l (at + k) b → m ≡ sets out at (a ++ b)
+pub stored-then : {l m : List ℕ} (a b out : List ℕ) (at k : ℕ) → length a ≡ k → l ≡ sets out at a → m ≡ sets l (at + k) b → m ≡ sets out at (a ++ b)
 stored-then a b out at k n e f = f ∙ rw (e, ← n) (sets-append a out b at)
 
 pub size-length : (n : ℕ) → length (dumpSize n) ≡ 8
@@ -75,17 +75,9 @@ string-stored {out₂ = out₂} out s at e g =
     let i : at + 8 + length s ≡ at + (8 + length s) = omega arith in
     stored-then (dumpSize size ++ s) (0 ∷ []) out at (8 + length s) n b (rw i)
 
--- ---- what is stored is written
-
-module _ {at r : ℕ} {out out′ : List ℕ} where
-  pub int-fits : (n : ℕ) → at + 4 ≤ far → r ≡ at + 4 → out′ ≡ sets out at (dumpInt n) → Puts (dumpInt n) at out r out′
-  int-fits n h k e = put-stored (omega (arith, int-length n)) e
-
-  pub size-fits : (n : ℕ) → at + 8 ≤ far → r ≡ at + 8 → out′ ≡ sets out at (dumpSize n) → Puts (dumpSize n) at out r out′
-  size-fits n h k e = put-stored (omega (arith, size-length n)) e
-
-  pub string-fits : (s : List ℕ) → at + (length s + 9) ≤ far → r ≡ at + length s + 9 → out′ ≡ sets out at (dumpText s) → Puts (dumpText s) at out r out′
-  string-fits s h k e = put-stored (omega (arith, string-length s)) e
+-- what is stored within the space is written
+pub puts-in : {b out out′ : List ℕ} {at r k : ℕ} → length b ≡ k → at + k ≤ length out → r ≡ at + k → out′ ≡ sets out at b → Puts b at out r out′
+puts-in n h e q = put-within (omega (arith, n)) (omega (arith, n)) q
 
 -- ---- a list
 
@@ -102,6 +94,9 @@ each-length e k h (a ∷ l) = length-append (e a) (each e l) ∙ rw (h a, each-l
 pub ints-length : (l : List ℕ) → length (each dumpInt l) ≡ 4 * length l
 ints-length l = each-length dumpInt 4 int-length l
 
+pub code-length : (l : List ℕ) → length (dumpList dumpInt l) ≡ 4 + 4 * length l
+code-length l = length-append (dumpInt (length l)) (each dumpInt l) ∙ rw (int-length (length l), ints-length l)
+
 each-one : (n : ℕ) → each dumpInt (n ∷ []) ≡ dumpInt n
 unfolding each
 each-one n = append-nil (dumpInt n)
@@ -117,7 +112,3 @@ ints-turn out₀ l at i h e q =
     let n : length (each dumpInt (take i l)) ≡ 4 * i = ints-length (take i l) ∙ rw (length-take-le i l (omega arith)) in
     let t : each dumpInt (take (i + 1) l) ≡ each dumpInt (take i l) ++ dumpInt (getD l i 0) = rw (add-one i, take-suc l i 0 h) (each-append dumpInt (take i l) (getD l i 0 ∷ []) ∙ rw (each-one (getD l i 0))) in
     rw (q, e, t) (rw n at (sets-append (each dumpInt (take i l)) out₀ (dumpInt (getD l i 0)) at))
-
--- they are written
-pub ints-fit : {at r : ℕ} {out out′ : List ℕ} (l : List ℕ) → at + 4 * length l ≤ far → r ≡ at + 4 * length l → out′ ≡ sets out at (each dumpInt l) → Puts (each dumpInt l) at out r out′
-ints-fit l h k e = put-stored (omega (arith, ints-length l)) e

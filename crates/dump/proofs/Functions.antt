@@ -1,30 +1,32 @@
 -- Functions: their source, and their parts one behind the other.
-use Prim.Native.Nat.{ℕ, suc, _+_, _*_, _≤_, _<_}
+use Prim.Native.Nat.{ℕ, suc, _+_, _-_, _≤_}
 use mathlib.Core.Path.{_≡_, refl, sym, _∙_}
-use mathlib.Core.List.{List, [], _∷_, _++_, append-assoc}
+use mathlib.Core.List.{List, [], _∷_, _++_, append-assoc, append-nil}
 use mathlib.Core.Bool.{Bool, true, false, cond}
 use native.Mathlib.Omega.{arith}
 use native.Mathlib.Nat.{add-assoc}
-use lib.ListN.{length, getD, length-append}
+use lib.ListN.{length, drop, getD, length-append}
+use lib.Seq.{sets}
 use lib.Dec.{eqb}
 use borrow.Author.Tests.{ne-eqb}
 use Rattle.lent.specs.Memory.{Every, Puts}
 use Rattle.format.specs.Tree.{Constant as Value}
-use Rattle.format.specs.Tree.{Source, Debug, Parts, Function, Functions, count, filled, kept}
+use Rattle.format.specs.Tree.{Source, Parts, Function, Functions, count, filled, kept}
 use Rattle.format.specs.Read.{same}
-use Rattle.format.specs.Store.{Piece, word, _⊕_, list, ints, sourcePiece, constantPiece, debugPiece, packed, functionPiece, childrenPiece}
+use Rattle.format.specs.Store.{Piece, plain, word, _⊕_, pieces, list, ints, sourcePiece, constantPiece, debugPiece, packed, functionPiece, childrenPiece}
 use Rattle.format.specs.Valid.{ValidParts, Valid, ValidAll}
 use Rattle.format.specs.Write.{dumpInt, dumpSize, dumpString, dumpText, dumpList, dumpCode, dumpConstant, dumpConstants, dumpDebug, dumpFunction, dumpFunctions, elided, each}
+use Rattle.format.proofs.Loops.{Loop}
 use Rattle.format.proofs.RoundTrip.{same-is}
 use Rattle.proto.specs.Walk.{Stands, Skips, children}
 use Rattle.proto.proofs.Sublists.{here-get}
-use Rattle.proto.proofs.Pieces.{Same, same-refl, same-is as same-pieces, same-behind, stands-left, source-words}
+use Rattle.proto.proofs.Pieces.{Same, same-is as same-pieces, same-trans, same-behind, stands-left, source-words}
 use Rattle.proto.proofs.Walks.{past-words}
 use Rattle.proto.proofs.Stores.{children-count, children-list, every-valid}
 use Rattle.dump.specs.Step.{Reached, Dumps, Fits, Ready, SourceFits, Any, constantsPiece, around}
-use Rattle.dump.proofs.Blocks.{int-length, size-length, string-length}
-use Rattle.dump.proofs.Steps.{dumps-same, dumps-then, dumps-past, DumpsAll, counted}
-use Rattle.dump.proofs.StepNeeds.{fits-same, fits-left, fits-right, word-fits, ints-fit}
+use Rattle.dump.proofs.Blocks.{int-length, size-length, string-length, puts-in}
+use Rattle.dump.proofs.Steps.{Item, item, Made, made-two, Left, dumps-past, dumps-made, wrote-none, wrote-next, left-made, left-first, left-rest, Step, WordStep, PackedStep, CodeStep, WordRoom, CodeRoom, place, word-fits, code-fits, three-within}
+use Rattle.dump.proofs.Lists.{DumpsAll, looped}
 
 -- ---- the source
 
@@ -41,27 +43,54 @@ elided-inherited root source outer (Source.own s) e g z h f = absurd (omega (ari
 pub elided-compared : (t root : Bool) (source outer : List ℕ) → root ≡ false → (t ≡ true → source ≡ outer) × (source ≡ outer → t ≡ true) → t ≡ same source (around root outer)
 elided-compared t root source outer e h = sym (rw e (same-is t source outer h))
 
+-- a source, none where it is elided
+abbrev pub sourceBytes : Bool → List ℕ → List ℕ
+sourceBytes e source = dumpString (cond e Source.inherited (Source.own source))
+
 module _ (at : ℕ) (source : List ℕ) {e : Bool} where
-  pub room-elided : {n : ℕ} → e ≡ true → at + length (dumpString (cond e Source.inherited (Source.own source))) ≤ n → at + 8 ≤ n
-  room-elided h r = let i : at + length (dumpSize 0) ≤ _ = rw h at r in omega (arith, i, size-length 0)
-
-  pub room-own : {n : ℕ} → e ≡ false → at + length (dumpString (cond e Source.inherited (Source.own source))) ≤ n → at + (length source + 9) ≤ n
-  room-own h r = let i : at + length (dumpText source) ≤ _ = rw h at r in omega (arith, i, string-length source)
-
-  pub put-elided : {r : ℕ} {out out′ : List ℕ} → e ≡ true → Puts (dumpSize 0) at out r out′ → Puts (dumpString (cond e Source.inherited (Source.own source))) at out r out′
+  pub put-elided : {r : ℕ} {out out′ : List ℕ} → e ≡ true → Puts (dumpSize 0) at out r out′ → Puts (sourceBytes e source) at out r out′
   put-elided h p = rw h p
 
-  pub put-own : {r : ℕ} {out out′ : List ℕ} → e ≡ false → Puts (dumpText source) at out r out′ → Puts (dumpString (cond e Source.inherited (Source.own source))) at out r out′
+  pub put-own : {r : ℕ} {out out′ : List ℕ} → e ≡ false → Puts (dumpText source) at out r out′ → Puts (sourceBytes e source) at out r out′
   put-own h p = rw h p
 
-pub source-dumped : {words : List ℕ} {at a len n : ℕ} {out out′ : List ℕ} {e : Bool} (root : Bool) (outer source : List ℕ)
-    → ((s : Source) (t : List ℕ) (to : ℕ) → Stands words t at to (sourcePiece s) → source ≡ filled outer s → e ≡ same source (around root outer))
-    → Skips words 3 at a → Puts (dumpString (cond e Source.inherited (Source.own source))) len out n out′
-    → (v : Source) (t : List ℕ) → ((to : ℕ) → Stands words t at to (sourcePiece v) → source ≡ filled outer v)
-    → Dumps words t (sourcePiece v) (dumpString (elided (around root outer) source)) (record { at = at; len = len; out = out }) (record { at = a; len = n; out = out′ })
-source-dumped root outer source f s p v t h = dumps-past (past-words 3 (sourcePiece v) (source-words v) s) (λ to k. rw (f v t to k (h to k)) at p)
+module _ (at : ℕ) (source out : List ℕ) (e : Bool) (r : at + length (sourceBytes e source) ≤ length out) where
+  pub room-elided : e ≡ true → at + 8 ≤ length out
+  room-elided h = let i : at + length (dumpSize 0) ≤ _ = rw h at r in omega (arith, i, size-length 0)
+
+  pub room-own : e ≡ false → at + (length source + 9) ≤ length out
+  room-own h = let i : at + length (dumpText source) ≤ _ = rw h at r in omega (arith, i, string-length source)
+
+  pub elided-puts : {out′ : List ℕ} → e ≡ true → out′ ≡ sets out at (dumpSize 0) → Puts (sourceBytes e source) at out (at + 8) out′
+  elided-puts h q = put-elided at source h (puts-in (size-length 0) (room-elided h) refl q)
+
+  pub own-puts : {out′ : List ℕ} → e ≡ false → out′ ≡ sets out at (dumpText source) → Puts (sourceBytes e source) at out (at + length source + 9) out′
+  own-puts h q = put-own at source h (puts-in (string-length source) (room-own h) (omega arith) q)
+
+-- the source given is that of the function which stands there
+abbrev pub Own : (words text outer source : List ℕ) (at : ℕ) → Type 0
+Own words text outer source at = (v : Source) (to : ℕ) → Stands words text at to (sourcePiece v) → source ≡ filled outer v
+
+abbrev pub SourceStep : (words : List ℕ) (root : Bool) (outer source : List ℕ) (s r : Reached) → Type 0
+SourceStep words root outer source s r =
+    (v : Source) (t : List ℕ) → ((to : ℕ) → Stands words t (s .at) to (sourcePiece v) → source ≡ filled outer v) → Dumps words t (sourcePiece v) (dumpString (elided (around root outer) source)) s r
+
+module _ {words : List ℕ} {at : ℕ} {e : Bool} (root : Bool) (outer source : List ℕ)
+    (f : (s : Source) (t : List ℕ) (to : ℕ) → Stands words t at to (sourcePiece s) → source ≡ filled outer s → e ≡ same source (around root outer)) where
+  pub source-dumped : {a len n : ℕ} {out out′ : List ℕ} → Skips words 3 at a → Puts (sourceBytes e source) len out n out′ → SourceStep words root outer source (place at len out) (place a n out′)
+  source-dumped s p v t h = dumps-past (past-words 3 (sourcePiece v) (source-words v) s) (λ to k. rw (f v t to k (h to k)) at p)
+
+  pub source-room : {len : ℕ} {out : List ℕ} → SourceFits words outer source (dumpString (elided (around root outer) source)) (place at len out) → len + length (sourceBytes e source) ≤ length out
+  source-room r = rw (f (r .value) (r .text) (r .fits .to) (r .fits .stands) (r .filled-in)) (r .fits .room)
+
+pub source-within : {words outer source bytes : List ℕ} {s : Reached} → SourceFits words outer source bytes s → s .at + 3 ≤ length words
+source-within r = three-within (sourcePiece (r .value)) (source-words (r .value)) (r .fits)
 
 -- ---- the constants and the functions
+
+abbrev pub ConstantsStep : (words text : List ℕ) (n : ℕ) (strip : Bool) (source : List ℕ) (s r : Reached) → Type 0
+ConstantsStep words text n strip source s r =
+    (ks : List Value) (fs : Functions) → ValidAll fs n → Dumps words text (constantsPiece ks fs) (dumpConstants ks (count fs) (dumpFunctions fs strip source)) s r
 
 -- the functions in a function, as a list
 children-bytes : (fs : Functions) (strip : Bool) (source : List ℕ) → each (λ f. dumpFunction f strip source source) (children fs) ≡ dumpFunctions fs strip source
@@ -69,203 +98,149 @@ unfolding each children dumpFunctions
 children-bytes Functions.none strip source = refl
 children-bytes (Functions.more f fs) strip source = rw (children-bytes fs strip source)
 
-pub constants-dumped : {words text : List ℕ} {n : ℕ} {s a b r : Reached} (allowance : ℕ) (strip : Bool) (source : List ℕ)
-    → ((l : List Value) → Dumps words text (list constantPiece l) (dumpList dumpConstant l) s a) → n ≡ getD words (a .at) 0 → ((v : ℕ) (t : List ℕ) → Dumps words t (word v) (dumpInt v) a b)
-    → DumpsAll words text (λ f. Valid f allowance) functionPiece (λ f. dumpFunction f strip source source) n b r
-    → (ks : List Value) (fs : Functions) → ValidAll fs allowance → Dumps words text (constantsPiece ks fs) (dumpConstants ks (count fs) (dumpFunctions fs strip source)) s r
-constants-dumped {words} {text} {a = a} {r = r} allowance strip source d e w all ks fs v =
-    let inside : Dumps words text (childrenPiece fs) (dumpInt (count fs) ++ dumpFunctions fs strip source) a r =
-    dumps-same (same-pieces (sym (children-list fs))) (rw (children-count fs, children-bytes fs strip source)) (counted e w all (children fs) (every-valid allowance fs v)) in
-    dumps-same same-refl (sym (append-assoc (dumpList dumpConstant ks) (dumpInt (count fs)) (dumpFunctions fs strip source))) (dumps-then (d ks) inside)
+abbrev constantsItems : Bool → List ℕ → List Value → Functions → List Item
+constantsItems strip source ks fs =
+    item (list constantPiece ks) (dumpList dumpConstant ks) ∷ item (list functionPiece (children fs)) (dumpList (λ f. dumpFunction f strip source source) (children fs)) ∷ []
+
+pub constants-made : (strip : Bool) (source : List ℕ) (ks : List Value) (fs : Functions) → Made (constantsPiece ks fs) (dumpConstants ks (count fs) (dumpFunctions fs strip source)) (constantsItems strip source ks fs)
+constants-made strip source ks fs =
+    let m = made-two (list constantPiece ks) (list functionPiece (children fs)) (dumpList dumpConstant ks) (dumpList (λ f. dumpFunction f strip source source) (children fs)) in
+    let e : dumpConstants ks (count fs) (dumpFunctions fs strip source) ≡ dumpList dumpConstant ks ++ dumpList (λ f. dumpFunction f strip source source) (children fs) =
+    append-assoc (dumpList dumpConstant ks) (dumpInt (count fs)) (dumpFunctions fs strip source) ∙ rw (children-count fs, children-bytes fs strip source) in
+    record { piece = same-trans (same-behind (list constantPiece ks) (same-pieces (sym (children-list fs)))) (m .piece); bytes = e ∙ m .bytes }
+
+module _ {words text : List ℕ} (n : ℕ) (strip : Bool) (source : List ℕ) where
+  pub constants-dumped : {k i : ℕ} {s a b r : Reached} → Step (list constantPiece) (dumpList dumpConstant) words text s a → k ≡ getD words (a .at) 0 → WordStep words a b → k ≤ i
+      → Loop (DumpsAll words text (λ f. Valid f n) functionPiece (λ f. dumpFunction f strip source source)) k b i r → ConstantsStep words text n strip source s r
+  constants-dumped d e w h l ks fs v = dumps-made (constants-made strip source ks fs) (wrote-next (d ks) (wrote-next (looped h e w l (children fs) (every-valid n fs v)) wrote-none))
+
+  module _ {s : Reached} (r : Ready {A = List Value × Functions} words text (λ v. ValidAll (v .1) n) (λ v. constantsPiece (v .0) (v .1)) (λ v. dumpConstants (v .0) (count (v .1)) (dumpFunctions (v .1) strip source)) s) where
+    constants-left : Left words text (constantsItems strip source (r .value .0) (r .value .1)) s
+    constants-left = left-made (constants-made strip source (r .value .0) (r .value .1)) (r .fits)
+
+    pub values-ready : Ready words text Any (list constantPiece) (dumpList dumpConstant) s
+    values-ready = record { value = r .value .0; valid = tt; fits = left-first constants-left }
+
+    pub children-ready : {m : Reached} → Step (list constantPiece) (dumpList dumpConstant) words text s m → Ready words text (Every (λ f. Valid f n)) (list functionPiece) (dumpList (λ f. dumpFunction f strip source source)) m
+    children-ready d = record { value = children (r .value .1); valid = every-valid n (r .value .1) (r .valid); fits = left-first (left-rest constants-left (d (r .value .0))) }
 
 -- ---- a function
 
-pub regroup : (s a b c code ks fs d : Piece) → Same (s ⊕ a ⊕ b ⊕ c ⊕ code ⊕ ks ⊕ fs ⊕ d) ((((((s ⊕ a) ⊕ b) ⊕ c) ⊕ code) ⊕ (ks ⊕ fs)) ⊕ d)
-regroup s a b c code ks fs d = record { words = λ to. simp (append-assoc, length-append, add-assoc); text = simp append-assoc }
+abbrev pub functionItems : Bool → List ℕ → List ℕ → Parts → Functions → List Item
+functionItems strip around source p fs =
+    item (sourcePiece (p .source)) (dumpString (elided around source))
+    ∷ item (word (p .lineDefined)) (dumpInt (p .lineDefined))
+    ∷ item (word (p .lastLineDefined)) (dumpInt (p .lastLineDefined))
+    ∷ item (word (packed p)) (p .numUpvalues ∷ p .numParams ∷ p .isVararg ∷ p .maxStackSize ∷ [])
+    ∷ item (ints (p .code)) (dumpCode (p .code))
+    ∷ item (constantsPiece (p .constants) fs) (dumpConstants (p .constants) (count fs) (dumpFunctions fs strip source))
+    ∷ item (debugPiece (p .debug)) (dumpDebug (kept strip (p .debug)))
+    ∷ []
 
--- what stands behind its source
-abbrev behind : Parts → Functions → Piece
-behind p fs =
-    word (p .lineDefined) ⊕ word (p .lastLineDefined) ⊕ word (packed p) ⊕ ints (p .code) ⊕ list constantPiece (p .constants) ⊕ childrenPiece fs ⊕ debugPiece (p .debug)
+made-seven : (s a b c code ks fs d : Piece) (x₁ x₂ x₃ x₄ x₅ x₆ x₇ : List ℕ)
+    → Made (s ⊕ a ⊕ b ⊕ c ⊕ code ⊕ ks ⊕ fs ⊕ d) (x₁ ++ x₂ ++ x₃ ++ x₄ ++ x₅ ++ x₆ ++ x₇) (item s x₁ ∷ item a x₂ ∷ item b x₃ ∷ item c x₄ ∷ item code x₅ ∷ item (ks ⊕ fs) x₆ ∷ item d x₇ ∷ [])
+unfolding pieces each
+made-seven s a b c code ks fs d x₁ x₂ x₃ x₄ x₅ x₆ x₇ =
+    let e : Same (s ⊕ a ⊕ b ⊕ c ⊕ code ⊕ ks ⊕ fs ⊕ d) (s ⊕ a ⊕ b ⊕ c ⊕ code ⊕ (ks ⊕ fs) ⊕ d ⊕ plain []) =
+    record { words = λ to. simp (append-assoc, append-nil, length-append, add-assoc); text = simp (append-assoc, append-nil) } in
+    record { piece = e; bytes = simp (append-assoc, append-nil) }
 
-module _ {words text : List ℕ} {s a b c d e f r : Reached} (n : ℕ) (strip root : Bool) (outer source : List ℕ)
-    (own : (v : Source) (to : ℕ) → Stands words text (s .at) to (sourcePiece v) → source ≡ filled outer v)
-    (d₁ : (v : Source) (t : List ℕ) → ((to : ℕ) → Stands words t (s .at) to (sourcePiece v) → source ≡ filled outer v) → Dumps words t (sourcePiece v) (dumpString (elided (around root outer) source)) s a)
-    (d₂ : (v : ℕ) (t : List ℕ) → Dumps words t (word v) (dumpInt v) a b) (d₃ : (v : ℕ) (t : List ℕ) → Dumps words t (word v) (dumpInt v) b c)
-    (d₄ : (p : Parts) (t : List ℕ) → ValidParts p → Dumps words t (word (packed p)) (p .numUpvalues ∷ p .numParams ∷ p .isVararg ∷ p .maxStackSize ∷ []) c d)
-    (d₅ : (l t : List ℕ) → Dumps words t (ints l) (dumpCode l) d e)
-    (d₆ : (ks : List Value) (fs : Functions) → ValidAll fs n → Dumps words text (constantsPiece ks fs) (dumpConstants ks (count fs) (dumpFunctions fs strip source)) e f)
-    (d₇ : (g : Debug) → Dumps words text (debugPiece g) (dumpDebug (kept strip g)) f r) where
-  -- where its source is the one given
-  with-source : (p : Parts) (fs : Functions) → Valid (Function.function p fs) (suc n) → source ≡ filled outer (p .source)
-      → Dumps words text (functionPiece (Function.function p fs)) (dumpFunction (Function.function p fs) strip (around root outer) outer) s r
-  unfolding Valid functionPiece dumpFunction
-  with-source p fs v g =
-      rw (← g)
-      (dumps-same
-      (regroup (sourcePiece (p .source)) (word (p .lineDefined)) (word (p .lastLineDefined)) (word (packed p)) (ints (p .code)) (list constantPiece (p .constants)) (childrenPiece fs) (debugPiece (p .debug)))
-      refl
-      (dumps-then (dumps-then (dumps-then (dumps-then (dumps-then (dumps-then (d₁ (p .source) text (own (p .source))) (d₂ (p .lineDefined) text)) (d₃ (p .lastLineDefined) text)) (d₄ p text (v .0))) (d₅ (p .code) text)) (d₆ (p .constants) fs (v .2))) (d₇ (p .debug))))
+pub function-made : (strip : Bool) (around outer source : List ℕ) (p : Parts) (fs : Functions) → source ≡ filled outer (p .source)
+    → Made (functionPiece (Function.function p fs)) (dumpFunction (Function.function p fs) strip around outer) (functionItems strip around source p fs)
+unfolding functionPiece dumpFunction
+function-made strip around outer source p fs e =
+    rw (← e)
+    (made-seven (sourcePiece (p .source)) (word (p .lineDefined)) (word (p .lastLineDefined)) (word (packed p)) (ints (p .code)) (list constantPiece (p .constants)) (childrenPiece fs) (debugPiece (p .debug))
+    (dumpString (elided around source)) (dumpInt (p .lineDefined)) (dumpInt (p .lastLineDefined)) (p .numUpvalues ∷ p .numParams ∷ p .isVararg ∷ p .maxStackSize ∷ []) (dumpCode (p .code)) (dumpConstants (p .constants) (count fs) (dumpFunctions fs strip source)) (dumpDebug (kept strip (p .debug))))
 
-  pub function-dumped : (g : Function) → Valid g (suc n) → Dumps words text (functionPiece g) (dumpFunction g strip (around root outer) outer) s r
-  unfolding functionPiece
-  function-dumped (Function.function p fs) v =
-      record { dumps = λ to h. with-source p fs v (own (p .source) to (stands-left (sourcePiece (p .source)) (behind p fs) h)) .dumps to h }
+-- its source stands first
+source-stands : {words text : List ℕ} {at to : ℕ} (p : Parts) (fs : Functions) → Stands words text at to (functionPiece (Function.function p fs)) → Stands words text at to (sourcePiece (p .source))
+unfolding functionPiece
+source-stands p fs h =
+    stands-left (sourcePiece (p .source))
+    (word (p .lineDefined) ⊕ word (p .lastLineDefined) ⊕ word (packed p) ⊕ ints (p .code) ⊕ list constantPiece (p .constants) ⊕ childrenPiece fs ⊕ debugPiece (p .debug))
+    h
 
--- ---- what the parts of a function ask for
+-- what is known of the parts of a function that may be so deep
+valid-parts : {n : ℕ} (p : Parts) (fs : Functions) → (n ≡ 0 → ⊥) → Valid (Function.function p fs) n → ValidParts p × ValidAll fs (n - 1)
+unfolding Valid
+valid-parts {n} p fs h v =
+    let e : n ≡ suc (n - 1) = omega arith in
+    let w : Valid (Function.function p fs) (suc (n - 1)) = rw e at v in
+    (w .0, w .2)
 
--- a function up to each of its parts
-abbrev toLine : Parts → Piece
-toLine p = sourcePiece (p .source)
+-- a function that is to be written, taken apart
+record Opened (words text : List ℕ) (n : ℕ) (strip root : Bool) (outer source : List ℕ) (s : Reached) : Type 0 where
+  parts : Parts
+  functions : Functions
+  valid : ValidParts parts × ValidAll functions (n - 1)
+  is-own : source ≡ filled outer (parts .source)
+  left : Left words text (functionItems strip (around root outer) source parts functions) s
 
-abbrev toLast : Parts → Piece
-toLast p = toLine p ⊕ word (p .lineDefined)
-
-abbrev toPacked : Parts → Piece
-toPacked p = toLast p ⊕ word (p .lastLineDefined)
-
-abbrev toCode : Parts → Piece
-toCode p = toPacked p ⊕ word (packed p)
-
-abbrev toConstants : Parts → Piece
-toConstants p = toCode p ⊕ ints (p .code)
-
-abbrev toDebug : Parts → Functions → Piece
-toDebug p fs = toConstants p ⊕ constantsPiece (p .constants) fs
-
-abbrev fourBytes : Parts → List ℕ
-fourBytes p = p .numUpvalues ∷ p .numParams ∷ p .isVararg ∷ p .maxStackSize ∷ []
-
-module _ {words text : List ℕ} (s : Reached) (n : ℕ) (strip root : Bool) (outer source : List ℕ) (own : (v : Source) (to : ℕ) → Stands words text (s .at) to (sourcePiece v) → source ≡ filled outer v) where
-  abbrev first : List ℕ
-  first = dumpString (elided (around root outer) source)
-
-  abbrev Function-fits : Function → Type 0
-  Function-fits g = Fits words text (functionPiece g) (dumpFunction g strip (around root outer) outer) s
-
-  is-own : (p : Parts) (fs : Functions) → Function-fits (Function.function p fs) → source ≡ filled outer (p .source)
-  unfolding functionPiece
-  is-own p fs f = own (p .source) (f .to) (stands-left (sourcePiece (p .source)) (behind p fs) (f .stands))
-
-  module _ (p : Parts) (fs : Functions) (f : Function-fits (Function.function p fs)) where
-    abbrev inside : List ℕ
-    inside = dumpConstants (p .constants) (count fs) (dumpFunctions fs strip source)
-
-    fits₇ : Fits words text (toDebug p fs ⊕ debugPiece (p .debug)) (first ++ dumpInt (p .lineDefined) ++ dumpInt (p .lastLineDefined) ++ fourBytes p ++ dumpCode (p .code) ++ inside ++ dumpDebug (kept strip (p .debug))) s
-    unfolding functionPiece dumpFunction
-    fits₇ =
-        let g = is-own p fs f in
-        fits-same
-        (regroup (sourcePiece (p .source)) (word (p .lineDefined)) (word (p .lastLineDefined)) (word (packed p)) (ints (p .code)) (list constantPiece (p .constants)) (childrenPiece fs) (debugPiece (p .debug)))
-        (rw g)
-        f
-
-    fits₆ : Fits words text (toDebug p fs) (first ++ dumpInt (p .lineDefined) ++ dumpInt (p .lastLineDefined) ++ fourBytes p ++ dumpCode (p .code) ++ inside) s
-    fits₆ = fits-left (toDebug p fs) (debugPiece (p .debug)) (first ++ dumpInt (p .lineDefined) ++ dumpInt (p .lastLineDefined) ++ fourBytes p ++ dumpCode (p .code) ++ inside) (dumpDebug (kept strip (p .debug))) fits₇
-
-    fits₅ : Fits words text (toConstants p) (first ++ dumpInt (p .lineDefined) ++ dumpInt (p .lastLineDefined) ++ fourBytes p ++ dumpCode (p .code)) s
-    fits₅ = fits-left (toConstants p) (constantsPiece (p .constants) fs) (first ++ dumpInt (p .lineDefined) ++ dumpInt (p .lastLineDefined) ++ fourBytes p ++ dumpCode (p .code)) inside fits₆
-
-    fits₄ : Fits words text (toCode p) (first ++ dumpInt (p .lineDefined) ++ dumpInt (p .lastLineDefined) ++ fourBytes p) s
-    fits₄ = fits-left (toCode p) (ints (p .code)) (first ++ dumpInt (p .lineDefined) ++ dumpInt (p .lastLineDefined) ++ fourBytes p) (dumpCode (p .code)) fits₅
-
-    fits₃ : Fits words text (toPacked p) (first ++ dumpInt (p .lineDefined) ++ dumpInt (p .lastLineDefined)) s
-    fits₃ = fits-left (toPacked p) (word (packed p)) (first ++ dumpInt (p .lineDefined) ++ dumpInt (p .lastLineDefined)) (fourBytes p) fits₄
-
-    fits₂ : Fits words text (toLast p) (first ++ dumpInt (p .lineDefined)) s
-    fits₂ = fits-left (toLast p) (word (p .lastLineDefined)) (first ++ dumpInt (p .lineDefined)) (dumpInt (p .lastLineDefined)) fits₃
-
-  pub source-ready : (g : Function) → Function-fits g → SourceFits words outer source first s
-  source-ready (Function.function p fs) f =
-      record { text = text; value = p .source; filled-in = is-own p fs f; fits = fits-left (toLine p) (word (p .lineDefined)) first (dumpInt (p .lineDefined)) (fits₂ p fs f) }
-
-  module _ {a : Reached} (d₁ : (v : Source) (t : List ℕ) → ((to : ℕ) → Stands words t (s .at) to (sourcePiece v) → source ≡ filled outer v) → Dumps words t (sourcePiece v) (dumpString (elided (around root outer) source)) s a) where
-    dumps₁ : (p : Parts) → Dumps words text (toLine p) first s a
-    dumps₁ p = d₁ (p .source) text (own (p .source))
-
-    pub line-ready : (g : Function) → Function-fits g → (a .at < length words) × (a .len + 4 ≤ length (a .out))
-    line-ready (Function.function p fs) f =
-        word-fits (p .lineDefined) (dumpInt (p .lineDefined)) (int-length (p .lineDefined)) (fits-right (toLine p) (word (p .lineDefined)) first (dumpInt (p .lineDefined)) (fits₂ p fs f) (dumps₁ p))
-
-    module _ {b : Reached} (d₂ : (v : ℕ) (t : List ℕ) → Dumps words t (word v) (dumpInt v) a b) where
-      dumps₂ : (p : Parts) → Dumps words text (toLast p) (first ++ dumpInt (p .lineDefined)) s b
-      dumps₂ p = dumps-then (dumps₁ p) (d₂ (p .lineDefined) text)
-
-      pub last-ready : (g : Function) → Function-fits g → (b .at < length words) × (b .len + 4 ≤ length (b .out))
-      last-ready (Function.function p fs) f =
-          word-fits (p .lastLineDefined) (dumpInt (p .lastLineDefined)) (int-length (p .lastLineDefined))
-          (fits-right (toLast p) (word (p .lastLineDefined)) (first ++ dumpInt (p .lineDefined)) (dumpInt (p .lastLineDefined)) (fits₃ p fs f) (dumps₂ p))
-
-      module _ {c : Reached} (d₃ : (v : ℕ) (t : List ℕ) → Dumps words t (word v) (dumpInt v) b c) where
-        dumps₃ : (p : Parts) → Dumps words text (toPacked p) (first ++ dumpInt (p .lineDefined) ++ dumpInt (p .lastLineDefined)) s c
-        dumps₃ p = dumps-then (dumps₂ p) (d₃ (p .lastLineDefined) text)
-
-        pub packed-ready : (g : Function) → Function-fits g → (c .at < length words) × (c .len + 4 ≤ length (c .out))
-        packed-ready (Function.function p fs) f =
-            word-fits (packed p) (fourBytes p) refl
-            (fits-right (toPacked p) (word (packed p)) (first ++ dumpInt (p .lineDefined) ++ dumpInt (p .lastLineDefined)) (fourBytes p) (fits₄ p fs f) (dumps₃ p))
-
-        module _ {d : Reached} (d₄ : (p : Parts) (t : List ℕ) → ValidParts p → Dumps words t (word (packed p)) (p .numUpvalues ∷ p .numParams ∷ p .isVararg ∷ p .maxStackSize ∷ []) c d) where
-          dumps₄ : (p : Parts) → ValidParts p → Dumps words text (toCode p) (first ++ dumpInt (p .lineDefined) ++ dumpInt (p .lastLineDefined) ++ fourBytes p) s d
-          dumps₄ p v = dumps-then (dumps₃ p) (d₄ p text v)
-
-          pub code-ready : (g : Function) → Valid g (suc n) → Function-fits g → (d .at + (1 + getD words (d .at) 0) ≤ length words) × (d .len + (4 + 4 * getD words (d .at) 0) ≤ length (d .out))
-          unfolding Valid
-          code-ready (Function.function p fs) v f =
-              ints-fit (p .code)
-              (fits-right (toCode p) (ints (p .code)) (first ++ dumpInt (p .lineDefined) ++ dumpInt (p .lastLineDefined) ++ fourBytes p) (dumpCode (p .code)) (fits₅ p fs f) (dumps₄ p (v .0)))
-
-          module _ {e : Reached} (d₅ : (l t : List ℕ) → Dumps words t (ints l) (dumpCode l) d e) where
-            dumps₅ : (p : Parts) → ValidParts p → Dumps words text (toConstants p) (first ++ dumpInt (p .lineDefined) ++ dumpInt (p .lastLineDefined) ++ fourBytes p ++ dumpCode (p .code)) s e
-            dumps₅ p v = dumps-then (dumps₄ p v) (d₅ (p .code) text)
-
-            pub constants-ready : (g : Function) → Valid g (suc n) → Function-fits g
-                → Ready {A = List Value × Functions} words text (λ v. ValidAll (v .1) n) (λ v. constantsPiece (v .0) (v .1)) (λ v. dumpConstants (v .0) (count (v .1)) (dumpFunctions (v .1) strip source)) e
-            unfolding Valid
-            constants-ready (Function.function p fs) v f =
-                record {
-                  value = (p .constants, fs);
-                  valid = v .2;
-                  fits = fits-right (toConstants p) (constantsPiece (p .constants) fs) (first ++ dumpInt (p .lineDefined) ++ dumpInt (p .lastLineDefined) ++ fourBytes p ++ dumpCode (p .code)) (inside p fs f) (fits₆ p fs f) (dumps₅ p (v .0));
-                }
-
-            module _ {f : Reached} (d₆ : (ks : List Value) (fs : Functions) → ValidAll fs n → Dumps words text (constantsPiece ks fs) (dumpConstants ks (count fs) (dumpFunctions fs strip source)) e f) where
-              pub debug-ready : (g : Function) → Valid g (suc n) → Function-fits g → Ready words text Any debugPiece (λ d. dumpDebug (kept strip d)) f
-              unfolding Valid
-              debug-ready (Function.function p fs) v h =
-                  record {
-                    value = p .debug;
-                    valid = tt;
-                    fits = fits-right (toDebug p fs) (debugPiece (p .debug)) (first ++ dumpInt (p .lineDefined) ++ dumpInt (p .lastLineDefined) ++ fourBytes p ++ dumpCode (p .code) ++ inside p fs h) (dumpDebug (kept strip (p .debug))) (fits₇ p fs h) (dumps-then (dumps₅ p (v .0)) (d₆ (p .constants) fs (v .2)));
-                  }
-
--- ---- what the constants and the functions ask for
-
-module _ {words text : List ℕ} {s : Reached} (n : ℕ) (strip : Bool) (source : List ℕ)
-    (r : Ready {A = List Value × Functions} words text (λ v. ValidAll (v .1) n) (λ v. constantsPiece (v .0) (v .1)) (λ v. dumpConstants (v .0) (count (v .1)) (dumpFunctions (v .1) strip source)) s) where
-  abbrev bytesOf : Function → List ℕ
-  bytesOf f = dumpFunction f strip source source
-
-  both-fit : Fits words text (list constantPiece (r .value .0) ⊕ list functionPiece (children (r .value .1))) (dumpList dumpConstant (r .value .0) ++ dumpList bytesOf (children (r .value .1))) s
-  both-fit =
-      let ks = r .value .0 in
-      let fs = r .value .1 in
-      fits-same (same-behind (list constantPiece ks) (same-pieces (sym (children-list fs))))
-      (append-assoc (dumpList dumpConstant ks) (dumpInt (count fs)) (dumpFunctions fs strip source) ∙ rw (children-count fs, children-bytes fs strip source))
-      (r .fits)
-
-  pub values-ready : Ready words text Any (list constantPiece) (dumpList dumpConstant) s
-  values-ready =
-      let ks = r .value .0 in
-      let fs = children (r .value .1) in
-      record { value = ks; valid = tt; fits = fits-left (list constantPiece ks) (list functionPiece fs) (dumpList dumpConstant ks) (dumpList bytesOf fs) both-fit }
-
-  pub children-ready : {m : Reached} → ((l : List Value) → Dumps words text (list constantPiece l) (dumpList dumpConstant l) s m) → Ready words text (λ l. Every (λ f. Valid f n) l) (list functionPiece) (dumpList (λ f. dumpFunction f strip source source)) m
-  children-ready d =
-      let ks = r .value .0 in
-      let fs = children (r .value .1) in
+module _ {words text : List ℕ} (n : ℕ) (strip root : Bool) (outer source : List ℕ) {s : Reached} (deep : n ≡ 0 → ⊥) (own : Own words text outer source (s .at)) where
+  pub function-dumped : {a b c d e f r : Reached} → SourceStep words root outer source s a → WordStep words a b → WordStep words b c → PackedStep words c d → CodeStep words d e
+      → ConstantsStep words text (n - 1) strip source e f → Step debugPiece (λ g. dumpDebug (kept strip g)) words text f r
+      → (g : Function) → Valid g n → Dumps words text (functionPiece g) (dumpFunction g strip (around root outer) outer) s r
+  function-dumped d₁ d₂ d₃ d₄ d₅ d₆ d₇ (Function.function p fs) v =
+      let w = valid-parts p fs deep v in
       record {
-        value = fs;
-        valid = every-valid n (r .value .1) (r .valid);
-        fits = fits-right (list constantPiece ks) (list functionPiece fs) (dumpList dumpConstant ks) (dumpList bytesOf fs) both-fit (d ks);
+        dumps = λ to h.
+            let g = own (p .source) to (source-stands p fs h) in
+            dumps-made (function-made strip (around root outer) outer source p fs g)
+            (wrote-next (d₁ (p .source) text (own (p .source))) (wrote-next (d₂ (p .lineDefined) text) (wrote-next (d₃ (p .lastLineDefined) text) (wrote-next (d₄ p text (w .0)) (wrote-next (d₅ (p .code) text) (wrote-next (d₆ (p .constants) fs (w .1)) (wrote-next (d₇ (p .debug)) wrote-none)))))))
+            .dumps to h;
       }
+
+  module _ (x : Ready words text (λ f. Valid f n) functionPiece (λ f. dumpFunction f strip (around root outer) outer) s) where
+    opened : Opened words text n strip root outer source s
+    opened = go (x .value) (x .valid) (x .fits)
+      where
+        go : (g : Function) → Valid g n → Fits words text (functionPiece g) (dumpFunction g strip (around root outer) outer) s → Opened words text n strip root outer source s
+        go (Function.function p fs) v f =
+            let g = own (p .source) (f .to) (source-stands p fs (f .stands)) in
+            record { parts = p; functions = fs; valid = valid-parts p fs deep v; is-own = g; left = left-made (function-made strip (around root outer) outer source p fs g) f }
+
+    -- the items from the k-th on are left at m
+    abbrev From : ℕ → Reached → Type 0
+    From k m = Left words text (drop k (functionItems strip (around root outer) source (opened .parts) (opened .functions))) m
+
+    pub source-ready : SourceFits words outer source (dumpString (elided (around root outer) source)) s
+    source-ready = record { text = text; value = opened .parts .source; filled-in = opened .is-own; fits = left-first (opened .left) }
+
+    module _ {a : Reached} (d₁ : SourceStep words root outer source s a) where
+      from₁ : From 1 a
+      from₁ = left-rest (opened .left) (d₁ (opened .parts .source) text (own (opened .parts .source)))
+
+      pub line-ready : WordRoom words a
+      line-ready = let v = opened .parts .lineDefined in word-fits v (int-length v) (left-first from₁)
+
+      module _ {b : Reached} (d₂ : WordStep words a b) where
+        from₂ : From 2 b
+        from₂ = left-rest from₁ (d₂ (opened .parts .lineDefined) text)
+
+        pub last-ready : WordRoom words b
+        last-ready = let v = opened .parts .lastLineDefined in word-fits v (int-length v) (left-first from₂)
+
+        module _ {c : Reached} (d₃ : WordStep words b c) where
+          from₃ : From 3 c
+          from₃ = left-rest from₂ (d₃ (opened .parts .lastLineDefined) text)
+
+          pub packed-ready : WordRoom words c
+          packed-ready = word-fits (packed (opened .parts)) refl (left-first from₃)
+
+          module _ {d : Reached} (d₄ : PackedStep words c d) where
+            from₄ : From 4 d
+            from₄ = left-rest from₃ (d₄ (opened .parts) text (opened .valid .0))
+
+            pub code-ready : CodeRoom words d
+            code-ready = code-fits (opened .parts .code) (left-first from₄)
+
+            module _ {e : Reached} (d₅ : CodeStep words d e) where
+              from₅ : From 5 e
+              from₅ = left-rest from₄ (d₅ (opened .parts .code) text)
+
+              pub constants-ready : Ready {A = List Value × Functions} words text (λ v. ValidAll (v .1) (n - 1)) (λ v. constantsPiece (v .0) (v .1)) (λ v. dumpConstants (v .0) (count (v .1)) (dumpFunctions (v .1) strip source)) e
+              constants-ready = record { value = (opened .parts .constants, opened .functions); valid = opened .valid .1; fits = left-first from₅ }
+
+              pub debug-ready : {f : Reached} → ConstantsStep words text (n - 1) strip source e f → Ready words text Any debugPiece (λ d. dumpDebug (kept strip d)) f
+              debug-ready d₆ = record { value = opened .parts .debug; valid = tt; fits = left-first (left-rest from₅ (d₆ (opened .parts .constants) (opened .functions) (opened .valid .1))) }

@@ -1,35 +1,38 @@
--- Steps of the writer: one behind the other, and in a loop.
-use Prim.Native.Nat.{ℕ, suc, _+_, _-_, _*_, _/_, _%_, _≤_}
-use mathlib.Core.Path.{_≡_, refl, sym, _∙_}
-use mathlib.Core.List.{List, [], _∷_, _++_, append-nil}
+-- Steps of the writer: one behind the other, what they ask for, and single items.
+use Prim.Native.Nat.{ℕ, suc, _+_, _-_, _*_, _/_, _%_, _≤_, _<_}
+use mathlib.Core.Path.{_≡_, refl, sym, ap, _∙_}
+use mathlib.Core.List.{List, [], _∷_, _++_, append-assoc, append-nil}
 use mathlib.Core.Bool.{Bool, true, false}
 use mir.Val.{boolByte}
 use native.Mathlib.Omega.{arith}
 use native.Mathlib.Nat.{add-zero, add-assoc}
-use lib.ListN.{length, take, drop, getD, length-append, length-drop}
-use lib.Seq.{length-take-le}
-use Rattle.lent.specs.Memory.{Every, Byte, Puts}
-use Rattle.lent.proofs.Writes.{put-none, put-then}
+use lib.ListN.{length, take, drop, getD, set, length-append, length-take, length-set}
+use lib.Seq.{sets}
+use Rattle.lent.specs.Memory.{Byte, Puts}
+use Rattle.lent.proofs.Writes.{put-none, put-then, put-length, sets-two}
 use Rattle.format.specs.Tree.{Constant as Value}
 use Rattle.format.specs.Tree.{Local, Debug, Parts, noDebug, kept}
 use Rattle.format.specs.Store.{Piece, plain, word, _⊕_, string, pieces, list, ints, constantPiece, localPiece, debugPiece, packed}
 use Rattle.format.specs.Valid.{ValidParts}
 use Rattle.format.specs.Write.{dumpNumber, dumpInt, dumpText, dumpList, dumpCode, dumpConstant, dumpLocal, dumpDebug, each}
-use Rattle.proto.specs.Walk.{Stands, Skips, Past}
-use Rattle.proto.proofs.Sublists.{here-get}
+use Rattle.format.specs.Constants.{valueOf}
 use Rattle.format.specs.Stored.{part}
 use Rattle.format.proofs.Stored.{here-right, here-part}
+use Rattle.format.specs.declared.Constant.{Constant}
+use Rattle.format.specs.declared.Constant.the-variants.{Nil, Bool as Truth, Num, String}
+use Rattle.proto.specs.Constants.{ConstantAt}
+use Rattle.proto.specs.Walk.{Stands, Past}
+use Rattle.proto.proofs.Items.{string-here, skips-on}
+use Rattle.proto.proofs.Sublists.{here-length, here-get, here-item}
 use Rattle.proto.proofs.Walks.{past-word, past-words}
-use Rattle.proto.proofs.Pieces.{Same, same-sym, same-assoc, stands-same, stands-left, stands-right, constant-words}
-use Rattle.dump.specs.Step.{Reached, Dumps, Any}
-use Rattle.dump.proofs.Blocks.{int-bytes, string-length}
+use Rattle.proto.proofs.Pieces.{Same, stands-same, stands-left, stands-right, constant-words}
+use Rattle.dump.specs.declared.list.DumpState.{DumpState}
+use Rattle.dump.specs.Step.{Reached, reached, Dumps, Fits, Ready, Any}
+use Rattle.dump.proofs.Blocks.{int-bytes, int-length, stored-then, string-length, code-length, puts-in}
+
+-- ---- one behind the other
 
 module _ {words text : List ℕ} where
-  -- the same piece and the same bytes by other names
-  pub dumps-same : {p q : Piece} {b c : List ℕ} {s r : Reached} → Same q p → b ≡ c → Dumps words text p b s r → Dumps words text q c s r
-  dumps-same {p} {q} e g d =
-      record { dumps = λ to h. let x = d .dumps to (stands-same e h) in (rw (e .words to) (x .0), rw (← g) (x .1)) }
-
   pub dumps-none : {s : Reached} → Dumps words text (plain []) [] s s
   dumps-none = record { dumps = λ to h. (sym (add-zero _), put-none) }
 
@@ -43,45 +46,154 @@ module _ {words text : List ℕ} where
       }
 
   -- past a piece, with what is written where it stands
-  pub dumps-past : {p : Piece} {b : List ℕ} {at a len n : ℕ} {out out′ : List ℕ} → Past words p at a → ((to : ℕ) → Stands words text at to p → Puts b len out n out′)
-      → Dumps words text p b (record { at = at; len = len; out = out }) (record { at = a; len = n; out = out′ })
+  pub dumps-past : {p : Piece} {b : List ℕ} {s r : Reached} → Past words p (s .at) (r .at) → ((to : ℕ) → Stands words text (s .at) to p → Puts b (s .len) (s .out) (r .len) (r .out)) → Dumps words text p b s r
   dumps-past d e = record { dumps = λ to h. (d .past to (h .in-words), e to h) }
 
--- ---- constants
+  -- what a step leaves keeps its length
+  pub dumps-length : {p : Piece} {b : List ℕ} {s m : Reached} → Fits words text p b s → Dumps words text p b s m → length (m .out) ≡ length (s .out)
+  dumps-length f d = put-length (d .dumps (f .to) (f .stands) .1) (omega (arith, f .room, f .small)) (f .small)
 
-module _ {at r : ℕ} {out out′ : List ℕ} where
-  pub bool-puts : {a : ℕ} {out₁ : List ℕ} (b : Bool) → Puts (1 ∷ []) at out a out₁ → Puts (boolByte b ∷ []) a out₁ r out′ → Puts (dumpConstant (Value.bool b)) at out r out′
-  bool-puts true p q = put-then p q
-  bool-puts false p q = put-then p q
+  pub fits-left : {s : Reached} (p q : Piece) (b c : List ℕ) → Fits words text (p ⊕ q) (b ++ c) s → Fits words text p b s
+  fits-left p q b c f = record { to = f .to; stands = stands-left p q (f .stands); room = omega (arith, f .room, length-append b c); small = f .small }
 
-  pub num-puts : {a b : ℕ} {out₁ out₂ : List ℕ} (high low : ℕ) → Puts (3 ∷ []) at out a out₁ → Puts (dumpInt low) a out₁ b out₂ → Puts (dumpInt high) b out₂ r out′ → Puts (dumpConstant (Value.num high low)) at out r out′
-  num-puts high low p q t = put-then (put-then p q) t
+  pub fits-right : {s m : Reached} (p q : Piece) (b c : List ℕ) → Fits words text (p ⊕ q) (b ++ c) s → Dumps words text p b s m → Fits words text q c m
+  fits-right {s} {m} p q b c f d =
+      let x = d .dumps (f .to) (stands-left p q (f .stands)) in
+      let l : length (b ++ c) ≡ length b + length c = length-append b c in
+      let y = x .1 .puts (omega (arith, f .room, f .small)) (f .small) in
+      let n : length (m .out) ≡ length (s .out) = dumps-length (fits-left p q b c f) d in
+      record {
+        to = f .to + length (p .text);
+        stands = rw (x .0) (stands-right p q (f .stands));
+        room = omega (arith, f .room, f .small, y .0);
+        small = omega (arith, f .small);
+      }
 
-  pub str-puts : {a : ℕ} {s t out₁ : List ℕ} → s ≡ t → Puts (4 ∷ []) at out a out₁ → Puts (dumpText s) a out₁ r out′ → Puts (dumpConstant (Value.str t)) at out r out′
-  str-puts e p q = rw e at (put-then p q)
+-- ---- several items
 
--- the room that a constant takes
-module _ {k : Value} (at : ℕ) {n : ℕ} where
-  pub room-nil : k ≡ Value.nil → at + length (dumpConstant k) ≤ n → at + 1 ≤ n
-  room-nil e h = rw e at h
+-- a piece, and what is written for it
+pub record Item : Type 0 where
+  pub piece : Piece
+  pub bytes : List ℕ
 
-  pub room-bool : {b : Bool} → k ≡ Value.bool b → at + length (dumpConstant k) ≤ n → at + 2 ≤ n
-  room-bool e h = rw e at h
+abbrev pub item : Piece → List ℕ → Item
+item p b = record { piece = p; bytes = b }
 
-  pub room-num : {high low : ℕ} → k ≡ Value.num high low → at + length (dumpConstant k) ≤ n → at + 9 ≤ n
-  unfolding dumpNumber
-  room-num e h = rw e at h
+abbrev pub pieceOf : List Item → Piece
+pieceOf l = pieces (λ x. x .piece) l
 
-  pub room-str : {s : List ℕ} → k ≡ Value.str s → at + length (dumpConstant k) ≤ n → at + (length s + 10) ≤ n
-  room-str {s} e h = let i : at + suc (length (dumpText s)) ≤ n = rw e at h in omega (arith, i, string-length s)
+abbrev pub bytesOf : List Item → List ℕ
+bytesOf l = each (λ x. x .bytes) l
 
--- ---- single items
+-- a piece and its bytes are those of the items, one behind the other
+pub record Made (p : Piece) (b : List ℕ) (l : List Item) : Type 0 where
+  pub piece : Same p (pieceOf l)
+  pub bytes : b ≡ bytesOf l
 
--- the items behind a count, cut out of the words
-pub code-items : (words : List ℕ) (at n : ℕ) → at + (1 + n) ≤ length words → (take (at + 1 + n - (at + 1)) (drop (at + 1) words) ≡ part words (at + 1) n) × (length (take (at + 1 + n - (at + 1)) (drop (at + 1) words)) ≡ n)
-code-items words at n h =
-    let e : at + 1 + n - (at + 1) ≡ n = omega arith in
-    (rw e, rw e (length-take-le n (drop (at + 1) words) (rw length-drop (omega arith))))
+-- the items are written, from s to r
+pub record Wrote (words text : List ℕ) (l : List Item) (s r : Reached) : Type 0 where
+  pub wrote : Dumps words text (pieceOf l) (bytesOf l) s r
+
+-- the items are left to be written at s
+pub record Left (words text : List ℕ) (l : List Item) (s : Reached) : Type 0 where
+  pub fits : Fits words text (pieceOf l) (bytesOf l) s
+
+module _ {words text : List ℕ} where
+  pub wrote-none : {s : Reached} → Wrote words text [] s s
+  unfolding pieces each
+  wrote-none = record { wrote = dumps-none }
+
+  module _ {x : Item} {l : List Item} {s : Reached} where
+    pub wrote-next : {m r : Reached} → Dumps words text (x .piece) (x .bytes) s m → Wrote words text l m r → Wrote words text (x ∷ l) s r
+    unfolding pieces each
+    wrote-next d w = record { wrote = dumps-then d (w .wrote) }
+
+    pub left-first : Left words text (x ∷ l) s → Fits words text (x .piece) (x .bytes) s
+    unfolding pieces each
+    left-first f = fits-left (x .piece) (pieceOf l) (x .bytes) (bytesOf l) (f .fits)
+
+    pub left-rest : {m : Reached} → Left words text (x ∷ l) s → Dumps words text (x .piece) (x .bytes) s m → Left words text l m
+    unfolding pieces each
+    left-rest f d = record { fits = fits-right (x .piece) (pieceOf l) (x .bytes) (bytesOf l) (f .fits) d }
+
+  module _ {p : Piece} {b : List ℕ} {l : List Item} {s : Reached} (e : Made p b l) where
+    pub dumps-made : {r : Reached} → Wrote words text l s r → Dumps words text p b s r
+    dumps-made w =
+        record { dumps = λ to h. let x = w .wrote .dumps to (stands-same (e .piece) h) in (rw (e .piece .words to) (x .0), rw (e .bytes) (x .1)) }
+
+    pub left-made : Fits words text p b s → Left words text l s
+    left-made f = record { fits = record { to = f .to; stands = stands-same (e .piece) (f .stands); room = rw (← (e .bytes)) (f .room); small = f .small } }
+
+-- two, and three
+pub made-two : (p q : Piece) (x y : List ℕ) → Made (p ⊕ q) (x ++ y) (item p x ∷ item q y ∷ [])
+unfolding pieces each
+made-two p q x y = record { piece = record { words = λ to. simp append-nil; text = simp append-nil }; bytes = simp append-nil }
+
+pub made-three : (p q r : Piece) (x y z : List ℕ) → Made (p ⊕ q ⊕ r) (x ++ y ++ z) (item p x ∷ item q y ∷ item r z ∷ [])
+unfolding pieces each
+made-three p q r x y z = record { piece = record { words = λ to. simp append-nil; text = simp append-nil }; bytes = simp (append-assoc, append-nil) }
+
+-- ---- what a step of each kind does, and asks for
+
+abbrev pub Step : {A : Type 0} (piece : A → Piece) (bytes : A → List ℕ) (words text : List ℕ) (s r : Reached) → Type 0
+Step piece bytes words text s r = (a : _) → Dumps words text (piece a) (bytes a) s r
+
+abbrev pub WordStep : (words : List ℕ) (s r : Reached) → Type 0
+WordStep words s r = (v : ℕ) (t : List ℕ) → Dumps words t (word v) (dumpInt v) s r
+
+abbrev pub PackedStep : (words : List ℕ) (s r : Reached) → Type 0
+PackedStep words s r = (p : Parts) (t : List ℕ) → ValidParts p → Dumps words t (word (packed p)) (p .numUpvalues ∷ p .numParams ∷ p .isVararg ∷ p .maxStackSize ∷ []) s r
+
+abbrev pub CodeStep : (words : List ℕ) (s r : Reached) → Type 0
+CodeStep words s r = (l t : List ℕ) → Dumps words t (ints l) (dumpCode l) s r
+
+abbrev pub WordRoom : (words : List ℕ) (s : Reached) → Type 0
+WordRoom words s = (s .at < length words) × (s .len + 4 ≤ length (s .out))
+
+abbrev pub CodeRoom : (words : List ℕ) (s : Reached) → Type 0
+CodeRoom words s = (s .at + (1 + getD words (s .at) 0) ≤ length words) × (s .len + (4 + 4 * getD words (s .at) 0) ≤ length (s .out))
+
+abbrev pub NameRoom : (words : List ℕ) (s : Reached) → Type 0
+NameRoom words s = (s .at + 2 ≤ length words) × (s .len + (getD words (s .at + 1) 0 + 9) ≤ length (s .out))
+
+-- so that a state is found by its parts
+abbrev pub place : (at len : ℕ) (out : List ℕ) → Reached
+place at len out = record { at = at; len = len; out = out }
+
+module _ {words text : List ℕ} {s : Reached} where
+  -- a word that is written as four bytes
+  pub word-fits : (v : ℕ) {b : List ℕ} → length b ≡ 4 → Fits words text (word v) b s → WordRoom words s
+  word-fits v e f = (omega (arith, here-length (v ∷ []) (f .stands .in-words)), omega (arith, f .room))
+
+  pub code-fits : (l : List ℕ) → Fits words text (ints l) (dumpCode l) s → CodeRoom words s
+  code-fits l f =
+      let w = f .stands .in-words in
+      let n : getD words (s .at) 0 ≡ length l = here-get (length l) l w in
+      (omega (arith, here-length (length l ∷ l) w), omega (arith, f .room, code-length l))
+
+  pub name-fits : (n : List ℕ) → Fits words text (string n) (dumpText n) s → NameRoom words s
+  name-fits n f =
+      let w = f .stands .in-words in
+      let l = f .to ∷ length n ∷ [] in
+      let e : getD words (s .at + 1) 0 ≡ length n = here-item l 1 (omega arith) w in
+      (omega (arith, here-length l w), omega (arith, f .room, string-length n))
+
+  -- a piece of three words
+  pub three-within : {b : List ℕ} (p : Piece) → ((to : ℕ) → length (p .words to) ≡ 3) → Fits words text p b s → s .at + 3 ≤ length words
+  three-within p e f = omega (arith, here-length (p .words (f .to)) (f .stands .in-words), e (f .to))
+
+module _ {words text out : List ℕ} {at len : ℕ} where
+  pub name-ready : Ready words text Any string dumpText (place at len out) → NameRoom words (place at len out)
+  name-ready r = name-fits (r .value) (r .fits)
+
+  module _ (r : Ready words text Any constantPiece dumpConstant (place at len out)) where
+    pub constant-within : at + 3 ≤ length words
+    constant-within = three-within (constantPiece (r .value)) (constant-words (r .value)) (r .fits)
+
+    pub constant-room : {c : Constant} → ConstantAt words at c → len + length (dumpConstant (valueOf text c)) ≤ length out
+    constant-room f = rw (f .value (r .value) text (r .fits .to) (r .fits .stands)) (r .fits .room)
+
+-- ---- a word, the packed word, the code, a name, a constant
 
 unpacked : (p : Parts) → ValidParts p
     → (packed p / 16777216 ≡ p .numUpvalues) × (packed p / 65536 % 256 ≡ p .numParams) × (packed p / 256 % 256 ≡ p .isVararg) × (packed p % 256 ≡ p .maxStackSize)
@@ -94,98 +206,167 @@ four-bytes a b c d ha hb hc hd =
     let f : w / 16777216 % 256 ≡ a = omega (arith, e .0) in
     int-bytes w ∙ rw (e .1, e .2, e .3, f)
 
-module _ {words : List ℕ} {at a len n : ℕ} {out out′ : List ℕ} where
-  pub word-dumped : {x : ℕ} → x ≡ getD words at 0 → Skips words 1 at a → Puts (dumpInt x) len out n out′
-      → (v : ℕ) (t : List ℕ) → Dumps words t (word v) (dumpInt v) (record { at = at; len = len; out = out }) (record { at = a; len = n; out = out′ })
-  word-dumped e s p v t = dumps-past (past-word v s) (λ to h. rw (e ∙ here-get v [] (h .in-words)) at p)
+-- a string of the text is no longer than the word behind its place says
+pub name-room : {name : List ℕ} (words text out : List ℕ) (s : DumpState) → NameRoom words (reached s out) → name ≡ part text (getD words (s .at) 0) (getD words (s .at + 1) 0) → s .len + (length name + 9) ≤ length out
+name-room {name} words text out s h e =
+    let k : length name ≤ getD words (s .at + 1) 0 = rw (e, length-take (getD words (s .at + 1) 0) (drop (getD words (s .at) 0) text)) (omega arith) in
+    omega (arith, h .1)
+
+module _ {words out out′ : List ℕ} {s : DumpState} where
+  pub word-dumped : WordRoom words (reached s out) → out′ ≡ sets out (s .len) (dumpInt (getD words (s .at) 0)) → WordStep words (reached s out) (record { at = s .at + 1; len = s .len + 4; out = out′ })
+  word-dumped h e v t = dumps-past (past-word v skips-on) (λ to x. puts-in (int-length v) (h .1) refl (rw (here-get v [] (x .in-words)) at e))
 
   -- four bytes in a word, the most significant first: those of the word turned around
-  pub packed-dumped : {x : ℕ} → x ≡ getD words at 0 → Skips words 1 at a → Puts (dumpInt (((x % 256 * 256 + x / 256 % 256) * 256 + x / 65536 % 256) * 256 + x / 16777216)) len out n out′
-      → (p : Parts) (t : List ℕ) → ValidParts p
-      → Dumps words t (word (packed p)) (p .numUpvalues ∷ p .numParams ∷ p .isVararg ∷ p .maxStackSize ∷ []) (record { at = at; len = len; out = out }) (record { at = a; len = n; out = out′ })
-  packed-dumped {x} e s q p t v =
-      dumps-past (past-word (packed p) s)
-      (λ to h.
-      let g : x ≡ packed p = e ∙ here-get (packed p) [] (h .in-words) in
+  pub packed-dumped : (x : ℕ) → x ≡ getD words (s .at) 0 → WordRoom words (reached s out) → out′ ≡ sets out (s .len) (dumpInt (((x % 256 * 256 + x / 256 % 256) * 256 + x / 65536 % 256) * 256 + x / 16777216))
+      → PackedStep words (reached s out) (record { at = s .at + 1; len = s .len + 4; out = out′ })
+  packed-dumped x g h e p t v =
+      dumps-past (past-word (packed p) skips-on)
+      (λ to w.
+      let k : x ≡ packed p = g ∙ here-get (packed p) [] (w .in-words) in
       let u = unpacked p v in
-      rw (g, u .0, u .1, u .2, u .3, four-bytes (p .maxStackSize) (p .isVararg) (p .numParams) (p .numUpvalues) (v .maxStackSize) (v .isVararg) (v .numParams) (v .numUpvalues)) at q)
+      puts-in refl (h .1) refl (rw (k, u .0, u .1, u .2, u .3, four-bytes (p .maxStackSize) (p .isVararg) (p .numParams) (p .numUpvalues) (v .maxStackSize) (v .isVararg) (v .numParams) (v .numUpvalues)) at e))
 
   -- a list of words: its count, and its items
-  pub code-dumped : {m : ℕ} {items out₁ : List ℕ} → items ≡ part words (at + 1) (getD words at 0) → a ≡ at + 1 + getD words at 0 → Puts (dumpInt (getD words at 0)) len out m out₁ → Puts (each dumpInt items) m out₁ n out′
-      → (l t : List ℕ) → Dumps words t (ints l) (dumpCode l) (record { at = at; len = len; out = out }) (record { at = a; len = n; out = out′ })
-  code-dumped {items = items} e d p q l t =
+  pub code-dumped : {out₁ : List ℕ} (n : ℕ) → n ≡ getD words (s .at) 0 → CodeRoom words (reached s out) → out₁ ≡ sets out (s .len) (dumpInt n) → out′ ≡ sets out₁ (s .len + 4) (each dumpInt (take (s .at + 1 + n - (s .at + 1)) (drop (s .at + 1) words)))
+      → CodeStep words (reached s out) (record { at = s .at + 1 + n; len = s .len + 4 + 4 * n; out = out′ })
+  code-dumped n g h e q l t =
       record {
-        dumps = λ to h.
-            let w = h .in-words in
-            let g : getD words at 0 ≡ length l = here-get (length l) l w in
-            let i : items ≡ l = e ∙ rw g (here-part l (here-right (length l ∷ []) l w)) in
-            (omega (arith, d, g), rw (g, i) at (put-then p q));
+        dumps = λ to x.
+            let w = x .in-words in
+            let k : n ≡ length l = g ∙ here-get (length l) l w in
+            let m : s .at + 1 + n - (s .at + 1) ≡ n = omega arith in
+            let i : take (s .at + 1 + n - (s .at + 1)) (drop (s .at + 1) words) ≡ l = rw (m, k) (here-part l (here-right (length l ∷ []) l w)) in
+            (omega (arith, k), puts-in (code-length l) (omega (arith, h .1)) (omega arith) (stored-then (dumpInt (length l)) (each dumpInt l) out (s .len) 4 (int-length (length l)) (rw k at e) (rw i at q)));
       }
 
-  pub name-dumped : {name text : List ℕ} → Skips words 2 at a → ((s : List ℕ) (to : ℕ) → Stands words text at to (string s) → name ≡ s) → Puts (dumpText name) len out n out′
-      → (s : List ℕ) → Dumps words text (string s) (dumpText s) (record { at = at; len = len; out = out }) (record { at = a; len = n; out = out′ })
-  name-dumped k f p s = dumps-past (past-words 2 (string s) (λ to. refl) k) (λ to h. rw (f s to h) at p)
+  pub name-dumped : {name text : List ℕ} → NameRoom words (reached s out) → name ≡ part text (getD words (s .at) 0) (getD words (s .at + 1) 0) → out′ ≡ sets out (s .len) (dumpText name)
+      → Step string dumpText words text (reached s out) (record { at = s .at + 2; len = s .len + length name + 9; out = out′ })
+  name-dumped {name} {text} h f e n =
+      dumps-past (past-words 2 (string n) (λ to. refl) skips-on)
+      (λ to x.
+      let g : name ≡ n = string-here n x refl skips-on refl f in
+      puts-in (string-length n) (omega (arith, name-room words text out s h f, ap length g)) (omega (arith, ap length g)) (rw g at e))
 
-  pub constant-dumped : {text : List ℕ} (c : Value) → Skips words 3 at a → ((k : Value) (to : ℕ) → Stands words text at to (constantPiece k) → c ≡ k) → Puts (dumpConstant c) len out n out′
-      → (k : Value) → Dumps words text (constantPiece k) (dumpConstant k) (record { at = at; len = len; out = out }) (record { at = a; len = n; out = out′ })
-  constant-dumped c s f p k = dumps-past (past-words 3 (constantPiece k) (constant-words k) s) (λ to h. rw (f k to h) at p)
+  pub constant-dumped : {text : List ℕ} {c : Constant} {n : ℕ} → ConstantAt words (s .at) c → Puts (dumpConstant (valueOf text c)) (s .len) out n out′
+      → Step constantPiece dumpConstant words text (reached s out) (record { at = s .at + 3; len = n; out = out′ })
+  constant-dumped {text} f p k = dumps-past (past-words 3 (constantPiece k) (constant-words k) skips-on) (λ to x. rw (f .value k text to x) at p)
 
-pub local-dumped : {words text : List ℕ} {s a b r : Reached} → ((n : List ℕ) → Dumps words text (string n) (dumpText n) s a) → ((v : ℕ) (t : List ℕ) → Dumps words t (word v) (dumpInt v) a b)
-    → ((v : ℕ) (t : List ℕ) → Dumps words t (word v) (dumpInt v) b r) → (v : Local) → Dumps words text (localPiece v) (dumpLocal v) s r
-local-dumped {text = text} d e f v =
-    dumps-same (same-sym (same-assoc (string (v .name)) (word (v .start)) (word (v .end)))) refl (dumps-then (dumps-then (d (v .name)) (e (v .start) text)) (f (v .end) text))
+-- ---- the bytes of a constant
 
--- ---- lists
+-- none has none
+tagged : (k : Value) → 1 ≤ length (dumpConstant k)
+tagged Value.nil = omega arith
+tagged (Value.bool b) = omega arith
+tagged (Value.num high low) = omega arith
+tagged (Value.str s) = omega arith
 
--- from s to r past every list of n items
-pub record DumpsAll {A : Type 0} (words text : List ℕ) (ok : A → Type 0) (piece : A → Piece) (bytes : A → List ℕ) (n : ℕ) (s r : Reached) : Type 0 where
-  pub all : (l : List A) → Every ok l → length l ≡ n → Dumps words text (pieces piece l) (each bytes l) s r
+module _ (text out : List ℕ) (k : Constant) (at : ℕ) (h : at + length (dumpConstant (valueOf text k)) ≤ length out) where
+  pub tag-fits : at < length out
+  tag-fits = omega (arith, tagged (valueOf text k))
 
-module _ {A : Type 0} {words text : List ℕ} {ok : A → Type 0} {piece : A → Piece} {bytes : A → List ℕ} where
-  pub all-none : {s : Reached} → DumpsAll words text ok piece bytes 0 s s
-  unfolding pieces each
-  all-none {s} = record { all = go }
-    where
-      go : (l : List A) → Every ok l → length l ≡ 0 → Dumps words text (pieces piece l) (each bytes l) s s
-      go [] k e = dumps-none
-      go (a ∷ l) k e = absurd (omega arith)
+  pub nil-puts : k ≡ Nil → Puts (dumpConstant (valueOf text k)) at out (at + 1) (set out at 0)
+  nil-puts e = rw e (puts-in refl (rw e at h) refl refl)
 
-  pub all-more : {s m : Reached} → ((a : A) → ok a → Dumps words text (piece a) (bytes a) s m) → (n : ℕ) (r : Reached) → DumpsAll words text ok piece bytes n m r → DumpsAll words text ok piece bytes (suc n) s r
-  unfolding pieces each Every
-  all-more {s} d n r w = record { all = go }
-    where
-      go : (l : List A) → Every ok l → length l ≡ suc n → Dumps words text (pieces piece l) (each bytes l) s r
-      go [] k e = absurd (omega arith)
-      go (a ∷ l) k e = dumps-then (d a (k .0)) (w .all l (k .1) (omega arith))
+  module _ {b : Bool} (e : k ≡ Truth b) where
+    pub bool-fits : (v : ℕ) → at + 1 < length (set out at v)
+    bool-fits v = let i : at + 2 ≤ length out = rw e at h in rw length-set (omega arith)
 
-  -- a count, and as many items
-  pub counted : {n : ℕ} {s m r : Reached} → n ≡ getD words (s .at) 0 → ((v : ℕ) (t : List ℕ) → Dumps words t (word v) (dumpInt v) s m) → DumpsAll words text ok piece bytes n m r
-      → (l : List A) → Every ok l → Dumps words text (list piece l) (dumpList bytes l) s r
-  counted e d w l k =
-      record {
-        dumps = λ to h.
-            let g : length l ≡ _ = sym (here-get (length l) _ (h .in-words)) ∙ sym e in
-            dumps-then (d (length l) text) (w .all l k g) .dumps to h;
-      }
+    pub bool-puts : Puts (dumpConstant (valueOf text k)) at out (at + 2) (set (set out at 1) (at + 1) (boolByte b))
+    bool-puts = rw e (puts-in refl (rw e at h) refl (truth b))
+      where
+        truth : (b : Bool) → set (set out at 1) (at + 1) (boolByte b) ≡ sets out at (dumpConstant (Value.bool b))
+        truth true = sets-two out at 1 1
+        truth false = sets-two out at 1 0
 
-pub every-any : {A : Type 0} (l : List A) → Every Any l
-unfolding Every
-every-any [] = tt
-every-any (a ∷ l) = (tt, every-any l)
+  module _ {high low : ℕ} (e : k ≡ Num high low) where
+    num-room : at + 9 ≤ length out
+    unfolding dumpNumber
+    num-room = rw e at h
+
+    pub low-fits : (v : ℕ) → at + 1 + 4 ≤ length (set out at v)
+    low-fits v = rw length-set (omega (arith, num-room))
+
+    pub high-fits : (out₁ : List ℕ) (v : ℕ) → length out₁ ≡ length (set out at v) → at + 5 + 4 ≤ length out₁
+    high-fits out₁ v i = rw (i, length-set) (omega (arith, num-room))
+
+    pub num-puts : {out₁ out₂ : List ℕ} → out₁ ≡ sets (set out at 3) (at + 1) (dumpInt low) → out₂ ≡ sets out₁ (at + 5) (dumpInt high) → Puts (dumpConstant (valueOf text k)) at out (at + 9) out₂
+    unfolding dumpNumber
+    num-puts f g = rw e (puts-in refl num-room refl (stored-then (3 ∷ dumpInt low) (dumpInt high) out at 5 refl (stored-then (3 ∷ []) (dumpInt low) out at 1 refl refl f) g))
+
+  module _ {place n : ℕ} {s : List ℕ} (e : k ≡ String place n) (f : s ≡ part text place n) where
+    pub str-room : at + (length s + 10) ≤ length out
+    str-room = let i : at + length (dumpConstant (Value.str s)) ≤ length out = rw (e, ← f) at h in omega (arith, i, string-length s)
+
+    pub str-fits : (v : ℕ) → at + 1 + (length s + 9) ≤ length (set out at v)
+    str-fits v = rw length-set (omega (arith, str-room))
+
+    pub str-puts : {out₁ : List ℕ} → out₁ ≡ sets (set out at 4) (at + 1) (dumpText s) → Puts (dumpConstant (valueOf text k)) at out (at + length s + 10) out₁
+    str-puts g = rw (e, ← f) (puts-in (ap suc (string-length s)) (omega (arith, str-room)) (omega arith) (stored-then (4 ∷ []) (dumpText s) out at 1 refl refl g))
+
+-- ---- a local: its name, start and end
+
+abbrev localItems : Local → List Item
+localItems v = item (string (v .name)) (dumpText (v .name)) ∷ item (word (v .start)) (dumpInt (v .start)) ∷ item (word (v .end)) (dumpInt (v .end)) ∷ []
+
+pub local-made : (v : Local) → Made (localPiece v) (dumpLocal v) (localItems v)
+local-made v = made-three (string (v .name)) (word (v .start)) (word (v .end)) (dumpText (v .name)) (dumpInt (v .start)) (dumpInt (v .end))
+
+pub local-dumped : {words text : List ℕ} {s a b r : Reached} → Step string dumpText words text s a → WordStep words a b → WordStep words b r → Step localPiece dumpLocal words text s r
+local-dumped {text = text} d e f v = dumps-made (local-made v) (wrote-next (d (v .name)) (wrote-next (e (v .start) text) (wrote-next (f (v .end) text) wrote-none)))
+
+module _ {words text : List ℕ} {s : Reached} (r : Ready words text Any localPiece dumpLocal s) where
+  local-left : Left words text (localItems (r .value)) s
+  local-left = left-made (local-made (r .value)) (r .fits)
+
+  pub local-name : NameRoom words s
+  local-name = name-fits (r .value .name) (left-first local-left)
+
+  module _ {at len : ℕ} {out : List ℕ} where
+    pub local-start : Step string dumpText words text s (place at len out) → WordRoom words (place at len out)
+    local-start d = let v = r .value in word-fits (v .start) (int-length (v .start)) (left-first (left-rest local-left (d (v .name))))
+
+    pub local-end : {a : Reached} → Step string dumpText words text s a → WordStep words a (place at len out) → WordRoom words (place at len out)
+    local-end d e = let v = r .value in word-fits (v .end) (int-length (v .end)) (left-first (left-rest (left-rest local-left (d (v .name))) (e (v .start) text)))
 
 -- ---- the debug lists
 
--- none of them is three counts of 0
-pub no-debug : {at a b r : ℕ} {out out₁ out₂ out′ : List ℕ} → Puts (dumpInt 0) at out a out₁ → Puts (dumpInt 0) a out₁ b out₂ → Puts (dumpInt 0) b out₂ r out′ → Puts (dumpDebug noDebug) at out r out′
-unfolding each
-no-debug p q t = simp append-nil (put-then (put-then p q) t)
+abbrev debugItems : Debug → List Item
+debugItems d = item (ints (d .lines)) (dumpCode (d .lines)) ∷ item (list localPiece (d .locals)) (dumpList dumpLocal (d .locals)) ∷ item (list string (d .upvalues)) (dumpList dumpText (d .upvalues)) ∷ []
 
-pub debug-stripped : {words text : List ℕ} {at a len n : ℕ} {out out′ : List ℕ} {strip : Bool} → strip ≡ true → ((d : Debug) → Past words (debugPiece d) at a) → Puts (dumpDebug noDebug) len out n out′
-    → (d : Debug) → Dumps words text (debugPiece d) (dumpDebug (kept strip d)) (record { at = at; len = len; out = out }) (record { at = a; len = n; out = out′ })
+pub debug-made : (d : Debug) → Made (debugPiece d) (dumpDebug d) (debugItems d)
+debug-made d = made-three (ints (d .lines)) (list localPiece (d .locals)) (list string (d .upvalues)) (dumpCode (d .lines)) (dumpList dumpLocal (d .locals)) (dumpList dumpText (d .upvalues))
+
+-- none of them is three counts of 0
+pub no-debug : {at : ℕ} {out out₁ out₂ out′ : List ℕ} → at + 12 ≤ length out → out₁ ≡ sets out at (dumpInt 0) → out₂ ≡ sets out₁ (at + 4) (dumpInt 0) → out′ ≡ sets out₂ (at + 8) (dumpInt 0)
+    → Puts (dumpDebug noDebug) at out (at + 12) out′
+unfolding each dumpNumber
+no-debug {at} {out} h e f g =
+    let q = stored-then (dumpInt 0 ++ dumpInt 0) (dumpInt 0) out at 8 refl (stored-then (dumpInt 0) (dumpInt 0) out at 4 refl e f) g in
+    puts-in refl h refl q
+
+pub debug-stripped : {words text : List ℕ} {s r : Reached} {strip : Bool} → strip ≡ true → ((d : Debug) → Past words (debugPiece d) (s .at) (r .at)) → Puts (dumpDebug noDebug) (s .len) (s .out) (r .len) (r .out)
+    → Step debugPiece (λ d. dumpDebug (kept strip d)) words text s r
 debug-stripped e w p d = rw e (dumps-past (w d) (λ to h. p))
 
-pub debug-dumped : {words text : List ℕ} {strip : Bool} {s a b r : Reached} → strip ≡ false → ((l t : List ℕ) → Dumps words t (ints l) (dumpCode l) s a)
-    → ((l : List Local) → Dumps words text (list localPiece l) (dumpList dumpLocal l) a b) → ((l : List (List ℕ)) → Dumps words text (list string l) (dumpList dumpText l) b r)
-    → (d : Debug) → Dumps words text (debugPiece d) (dumpDebug (kept strip d)) s r
-debug-dumped {text = text} e f g h d =
-    rw e (dumps-same (same-sym (same-assoc (ints (d .lines)) (list localPiece (d .locals)) (list string (d .upvalues)))) refl (dumps-then (dumps-then (f (d .lines) text) (g (d .locals))) (h (d .upvalues))))
+pub debug-dumped : {words text : List ℕ} {strip : Bool} {s a b r : Reached} → strip ≡ false → CodeStep words s a → Step (list localPiece) (dumpList dumpLocal) words text a b → Step (list string) (dumpList dumpText) words text b r
+    → Step debugPiece (λ d. dumpDebug (kept strip d)) words text s r
+debug-dumped {text = text} e f g h d = rw e (dumps-made (debug-made d) (wrote-next (f (d .lines) text) (wrote-next (g (d .locals)) (wrote-next (h (d .upvalues)) wrote-none))))
+
+module _ {words text : List ℕ} {s : Reached} {strip : Bool} (r : Ready words text Any debugPiece (λ d. dumpDebug (kept strip d)) s) where
+  pub no-debug-fits : strip ≡ true → s .len + 12 ≤ length (s .out)
+  unfolding each dumpNumber
+  no-debug-fits e = rw e at (r .fits .room)
+
+  module _ (e : strip ≡ false) where
+    debug-left : Left words text (debugItems (r .value)) s
+    debug-left = left-made (debug-made (r .value)) (rw e at (r .fits))
+
+    pub lines-ready : CodeRoom words s
+    lines-ready = code-fits (r .value .lines) (left-first debug-left)
+
+    module _ {a : Reached} (f : CodeStep words s a) where
+      pub locals-ready : Ready words text Any (list localPiece) (dumpList dumpLocal) a
+      locals-ready = record { value = r .value .locals; valid = tt; fits = left-first (left-rest debug-left (f (r .value .lines) text)) }
+
+      pub names-ready : {b : Reached} → Step (list localPiece) (dumpList dumpLocal) words text a b → Ready words text Any (list string) (dumpList dumpText) b
+      names-ready g = let d = r .value in record { value = d .upvalues; valid = tt; fits = left-first (left-rest (left-rest debug-left (f (d .lines) text)) (g (d .locals))) }

@@ -1,5 +1,4 @@
 use borrow.Author.Needs.{needs}
-use native.Mathlib.Omega.{arith}
 use mathlib.Core.Bool.{false≢true}
 use Rattle.dump.proofs.Bounds.{room-left}
 use Rattle.dump.proofs.has_room.Statement.{statement}

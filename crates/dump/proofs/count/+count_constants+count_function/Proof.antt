@@ -1,17 +1,16 @@
 -- The parts of a function one behind the other, counted. The loop's invariant: whatever counts the other functions from here counts all of them.
 -- The measure is twice the allowance, and one more for count_constants, which calls count_function at the same allowance.
-use Prim.Native.Nat.{ℕ, suc, _+_, _-_, _<_}
+use Prim.Native.Nat.{ℕ, _+_, _-_, _<_}
 use borrow.Author.Needs.{needs}
 use native.Mathlib.Omega.{arith}
-use mathlib.Core.Path.{_≡_}
 use mathlib.Core.List.{[]}
 use Rattle.format.specs.Store.{functionPiece}
 use Rattle.format.specs.Valid.{Valid}
 use Rattle.format.specs.Write.{dumpFunction}
-use Rattle.format.proofs.Loops.{Loop, loop-start, loop-turn, loop-end}
+use Rattle.format.proofs.Loops.{Loop, loop-start, loop-turn}
 use Rattle.proto.proofs.Walks.{none-deep}
 use Rattle.dump.specs.Step.{reached}
-use Rattle.dump.proofs.Steps.{DumpsAll, all-none, all-more}
+use Rattle.dump.proofs.Lists.{DumpsAll, all-more}
 use Rattle.dump.proofs.Counts.{word-counted, packed-counted}
 use Rattle.dump.proofs.Functions.{constants-dumped, function-dumped}
 use borrow.Fn.Kinds.{In}
@@ -82,35 +81,23 @@ count-constants-Inv-loop words text strip source allowance n p₀ i₀ p i = Loo
 abbrev count-constants-μ-loop : count-constants-lts.MeasureT-loop
 count-constants-μ-loop words text strip source allowance n p₀ i₀ p i = n - i
 
-count-constants-loop-holds : (t : ℕ) → count-constants-lts.Need-loop-holds (count-constants-calls t) (count-constants-at t) count-constants.Post count-constants-Inv-loop count-constants-μ-loop
-count-constants-loop-holds t c = loop-start
-
-count-constants-loop-again : (t : ℕ) → count-constants-lts.Need-loop-again (count-constants-calls t) (count-constants-at t) count-constants.Post count-constants-Inv-loop count-constants-μ-loop
-count-constants-loop-again t c = search (needs, loop-turn, all-more)
-
 count-constants-returns : (t : ℕ) → count-constants-lts.Need-returns (count-constants-calls t) (count-constants-at t) count-constants.Post count-constants-Inv-loop count-constants-μ-loop
 count-constants-returns t c =
     let c₁ = c .before in let c₂ = c₁ .before in let c₃ = c₂ .before in let c₄ = c₃ .before in
-    let c₅ = c₄ .before .before .before .before in
-    let a = c₅ .args in constants-dumped (a .allowance) (a .strip) (a .source .now) (λ ks. c₄ .count-values .ensures ks _) (c₃ .word-at .ensures) (word-counted (c₂ .ahead .ensures)) (loop-end (omega arith) (c₁ .loop .inv) all-none)
+    let a = c₄ .before .before .before .before .args in
+    constants-dumped (a .allowance) (a .strip) (a .source .now) (λ ks. c₄ .count-values .ensures ks _) (c₃ .word-at .ensures) (word-counted (c₂ .ahead .ensures)) (c .loop-test .left) (c₁ .loop .inv)
 
-count-function-returns : (t : ℕ) → count-function-lts.Need-returns (count-function-calls t) (count-function-at t) count-function.Post
-count-function-returns t c = λ f v. absurd (none-deep (c .if1 .taken) f v)
-
-count-function-count-constants-requires :
-    (t : ℕ) → count-function-lts.Need-count-constants-requires (count-function-calls t) (count-function-at t) count-function.Post
+count-function-count-constants-requires : (t : ℕ) → count-function-lts.Need-count-constants-requires (count-function-calls t) (count-function-at t) count-function.Post
 count-function-count-constants-requires t c κs =
-    let c₁ = c .before .before .before .before .before .before in let c₂ = c₁ .before .before .before .before in
-    (omega (arith, c₂ .pre .0, c₁ .if1 .left), tt)
+    let c₁ = c .before .before .before .before .before .before in
+    (omega (arith, c₁ .before .before .before .before .pre .0, c₁ .if1 .left), tt)
 
 count-function-returns-2 : (t : ℕ) → count-function-lts.Need-returns-2 (count-function-calls t) (count-function-at t) count-function.Post
 count-function-returns-2 t c =
     let c₁ = c .before in let c₂ = c₁ .before in let c₃ = c₂ .before in let c₄ = c₃ .before in let c₅ = c₄ .before in
-    let c₆ = c₅ .before in let c₇ = c₆ .before in let c₈ = c₇ .before in let c₉ = c₈ .before .before .before .before in
-    let a = c₉ .args in
-    let n = a .allowance - 1 in
-    let e : a .allowance ≡ suc n = omega (arith, c₈ .if1 .left) in
-    rw e (function-dumped n (a .strip) (a .root) (a .outer .now) (c₇ .own-source .result .now) (c₇ .own-source .ensures) (c₆ .count-source .ensures) (word-counted (c₅ .ahead .ensures)) (word-counted (c₄ .ahead2 .ensures)) (λ p t v. packed-counted (c₃ .ahead3 .ensures) p t) (c₂ .count-code .ensures) (c₁ .count-constants .ensures) (λ g. c .count-debug .ensures g _))
+    let c₆ = c₅ .before in let c₇ = c₆ .before in let c₈ = c₇ .before in
+    let a = c₈ .before .before .before .before .args in
+    function-dumped (a .allowance) (a .strip) (a .root) (a .outer .now) (c₇ .own-source .result .now) (c₈ .if1 .left) (c₇ .own-source .ensures) (c₆ .count-source .ensures) (word-counted (c₅ .ahead .ensures)) (word-counted (c₄ .ahead2 .ensures)) (packed-counted (c₃ .ahead3 .ensures)) (c₂ .count-code .ensures) (c₁ .count-constants .ensures) (λ g. c .count-debug .ensures g _)
 
 pub +count-constants+count-function-spec : {M : Type 1} → statement M
 +count-constants+count-function-spec = close μ-count-constants μ-count-function (λ t. count-constants-lts.spec
@@ -118,11 +105,12 @@ pub +count-constants+count-function-spec : {M : Type 1} → statement M
     count-constants-μ-loop
     (λ c. search needs) (λ c. search needs)  -- count-values-requires, word-at-requires
     (λ c. search needs)  -- ahead-requires
-    (count-constants-loop-holds t)
+    (λ c. loop-start)  -- loop-holds
     (λ c. search needs) (λ c. omega arith) (λ c. omega arith)  -- count-function-requires, add-i, loop-less
-    (count-constants-loop-again t) (count-constants-returns t))
+    (λ c. search (needs, loop-turn, all-more))  -- loop-again
+    (count-constants-returns t))
     λ t. count-function-lts.spec (count-function-calls t) (count-function-at t) count-function.Post
-    (count-function-returns t)
+    (λ c f v. absurd (none-deep (c .if1 .taken) f v))  -- returns
     (λ c. search needs) (λ c. search needs)  -- own-source-requires, count-source-requires
     (λ c. search needs) (λ c. search needs) (λ c. search needs)  -- ahead-requires, ahead-requires-2, ahead-requires-3
     (λ c. search needs) (λ c. search needs)  -- count-code-requires, sub-count-constants

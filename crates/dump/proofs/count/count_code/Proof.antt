@@ -4,11 +4,8 @@ use Rattle.dump.proofs.Counts.{code-counted}
 use Rattle.dump.proofs.count.count_code.Statement.{statement}
 use Rattle.dump.proofs.count.count_code.Tie as tie
 
-returns : tie.Need-returns
-returns c = search (needs, code-counted)
-
 pub count-code-spec : {M : Type 1} → statement M
 count-code-spec = tie.close (tie.spec
     (λ c. search needs) (λ c. search needs) (λ c. search needs)  -- word-at-requires, cast-n, add-ahead
     (λ c. search needs) (λ c. search needs) (λ c. search needs)  -- mul-ahead, add-ahead-2, ahead-requires
-    returns)
+    (λ c. search (needs, code-counted)))  -- returns

@@ -2,29 +2,18 @@
 use borrow.Author.Needs.{needs}
 use native.Mathlib.Omega.{arith}
 use Prim.Native.Nat.{_+_}
-use mathlib.Core.Path.{refl}
-use Rattle.proto.proofs.Items.{skips-on}
-use Rattle.dump.proofs.Counts.{ahead-on, constant-counted, size-nil, size-bool, size-num, size-str}
+use Rattle.dump.proofs.Counts.{constant-counted}
 use Rattle.dump.proofs.count.count_constant.Statement.{statement}
 use Rattle.dump.proofs.count.count_constant.Tie as tie
 
 cast-on : tie.Need-cast-on
-cast-on c = omega (arith, c .before .before .before .shared-slice-known .given (c .before .before .before .before .args .s .at + 2))
+cast-on c = let c₁ = c .before .before .before in omega (arith, c₁ .shared-slice-known .given (c₁ .before .args .s .at + 2))
 
 add-on-2 : tie.Need-add-on-2
-add-on-2 c = omega (arith, c .before .before .before .shared-slice-known .given (c .before .before .before .before .args .s .at + 2))
-
-returns : tie.Need-returns
-returns c = (c .on .ensures .0, constant-counted (ahead-on (c .on .ensures)) (size-nil refl (c .before .match .keys1)))
-
-returns-2 : tie.Need-returns-2
-returns-2 c = (c .on2 .ensures .0, constant-counted (ahead-on (c .on2 .ensures)) (size-bool refl (c .before .match .keys2)))
-
-returns-3 : tie.Need-returns-3
-returns-3 c = (c .on3 .ensures .0, constant-counted (ahead-on (c .on3 .ensures)) (size-num refl (c .before .match .keys3)))
+add-on-2 c = let c₁ = c .before .before .before in omega (arith, c₁ .shared-slice-known .given (c₁ .before .args .s .at + 2))
 
 returns-4 : tie.Need-returns-4
-returns-4 c = (c .on4 .ensures .0, constant-counted (ahead-on (c .on4 .ensures)) (size-str refl (c .before .before .match .rest .0 .0 .1) (c .before .before .match .rest .0 .1) (c .before .before .match .rest .1) skips-on refl))
+returns-4 c = let w = c .before .before .match .rest in constant-counted (c .on4 .ensures) (λ m f. f .3 (w .0 .0 .1) (w .0 .1) (w .1))
 
 pub count-constant-spec : {M : Type 1} → statement M
 count-constant-spec = tie.close (tie.spec
@@ -33,4 +22,7 @@ count-constant-spec = tie.close (tie.spec
     (λ c. search needs) (λ c. search needs)  -- mul-on, shared-slice-read-on
     cast-on add-on-2
     (λ c. search needs)  -- on-requires-4
-    returns returns-2 returns-3 returns-4)
+    (λ c. constant-counted (c .on .ensures) (λ m f. f .0 (c .before .match .keys1)))  -- returns
+    (λ c. constant-counted (c .on2 .ensures) (λ m f. f .1 (c .before .match .keys2)))  -- returns-2
+    (λ c. constant-counted (c .on3 .ensures) (λ m f. f .2 (c .before .match .keys3)))  -- returns-3
+    returns-4)

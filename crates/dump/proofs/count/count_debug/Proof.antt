@@ -5,16 +5,13 @@ use Rattle.dump.proofs.Counts.{no-debug-counted}
 use Rattle.dump.proofs.count.count_debug.Statement.{statement}
 use Rattle.dump.proofs.count.count_debug.Tie as tie
 
-returns : tie.Need-returns
-returns c = search (needs, debug-stripped, no-debug-counted)
-
 returns-2 : tie.Need-returns-2
 returns-2 c = λ d t. debug-dumped (c .before .before .before .if1 .left) (c .before .before .count-code .ensures) (λ l. c .before .count-locals .ensures l t) (λ l. c .count-names .ensures l t) d
 
 pub count-debug-spec : {M : Type 1} → statement M
 count-debug-spec = tie.close (tie.spec
     (λ c. search needs) (λ c. search needs)  -- after-debug-requires, further-requires
-    returns
+    (λ c. search (needs, debug-stripped, no-debug-counted))  -- returns
     (λ c. search needs) (λ c. search needs)  -- count-code-requires, count-locals-requires
     (λ c. search needs)  -- count-names-requires
     returns-2)

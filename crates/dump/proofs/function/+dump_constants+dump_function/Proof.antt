@@ -1,18 +1,15 @@
 -- The parts of a function one behind the other. The loop's invariant: whatever writes the other functions from here writes all of them, and there is room for them.
 -- The measure is twice the allowance, and one more for dump_constants, which calls dump_function at the same allowance.
-use Prim.Native.Nat.{ℕ, suc, _+_, _-_, _<_}
+use Prim.Native.Nat.{ℕ, _+_, _-_, _<_}
 use borrow.Author.Needs.{needs}
 use native.Mathlib.Omega.{arith}
-use mathlib.Core.Path.{_≡_, refl, _∙_}
-use lib.ListN.{length}
+use mathlib.Core.Path.{_∙_}
 use Rattle.format.specs.Store.{functionPiece}
 use Rattle.format.specs.Valid.{Valid}
 use Rattle.format.specs.Write.{dumpFunction}
-use Rattle.format.proofs.Loops.{Loop, loop-start, loop-turn, loop-end}
 use Rattle.proto.proofs.Walks.{none-deep}
 use Rattle.dump.specs.Step.{reached}
-use Rattle.dump.proofs.Steps.{DumpsAll, all-none, all-more}
-use Rattle.dump.proofs.StepNeeds.{NeedsLeft, count-fits, left-start, left-item, left-more}
+use Rattle.dump.proofs.Lists.{Writing, count-ready, writing-start, writing-next, writing-turn}
 use Rattle.dump.proofs.Functions.{constants-dumped, function-dumped, source-ready, line-ready, last-ready, packed-ready, code-ready, constants-ready, debug-ready, values-ready, children-ready}
 use borrow.Fn.Kinds.{In}
 use borrow.Fn.PlainCycle.{Measures, is, falls, and}
@@ -74,82 +71,67 @@ abbrev dump-function-calls : ℕ → dump-function-lts.Claims
 dump-function-calls t = (own-source-reads.Asked, own-source-reads.Learnt, dump-source-reads.Asked, dump-source-reads.Learnt, dump-word-reads.Asked, dump-word-reads.Learnt, dump-packed-reads.Asked, dump-packed-reads.Learnt, dump-code-reads.Asked, dump-code-reads.Learnt, dump-constants-below t, dump-constants.Post, dump-debug-reads.Asked, dump-debug-reads.Learnt)
 
 abbrev dump-constants-Inv-loop : dump-constants-lts.InvT-loop
-dump-constants-Inv-loop words text strip source out₀ allowance n p₀ i₀ out p i = (length out ≡ length out₀) × Loop (DumpsAll words text (λ f. Valid f allowance) functionPiece (λ f. dumpFunction f strip source source)) n (reached p₀ out₀) i (reached p out) × NeedsLeft words text (λ f. Valid f allowance) functionPiece (λ f. dumpFunction f strip source source) (n - i) (reached p out)
+dump-constants-Inv-loop words text strip source out₀ allowance n p₀ i₀ out p i = Writing words text (λ f. Valid f allowance) functionPiece (λ f. dumpFunction f strip source source) n (reached p₀ out₀) i (reached p out)
 
 abbrev dump-constants-μ-loop : dump-constants-lts.MeasureT-loop
 dump-constants-μ-loop words text strip source out₀ allowance n p₀ i₀ out p i = n - i
 
 dump-constants-dump-values-requires : (t : ℕ) → dump-constants-lts.Need-dump-values-requires (dump-constants-calls t) (dump-constants-at t) dump-constants.Post dump-constants-Inv-loop dump-constants-μ-loop
-dump-constants-dump-values-requires t c κs = let a = c .before .before .before .before .before .args in values-ready (a .allowance) (a .strip) (a .source .now) (c .before .before .before .before .before .pre .1)
+dump-constants-dump-values-requires t c κs = let c₁ = c .before .before .before .before .before in values-ready (c₁ .args .allowance) (c₁ .args .strip) (c₁ .args .source .now) (c₁ .pre .1)
 
 dump-constants-dump-word-requires : (t : ℕ) → dump-constants-lts.Need-dump-word-requires (dump-constants-calls t) (dump-constants-at t) dump-constants.Post dump-constants-Inv-loop dump-constants-μ-loop
 dump-constants-dump-word-requires t c κs =
     let c₁ = c .before .before .before .before in let c₂ = c₁ .before .before .before .before .before .before in
-    count-fits functionPiece (λ f. dumpFunction f (c₂ .args .strip) (c₂ .args .source .now) (c₂ .args .source .now)) (children-ready (c₂ .args .allowance) (c₂ .args .strip) (c₂ .args .source .now) (c₂ .pre .1) (c₁ .dump-values .ensures))
+    count-ready functionPiece _ (children-ready (c₂ .args .allowance) (c₂ .args .strip) (c₂ .args .source .now) (c₂ .pre .1) (c₁ .dump-values .ensures))
 
 dump-constants-loop-holds : (t : ℕ) → dump-constants-lts.Need-loop-holds (dump-constants-calls t) (dump-constants-at t) dump-constants.Post dump-constants-Inv-loop dump-constants-μ-loop
 dump-constants-loop-holds t c =
     let c₁ = c .before .before in let c₂ = c₁ .before .before in let c₃ = c₂ .before .before .before in
-    let c₄ = c₃ .before .before .before .before .before .before in
-    (refl, loop-start, left-start (λ f. Valid f (c₄ .args .allowance)) functionPiece (λ f. dumpFunction f (c₄ .args .strip) (c₄ .args .source .now) (c₄ .args .source .now)) (λ l h. h) (c₂ .word-at .ensures) (children-ready (c₄ .args .allowance) (c₄ .args .strip) (c₄ .args .source .now) (c₄ .pre .1) (c₃ .dump-values .ensures)) (c₁ .dump-word .ensures))
+    let c₄ = c₃ .before .before .before .before .before in let c₅ = c₄ .before in
+    writing-start (c₄ .shared-slice-known .given) (c₂ .word-at .ensures) (children-ready (c₅ .args .allowance) (c₅ .args .strip) (c₅ .args .source .now) (c₅ .pre .1) (c₃ .dump-values .ensures)) (c₁ .dump-word .ensures)
 
 dump-constants-dump-function-requires : (t : ℕ) → dump-constants-lts.Need-dump-function-requires (dump-constants-calls t) (dump-constants-at t) dump-constants.Post dump-constants-Inv-loop dump-constants-μ-loop
-dump-constants-dump-function-requires t c κs = search (needs, left-item, functionPiece, dumpFunction)
-
-dump-constants-loop-again : (t : ℕ) → dump-constants-lts.Need-loop-again (dump-constants-calls t) (dump-constants-at t) dump-constants.Post dump-constants-Inv-loop dump-constants-μ-loop
-dump-constants-loop-again t c = search (needs, loop-turn, all-more, dumpFunction, left-more, functionPiece)
+dump-constants-dump-function-requires t c κs =
+    let c₁ = c .before .before in
+    let c₂ = c₁ .before .before .before .before .before .before .before .before .before .before .before .before .before .before in
+    (omega (arith, c₂ .pre .0), writing-next (omega arith) (c₁ .loop .inv))
 
 dump-constants-returns : (t : ℕ) → dump-constants-lts.Need-returns (dump-constants-calls t) (dump-constants-at t) dump-constants.Post dump-constants-Inv-loop dump-constants-μ-loop
 dump-constants-returns t c =
     let c₁ = c .before in let c₂ = c₁ .before .before .before in let c₃ = c₂ .before .before in
     let c₄ = c₃ .before .before .before in let c₅ = c₄ .before .before .before .before .before .before in
-    constants-dumped (c₅ .args .allowance) (c₅ .args .strip) (c₅ .args .source .now) (c₄ .dump-values .ensures) (c₃ .word-at .ensures) (c₂ .dump-word .ensures) (loop-end (omega arith) (c₁ .loop .inv .1) all-none)
-
-dump-function-returns : (t : ℕ) → dump-function-lts.Need-returns (dump-function-calls t) (dump-function-at t) dump-function.Post
-dump-function-returns t c = search (needs, none-deep)
+    constants-dumped (c₅ .args .allowance) (c₅ .args .strip) (c₅ .args .source .now) (c₄ .dump-values .ensures) (c₃ .word-at .ensures) (c₂ .dump-word .ensures) (c .loop-test .left) (c₁ .loop .inv .loop)
 
 dump-function-dump-source-requires : (t : ℕ) → dump-function-lts.Need-dump-source-requires (dump-function-calls t) (dump-function-at t) dump-function.Post
-dump-function-dump-source-requires t c κs = search (needs, source-ready, reached)
+dump-function-dump-source-requires t c κs =
+    let c₁ = c .before in let c₂ = c₁ .before in let c₃ = c₂ .before .before .before .before .before in
+    source-ready (c₃ .args .allowance) (c₃ .args .strip) (c₃ .args .root) (c₃ .args .outer .now) (c₁ .own-source .result .now) (c₂ .if1 .left) (c₁ .own-source .ensures) (c₃ .pre .1)
 
 dump-function-dump-word-requires : (t : ℕ) → dump-function-lts.Need-dump-word-requires (dump-function-calls t) (dump-function-at t) dump-function.Post
 dump-function-dump-word-requires t c κs =
-    let c₁ = c .before .before .before in let c₂ = c₁ .before .before in
-    let c₃ = c₂ .before .before .before .before .before .before in
-    let a = c₃ .args in
-    let r = c₃ .pre .1 in
-    let n = a .allowance - 1 in
-    line-ready (reached (a .s) (a .out .now)) n (a .strip) (a .root) (a .outer .now) (c₂ .own-source .result .now) (c₂ .own-source .ensures) (c₁ .dump-source .ensures) (r .value) (r .fits)
+    let c₁ = c .before .before .before in let c₂ = c₁ .before .before in let c₃ = c₂ .before in
+    let c₄ = c₃ .before .before .before .before .before in
+    line-ready (c₄ .args .allowance) (c₄ .args .strip) (c₄ .args .root) (c₄ .args .outer .now) (c₂ .own-source .result .now) (c₃ .if1 .left) (c₂ .own-source .ensures) (c₄ .pre .1) (c₁ .dump-source .ensures)
 
 dump-function-dump-word-requires-2 : (t : ℕ) → dump-function-lts.Need-dump-word-requires-2 (dump-function-calls t) (dump-function-at t) dump-function.Post
 dump-function-dump-word-requires-2 t c κs =
     let c₁ = c .before .before .before in let c₂ = c₁ .before .before .before .before in let c₃ = c₂ .before .before in
-    let c₄ = c₃ .before .before .before .before .before .before in
-    let a = c₄ .args in
-    let r = c₄ .pre .1 in
-    let n = a .allowance - 1 in
-    last-ready (reached (a .s) (a .out .now)) n (a .strip) (a .root) (a .outer .now) (c₃ .own-source .result .now) (c₃ .own-source .ensures) (c₂ .dump-source .ensures) (c₁ .dump-word .ensures) (r .value) (r .fits)
+    let c₄ = c₃ .before in let c₅ = c₄ .before .before .before .before .before in
+    last-ready (c₅ .args .allowance) (c₅ .args .strip) (c₅ .args .root) (c₅ .args .outer .now) (c₃ .own-source .result .now) (c₄ .if1 .left) (c₃ .own-source .ensures) (c₅ .pre .1) (c₂ .dump-source .ensures) (c₁ .dump-word .ensures)
 
 dump-function-dump-packed-requires : (t : ℕ) → dump-function-lts.Need-dump-packed-requires (dump-function-calls t) (dump-function-at t) dump-function.Post
 dump-function-dump-packed-requires t c κs =
     let c₁ = c .before .before .before in let c₂ = c₁ .before .before .before .before in
-    let c₃ = c₂ .before .before .before .before in let c₄ = c₃ .before .before in
-    let c₅ = c₄ .before .before .before .before .before .before in
-    let a = c₅ .args in
-    let r = c₅ .pre .1 in
-    let n = a .allowance - 1 in
-    packed-ready (reached (a .s) (a .out .now)) n (a .strip) (a .root) (a .outer .now) (c₄ .own-source .result .now) (c₄ .own-source .ensures) (c₃ .dump-source .ensures) (c₂ .dump-word .ensures) (c₁ .dump-word2 .ensures) (r .value) (r .fits)
+    let c₃ = c₂ .before .before .before .before in let c₄ = c₃ .before .before in let c₅ = c₄ .before in
+    let c₆ = c₅ .before .before .before .before .before in
+    packed-ready (c₆ .args .allowance) (c₆ .args .strip) (c₆ .args .root) (c₆ .args .outer .now) (c₄ .own-source .result .now) (c₅ .if1 .left) (c₄ .own-source .ensures) (c₆ .pre .1) (c₃ .dump-source .ensures) (c₂ .dump-word .ensures) (c₁ .dump-word2 .ensures)
 
 dump-function-dump-code-requires : (t : ℕ) → dump-function-lts.Need-dump-code-requires (dump-function-calls t) (dump-function-at t) dump-function.Post
 dump-function-dump-code-requires t c κs =
     let c₁ = c .before .before .before in let c₂ = c₁ .before .before .before .before in
     let c₃ = c₂ .before .before .before .before in let c₄ = c₃ .before .before .before .before in
     let c₅ = c₄ .before .before in let c₆ = c₅ .before in let c₇ = c₆ .before .before .before .before .before in
-    let a = c₇ .args in
-    let r = c₇ .pre .1 in
-    let n = a .allowance - 1 in
-    let e : a .allowance ≡ suc n = omega (arith, c₆ .if1 .left) in
-    let v : Valid (r .value) (suc n) = rw e at (r .valid) in
-    code-ready (reached (a .s) (a .out .now)) n (a .strip) (a .root) (a .outer .now) (c₅ .own-source .result .now) (c₅ .own-source .ensures) (c₄ .dump-source .ensures) (c₃ .dump-word .ensures) (c₂ .dump-word2 .ensures) (c₁ .dump-packed .ensures) (r .value) v (r .fits)
+    code-ready (c₇ .args .allowance) (c₇ .args .strip) (c₇ .args .root) (c₇ .args .outer .now) (c₅ .own-source .result .now) (c₆ .if1 .left) (c₅ .own-source .ensures) (c₇ .pre .1) (c₄ .dump-source .ensures) (c₃ .dump-word .ensures) (c₂ .dump-word2 .ensures) (c₁ .dump-packed .ensures)
 
 dump-function-dump-constants-requires : (t : ℕ) → dump-function-lts.Need-dump-constants-requires (dump-function-calls t) (dump-function-at t) dump-function.Post
 dump-function-dump-constants-requires t c κs =
@@ -157,12 +139,7 @@ dump-function-dump-constants-requires t c κs =
     let c₃ = c₂ .before .before .before .before in let c₄ = c₃ .before .before .before .before in
     let c₅ = c₄ .before .before .before .before in let c₆ = c₅ .before .before in let c₇ = c₆ .before in
     let c₈ = c₇ .before .before .before .before .before in
-    let a = c₈ .args in
-    let r = c₈ .pre .1 in
-    let n = a .allowance - 1 in
-    let e : a .allowance ≡ suc n = omega (arith, c₇ .if1 .left) in
-    let v : Valid (r .value) (suc n) = rw e at (r .valid) in
-    (omega (arith, c₈ .pre .0, c₇ .if1 .left), constants-ready (reached (a .s) (a .out .now)) n (a .strip) (a .root) (a .outer .now) (c₆ .own-source .result .now) (c₆ .own-source .ensures) (c₅ .dump-source .ensures) (c₄ .dump-word .ensures) (c₃ .dump-word2 .ensures) (c₂ .dump-packed .ensures) (c₁ .dump-code .ensures) (r .value) v (r .fits))
+    (omega (arith, c₈ .pre .0, c₇ .if1 .left), constants-ready (c₈ .args .allowance) (c₈ .args .strip) (c₈ .args .root) (c₈ .args .outer .now) (c₆ .own-source .result .now) (c₇ .if1 .left) (c₆ .own-source .ensures) (c₈ .pre .1) (c₅ .dump-source .ensures) (c₄ .dump-word .ensures) (c₃ .dump-word2 .ensures) (c₂ .dump-packed .ensures) (c₁ .dump-code .ensures))
 
 dump-function-dump-debug-requires : (t : ℕ) → dump-function-lts.Need-dump-debug-requires (dump-function-calls t) (dump-function-at t) dump-function.Post
 dump-function-dump-debug-requires t c κs =
@@ -170,12 +147,7 @@ dump-function-dump-debug-requires t c κs =
     let c₃ = c₂ .before .before .before .before in let c₄ = c₃ .before .before .before .before in
     let c₅ = c₄ .before .before .before .before in let c₆ = c₅ .before .before .before .before in
     let c₇ = c₆ .before .before in let c₈ = c₇ .before in let c₉ = c₈ .before .before .before .before .before in
-    let a = c₉ .args in
-    let r = c₉ .pre .1 in
-    let n = a .allowance - 1 in
-    let e : a .allowance ≡ suc n = omega (arith, c₈ .if1 .left) in
-    let v : Valid (r .value) (suc n) = rw e at (r .valid) in
-    debug-ready (reached (a .s) (a .out .now)) n (a .strip) (a .root) (a .outer .now) (c₇ .own-source .result .now) (c₇ .own-source .ensures) (c₆ .dump-source .ensures) (c₅ .dump-word .ensures) (c₄ .dump-word2 .ensures) (c₃ .dump-packed .ensures) (c₂ .dump-code .ensures) (c₁ .dump-constants .ensures) (r .value) v (r .fits)
+    debug-ready (c₉ .args .allowance) (c₉ .args .strip) (c₉ .args .root) (c₉ .args .outer .now) (c₇ .own-source .result .now) (c₈ .if1 .left) (c₇ .own-source .ensures) (c₉ .pre .1) (c₆ .dump-source .ensures) (c₅ .dump-word .ensures) (c₄ .dump-word2 .ensures) (c₃ .dump-packed .ensures) (c₂ .dump-code .ensures) (c₁ .dump-constants .ensures)
 
 dump-function-same-length : (t : ℕ) → dump-function-lts.Need-same-length (dump-function-calls t) (dump-function-at t) dump-function.Post
 dump-function-same-length t c =
@@ -192,25 +164,26 @@ dump-function-returns-2 t c =
     let c₅ = c₄ .before .before .before .before in let c₆ = c₅ .before .before .before .before in
     let c₇ = c₆ .before .before .before .before in let c₈ = c₇ .before .before in let c₉ = c₈ .before in
     let c₁₀ = c₉ .before .before .before .before .before in
-    let n = c₁₀ .args .allowance - 1 in
-    let e : c₁₀ .args .allowance ≡ suc n = omega (arith, c₉ .if1 .left) in
-    rw e (function-dumped n (c₁₀ .args .strip) (c₁₀ .args .root) (c₁₀ .args .outer .now) (c₈ .own-source .result .now) (c₈ .own-source .ensures) (c₇ .dump-source .ensures) (c₆ .dump-word .ensures) (c₅ .dump-word2 .ensures) (c₄ .dump-packed .ensures) (c₃ .dump-code .ensures) (c₂ .dump-constants .ensures) (c₁ .dump-debug .ensures))
+    function-dumped (c₁₀ .args .allowance) (c₁₀ .args .strip) (c₁₀ .args .root) (c₁₀ .args .outer .now) (c₈ .own-source .result .now) (c₉ .if1 .left) (c₈ .own-source .ensures) (c₇ .dump-source .ensures) (c₆ .dump-word .ensures) (c₅ .dump-word2 .ensures) (c₄ .dump-packed .ensures) (c₃ .dump-code .ensures) (c₂ .dump-constants .ensures) (c₁ .dump-debug .ensures)
 
 pub +dump-constants+dump-function-spec : {M : Type 1} → statement M
 +dump-constants+dump-function-spec = close μ-dump-constants μ-dump-function (λ t. dump-constants-lts.spec
     (dump-constants-calls t) (dump-constants-at t) dump-constants.Post dump-constants-Inv-loop dump-constants-μ-loop
     (dump-constants-dump-values-requires t)
     (λ c. search needs)  -- word-at-requires
-    (dump-constants-dump-word-requires t) (dump-constants-loop-holds t) (dump-constants-dump-function-requires t)
+    (dump-constants-dump-word-requires t)
+    (dump-constants-loop-holds t)
+    (dump-constants-dump-function-requires t)
     (λ c. omega arith) (λ c. omega arith)  -- add-i, loop-less
-    (dump-constants-loop-again t)
+    (λ c. search (needs, writing-turn))  -- loop-again
     (λ c. search needs)  -- same-length
     (dump-constants-returns t))
     λ t. dump-function-lts.spec (dump-function-calls t) (dump-function-at t) dump-function.Post
-    (dump-function-returns t)
+    (λ c. search (needs, none-deep))  -- returns
     (λ c. search needs)  -- own-source-requires
-    (dump-function-dump-source-requires t) (dump-function-dump-word-requires t) (dump-function-dump-word-requires-2 t)
+    (dump-function-dump-source-requires t)
+    (dump-function-dump-word-requires t) (dump-function-dump-word-requires-2 t)
     (dump-function-dump-packed-requires t) (dump-function-dump-code-requires t)
     (λ c. search needs)  -- sub-dump-constants
-    (dump-function-dump-constants-requires t) (dump-function-dump-debug-requires t) (dump-function-same-length t)
-    (dump-function-returns-2 t)
+    (dump-function-dump-constants-requires t) (dump-function-dump-debug-requires t)
+    (dump-function-same-length t) (dump-function-returns-2 t)

@@ -1,31 +1,25 @@
 -- Three pieces one behind the other.
 use borrow.Author.Needs.{needs}
-use Rattle.dump.proofs.Steps.{local-dumped}
-use Rattle.dump.proofs.StepNeeds.{local-name, local-start, local-end}
+use Rattle.dump.proofs.Steps.{local-name, local-start, local-end, local-dumped}
 use Rattle.dump.proofs.list.dump_local.Statement.{statement}
 use Rattle.dump.proofs.list.dump_local.Tie as tie
 
-dump-name-requires : tie.Need-dump-name-requires
-dump-name-requires c κs = search (needs, local-name)
-
 dump-word-requires : tie.Need-dump-word-requires
-dump-word-requires c κs =
-    let c₁ = c .before .before .before in let c₂ = c₁ .before .before .before .before .before in
-    local-start (c₂ .pre) (c₁ .dump-name .ensures)
+dump-word-requires c κs = let c₁ = c .before .before .before in local-start (c₁ .before .before .before .before .before .pre) (c₁ .dump-name .ensures)
 
 dump-word-requires-2 : tie.Need-dump-word-requires-2
 dump-word-requires-2 c κs =
     let c₁ = c .before .before .before in let c₂ = c₁ .before .before .before .before in
-    let c₃ = c₂ .before .before .before .before .before in
-    local-end (c₃ .pre) (c₂ .dump-name .ensures) (c₁ .dump-word .ensures)
+    local-end (c₂ .before .before .before .before .before .pre) (c₂ .dump-name .ensures) (c₁ .dump-word .ensures)
 
 returns : tie.Need-returns
 returns c =
     let c₁ = c .before .before in let c₂ = c₁ .before .before .before .before in
-    let c₃ = c₂ .before .before .before .before in
-    local-dumped (c₃ .dump-name .ensures) (c₂ .dump-word .ensures) (c₁ .dump-word2 .ensures)
+    local-dumped (c₂ .before .before .before .before .dump-name .ensures) (c₂ .dump-word .ensures) (c₁ .dump-word2 .ensures)
 
 pub dump-local-spec : {M : Type 1} → statement M
-dump-local-spec = tie.close (tie.spec dump-name-requires dump-word-requires dump-word-requires-2
+dump-local-spec = tie.close (tie.spec
+    (λ c. search (needs, local-name))  -- dump-name-requires
+    dump-word-requires dump-word-requires-2
     (λ c. search needs)  -- same-length
     returns)

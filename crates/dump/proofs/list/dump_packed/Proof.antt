@@ -1,18 +1,12 @@
 -- The word's bytes are the four numbers.
 use borrow.Author.Needs.{needs}
 use native.Mathlib.Omega.{arith}
-use mathlib.Core.Path.{refl}
-use Rattle.dump.proofs.Blocks.{int-fits}
-use Rattle.proto.proofs.Items.{skips-on}
 use Rattle.dump.proofs.Steps.{packed-dumped}
 use Rattle.dump.proofs.list.dump_packed.Statement.{statement}
 use Rattle.dump.proofs.list.dump_packed.Tie as tie
 
 add-turned-3 : tie.Need-add-turned-3
 add-turned-3 c = omega (arith, c .before .before .shared-slice-known .given (c .before .before .before .args .s .at))
-
-returns : tie.Need-returns
-returns c = packed-dumped refl skips-on (int-fits _ (omega arith) refl (c .before .before .dump-int .ensures))
 
 pub dump-packed-spec : {M : Type 1} → statement M
 dump-packed-spec = tie.close (tie.spec
@@ -22,4 +16,4 @@ dump-packed-spec = tie.close (tie.spec
     add-turned-3
     (λ c. search needs) (λ c. search needs) (λ c. search needs)  -- dump-int-requires, add-t8, add-t24
     (λ c. search needs)  -- same-length
-    returns)
+    (λ c. search (needs, packed-dumped)))  -- returns

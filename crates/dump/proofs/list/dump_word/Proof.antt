@@ -1,19 +1,12 @@
 -- The word that stands there is the one written.
 use borrow.Author.Needs.{needs}
-use native.Mathlib.Omega.{arith}
-use mathlib.Core.Path.{refl}
-use Rattle.dump.proofs.Blocks.{int-fits}
-use Rattle.proto.proofs.Items.{skips-on}
 use Rattle.dump.proofs.Steps.{word-dumped}
 use Rattle.dump.proofs.list.dump_word.Statement.{statement}
 use Rattle.dump.proofs.list.dump_word.Tie as tie
-
-returns : tie.Need-returns
-returns c = word-dumped refl skips-on (int-fits _ (omega arith) refl (c .before .before .dump-int .ensures))
 
 pub dump-word-spec : {M : Type 1} → statement M
 dump-word-spec = tie.close (tie.spec
     (λ c. search needs) (λ c. search needs)  -- mul-dump-int, shared-slice-read-dump-int
     (λ c. search needs) (λ c. search needs) (λ c. search needs)  -- dump-int-requires, add-t9, add-t12
     (λ c. search needs)  -- same-length
-    returns)
+    (λ c. search (needs, word-dumped)))  -- returns
