@@ -12,7 +12,7 @@ use Rattle.lent.proofs.Writes.{put-lost}
 use Rattle.format.specs.Tree.{Constant as Value}
 use Rattle.format.specs.Tree.{noDebug}
 use Rattle.format.specs.Store.{Piece, string, pieces, list, constantPiece, localPiece}
-use Rattle.format.specs.Write.{dumpNumber, dumpSize, dumpText, dumpList, dumpConstant, dumpLocal, dumpDebug, each}
+use Rattle.format.specs.Write.{dumpNumber, dumpText, dumpList, dumpConstant, dumpLocal, dumpDebug, each}
 use Rattle.format.proofs.Loops.{Loop, loop-start, loop-turn}
 use Rattle.format.proofs.Stored.{here-left}
 use Rattle.proto.specs.Formed.{Room}
@@ -22,19 +22,13 @@ use Rattle.proto.proofs.Items.{skips-on}
 use Rattle.proto.proofs.Pieces.{constant-words, pieces-words}
 use Rattle.dump.specs.declared.list.DumpState.{DumpState}
 use Rattle.dump.specs.Step.{Ahead, Dumps, reached, Any}
-use Rattle.dump.proofs.Blocks.{int-length, size-length, string-length, code-length}
+use Rattle.dump.proofs.Blocks.{int-length, string-length, code-length}
 use Rattle.dump.proofs.Steps.{WordStep, PackedStep, CodeStep}
 use Rattle.dump.proofs.Lists.{DumpsAll, all-more, every-all, looped}
 
 -- nothing is written where there is no space
 pub puts-counted : {b : List ℕ} {at r : ℕ} → r ≡ min (at + length b) far → Puts b at [] r []
 puts-counted e = put-lost e zero-le refl
-
-pub size-counted : {at r : ℕ} (n : ℕ) → r ≡ min (at + 8) far → Puts (dumpSize n) at [] r []
-size-counted n e = puts-counted (rw (size-length n) e)
-
-pub string-counted : {at a r : ℕ} (s : List ℕ) → a ≡ min (at + length s) far → r ≡ min (a + 9) far → Puts (dumpText s) at [] r []
-string-counted s p q = puts-counted (omega (arith, string-length s))
 
 pub no-debug-counted : {at r : ℕ} → r ≡ min (at + 12) far → Puts (dumpDebug noDebug) at [] r []
 unfolding each dumpNumber

@@ -1,5 +1,5 @@
 -- Functions: their source, and their parts one behind the other.
-use Prim.Native.Nat.{ℕ, suc, _+_, _-_, _≤_}
+use Prim.Native.Nat.{ℕ, suc, _+_, _-_, _≤_, min}
 use mathlib.Core.Path.{_≡_, refl, sym, _∙_}
 use mathlib.Core.List.{List, [], _∷_, _++_, append-assoc, append-nil}
 use mathlib.Core.Bool.{Bool, true, false, cond}
@@ -9,7 +9,7 @@ use lib.ListN.{length, drop, getD, length-append}
 use lib.Seq.{sets}
 use lib.Dec.{eqb}
 use borrow.Author.Tests.{ne-eqb}
-use Rattle.lent.specs.Memory.{Every, Puts}
+use Rattle.lent.specs.Memory.{Every, far, Puts}
 use Rattle.format.specs.Tree.{Constant as Value}
 use Rattle.format.specs.Tree.{Source, Parts, Function, Functions, count, filled, kept}
 use Rattle.format.specs.Read.{same}
@@ -27,6 +27,7 @@ use Rattle.dump.specs.Step.{Reached, Dumps, Fits, Ready, SourceFits, Any
 use Rattle.dump.proofs.Blocks.{int-length, size-length, string-length, puts-in}
 use Rattle.dump.proofs.Steps.{Item, item, Made, made-two, Left, dumps-past, dumps-made, wrote-none, wrote-next, left-made, left-first, left-rest, Step, WordStep, PackedStep, CodeStep, WordRoom, CodeRoom, place, word-fits, code-fits, three-within}
 use Rattle.dump.proofs.Lists.{DumpsAll, looped}
+use Rattle.dump.proofs.Counts.{puts-counted}
 
 -- ---- the source
 
@@ -47,13 +48,6 @@ elided-compared t root source outer e h = sym (rw e (same-is t source outer h))
 abbrev pub sourceBytes : Bool → List ℕ → List ℕ
 sourceBytes e source = dumpString (cond e Source.inherited (Source.own source))
 
-module _ (at : ℕ) (source : List ℕ) {e : Bool} where
-  pub put-elided : {r : ℕ} {out out′ : List ℕ} → e ≡ true → Puts (dumpSize 0) at out r out′ → Puts (sourceBytes e source) at out r out′
-  put-elided h p = rw h p
-
-  pub put-own : {r : ℕ} {out out′ : List ℕ} → e ≡ false → Puts (dumpText source) at out r out′ → Puts (sourceBytes e source) at out r out′
-  put-own h p = rw h p
-
 module _ (at : ℕ) (source out : List ℕ) (e : Bool) (r : at + length (sourceBytes e source) ≤ length out) where
   pub room-elided : e ≡ true → at + 8 ≤ length out
   room-elided h = let i : at + length (dumpSize 0) ≤ _ = rw h at r in omega (arith, i, size-length 0)
@@ -62,23 +56,29 @@ module _ (at : ℕ) (source out : List ℕ) (e : Bool) (r : at + length (sourceB
   room-own h = let i : at + length (dumpText source) ≤ _ = rw h at r in omega (arith, i, string-length source)
 
   pub elided-puts : {out′ : List ℕ} → e ≡ true → out′ ≡ sets out at (dumpSize 0) → Puts (sourceBytes e source) at out (at + 8) out′
-  elided-puts h q = put-elided at source h (puts-in (size-length 0) (room-elided h) refl q)
+  elided-puts h q = rw h (puts-in (size-length 0) (room-elided h) refl q)
 
   pub own-puts : {out′ : List ℕ} → e ≡ false → out′ ≡ sets out at (dumpText source) → Puts (sourceBytes e source) at out (at + length source + 9) out′
-  own-puts h q = put-own at source h (puts-in (string-length source) (room-own h) (omega arith) q)
+  own-puts h q = rw h (puts-in (string-length source) (room-own h) (omega arith) q)
 
 -- the source given is that of the function which stands there
 abbrev pub Own : (words text outer source : List ℕ) (at : ℕ) → Type 0
 Own words text outer source at = (v : Source) (to : ℕ) → Stands words text at to (sourcePiece v) → source ≡ filled outer v
 
-abbrev pub SourceStep : (words : List ℕ) (root : Bool) (outer source : List ℕ) (s r : Reached) → Type 0
-SourceStep words root outer source s r =
-    (v : Source) (t : List ℕ) → ((to : ℕ) → Stands words t (s .at) to (sourcePiece v) → source ≡ filled outer v) → Dumps words t (sourcePiece v) (dumpString (elided (around root outer) source)) s r
+abbrev pub SourceStep : (words around outer source : List ℕ) (s r : Reached) → Type 0
+SourceStep words around outer source s r =
+    (v : Source) (t : List ℕ) → ((to : ℕ) → Stands words t (s .at) to (sourcePiece v) → source ≡ filled outer v) → Dumps words t (sourcePiece v) (dumpString (elided around source)) s r
 
 module _ {words : List ℕ} {at : ℕ} {e : Bool} (root : Bool) (outer source : List ℕ)
     (f : (s : Source) (t : List ℕ) (to : ℕ) → Stands words t at to (sourcePiece s) → source ≡ filled outer s → e ≡ same source (around root outer)) where
-  pub source-dumped : {a len n : ℕ} {out out′ : List ℕ} → Skips words 3 at a → Puts (sourceBytes e source) len out n out′ → SourceStep words root outer source (place at len out) (place a n out′)
+  pub source-dumped : {a len n : ℕ} {out out′ : List ℕ} → Skips words 3 at a → Puts (sourceBytes e source) len out n out′ → SourceStep words (around root outer) outer source (place at len out) (place a n out′)
   source-dumped s p v t h = dumps-past (past-words 3 (sourcePiece v) (source-words v) s) (λ to k. rw (f v t to k (h to k)) at p)
+
+  pub elided-counted : {a len n : ℕ} → e ≡ true → Skips words 3 at a → n ≡ min (len + 8) far → SourceStep words (around root outer) outer source (place at len []) (place a n [])
+  elided-counted h s p = source-dumped s (rw h (puts-counted (rw (size-length 0) p)))
+
+  pub own-counted : {a len m n : ℕ} → e ≡ false → Skips words 3 at a → m ≡ min (len + length source) far → n ≡ min (m + 9) far → SourceStep words (around root outer) outer source (place at len []) (place a n [])
+  own-counted h s p q = source-dumped s (rw h (puts-counted (omega (arith, string-length source))))
 
   pub source-room : {len : ℕ} {out : List ℕ} → SourceFits words outer source (dumpString (elided (around root outer) source)) (place at len out) → len + length (sourceBytes e source) ≤ length out
   source-room r = rw (f (r .value) (r .text) (r .fits .to) (r .fits .stands) (r .filled-in)) (r .fits .room)
@@ -169,78 +169,78 @@ valid-parts {n} p fs h v =
     let w : Valid (Function.function p fs) (suc (n - 1)) = rw e at v in
     (w .0, w .2)
 
+pub function-dumped : {words text : List ℕ} {s a b c d e f r : Reached} (n : ℕ) (strip : Bool) (around outer source : List ℕ) → (n ≡ 0 → ⊥) → Own words text outer source (s .at)
+    → SourceStep words around outer source s a → WordStep words a b → WordStep words b c → PackedStep words c d → CodeStep words d e
+    → ConstantsStep words text (n - 1) strip source e f → Step debugPiece (λ g. dumpDebug (kept strip g)) words text f r
+    → (g : Function) → Valid g n → Dumps words text (functionPiece g) (dumpFunction g strip around outer) s r
+function-dumped {text = text} n strip around outer source deep own d₁ d₂ d₃ d₄ d₅ d₆ d₇ (Function.function p fs) v =
+    let w = valid-parts p fs deep v in
+    record {
+      dumps = λ to h.
+          dumps-made (function-made strip around outer source p fs (own (p .source) to (source-stands p fs h)))
+          (wrote-next (d₁ (p .source) text (own (p .source))) (wrote-next (d₂ (p .lineDefined) text) (wrote-next (d₃ (p .lastLineDefined) text) (wrote-next (d₄ p text (w .0)) (wrote-next (d₅ (p .code) text) (wrote-next (d₆ (p .constants) fs (w .1)) (wrote-next (d₇ (p .debug)) wrote-none)))))))
+          .dumps to h;
+    }
+
 -- a function that is to be written, taken apart
-record Opened (words text : List ℕ) (n : ℕ) (strip root : Bool) (outer source : List ℕ) (s : Reached) : Type 0 where
+pub record Opened (words text : List ℕ) (n : ℕ) (strip : Bool) (around outer source : List ℕ) (s : Reached) : Type 0 where
   parts : Parts
   functions : Functions
   valid : ValidParts parts × ValidAll functions (n - 1)
   is-own : source ≡ filled outer (parts .source)
-  left : Left words text (functionItems strip (around root outer) source parts functions) s
+  left : Left words text (functionItems strip around source parts functions) s
 
-module _ {words text : List ℕ} (n : ℕ) (strip root : Bool) (outer source : List ℕ) {s : Reached} (deep : n ≡ 0 → ⊥) (own : Own words text outer source (s .at)) where
-  pub function-dumped : {a b c d e f r : Reached} → SourceStep words root outer source s a → WordStep words a b → WordStep words b c → PackedStep words c d → CodeStep words d e
-      → ConstantsStep words text (n - 1) strip source e f → Step debugPiece (λ g. dumpDebug (kept strip g)) words text f r
-      → (g : Function) → Valid g n → Dumps words text (functionPiece g) (dumpFunction g strip (around root outer) outer) s r
-  function-dumped d₁ d₂ d₃ d₄ d₅ d₆ d₇ (Function.function p fs) v =
-      let w = valid-parts p fs deep v in
-      record {
-        dumps = λ to h.
-            let g = own (p .source) to (source-stands p fs h) in
-            dumps-made (function-made strip (around root outer) outer source p fs g)
-            (wrote-next (d₁ (p .source) text (own (p .source))) (wrote-next (d₂ (p .lineDefined) text) (wrote-next (d₃ (p .lastLineDefined) text) (wrote-next (d₄ p text (w .0)) (wrote-next (d₅ (p .code) text) (wrote-next (d₆ (p .constants) fs (w .1)) (wrote-next (d₇ (p .debug)) wrote-none)))))))
-            .dumps to h;
-      }
+module _ {words text : List ℕ} {n : ℕ} {strip : Bool} {around outer source : List ℕ} {s : Reached} where
+  pub opened : (n ≡ 0 → ⊥) → Own words text outer source (s .at) → Ready words text (λ f. Valid f n) functionPiece (λ f. dumpFunction f strip around outer) s → Opened words text n strip around outer source s
+  opened deep own x = go (x .value) (x .valid) (x .fits)
+    where
+      go : (g : Function) → Valid g n → Fits words text (functionPiece g) (dumpFunction g strip around outer) s → Opened words text n strip around outer source s
+      go (Function.function p fs) v f =
+          let g = own (p .source) (f .to) (source-stands p fs (f .stands)) in
+          record { parts = p; functions = fs; valid = valid-parts p fs deep v; is-own = g; left = left-made (function-made strip around outer source p fs g) f }
 
-  module _ (x : Ready words text (λ f. Valid f n) functionPiece (λ f. dumpFunction f strip (around root outer) outer) s) where
-    opened : Opened words text n strip root outer source s
-    opened = go (x .value) (x .valid) (x .fits)
-      where
-        go : (g : Function) → Valid g n → Fits words text (functionPiece g) (dumpFunction g strip (around root outer) outer) s → Opened words text n strip root outer source s
-        go (Function.function p fs) v f =
-            let g = own (p .source) (f .to) (source-stands p fs (f .stands)) in
-            record { parts = p; functions = fs; valid = valid-parts p fs deep v; is-own = g; left = left-made (function-made strip (around root outer) outer source p fs g) f }
-
+  module _ (o : Opened words text n strip around outer source s) where
     -- the items from the k-th on are left at m
     abbrev From : ℕ → Reached → Type 0
-    From k m = Left words text (drop k (functionItems strip (around root outer) source (opened .parts) (opened .functions))) m
+    From k m = Left words text (drop k (functionItems strip around source (o .parts) (o .functions))) m
 
-    pub source-ready : SourceFits words outer source (dumpString (elided (around root outer) source)) s
-    source-ready = record { text = text; value = opened .parts .source; filled-in = opened .is-own; fits = left-first (opened .left) }
+    pub source-ready : SourceFits words outer source (dumpString (elided around source)) s
+    source-ready = record { text = text; value = o .parts .source; filled-in = o .is-own; fits = left-first (o .left) }
 
-    module _ {a : Reached} (d₁ : SourceStep words root outer source s a) where
+    module _ {a : Reached} (d₁ : SourceStep words around outer source s a) where
       from₁ : From 1 a
-      from₁ = left-rest (opened .left) (d₁ (opened .parts .source) text (own (opened .parts .source)))
+      from₁ = left-rest (o .left) (d₁ (o .parts .source) text (λ to h. o .is-own))
 
       pub line-ready : WordRoom words a
-      line-ready = let v = opened .parts .lineDefined in word-fits v (int-length v) (left-first from₁)
+      line-ready = let v = o .parts .lineDefined in word-fits v (int-length v) (left-first from₁)
 
       module _ {b : Reached} (d₂ : WordStep words a b) where
         from₂ : From 2 b
-        from₂ = left-rest from₁ (d₂ (opened .parts .lineDefined) text)
+        from₂ = left-rest from₁ (d₂ (o .parts .lineDefined) text)
 
         pub last-ready : WordRoom words b
-        last-ready = let v = opened .parts .lastLineDefined in word-fits v (int-length v) (left-first from₂)
+        last-ready = let v = o .parts .lastLineDefined in word-fits v (int-length v) (left-first from₂)
 
         module _ {c : Reached} (d₃ : WordStep words b c) where
           from₃ : From 3 c
-          from₃ = left-rest from₂ (d₃ (opened .parts .lastLineDefined) text)
+          from₃ = left-rest from₂ (d₃ (o .parts .lastLineDefined) text)
 
           pub packed-ready : WordRoom words c
-          packed-ready = word-fits (packed (opened .parts)) refl (left-first from₃)
+          packed-ready = word-fits (packed (o .parts)) refl (left-first from₃)
 
           module _ {d : Reached} (d₄ : PackedStep words c d) where
             from₄ : From 4 d
-            from₄ = left-rest from₃ (d₄ (opened .parts) text (opened .valid .0))
+            from₄ = left-rest from₃ (d₄ (o .parts) text (o .valid .0))
 
             pub code-ready : CodeRoom words d
-            code-ready = code-fits (opened .parts .code) (left-first from₄)
+            code-ready = code-fits (o .parts .code) (left-first from₄)
 
             module _ {e : Reached} (d₅ : CodeStep words d e) where
               from₅ : From 5 e
-              from₅ = left-rest from₄ (d₅ (opened .parts .code) text)
+              from₅ = left-rest from₄ (d₅ (o .parts .code) text)
 
               pub constants-ready : Ready {A = List Value × Functions} words text (λ v. ValidAll (v .1) (n - 1)) (λ v. constantsPiece (v .0) (v .1)) (λ v. dumpConstants (v .0) (count (v .1)) (dumpFunctions (v .1) strip source)) e
-              constants-ready = record { value = (opened .parts .constants, opened .functions); valid = opened .valid .1; fits = left-first from₅ }
+              constants-ready = record { value = (o .parts .constants, o .functions); valid = o .valid .1; fits = left-first from₅ }
 
               pub debug-ready : {f : Reached} → ConstantsStep words text (n - 1) strip source e f → Ready words text Any debugPiece (λ d. dumpDebug (kept strip d)) f
-              debug-ready d₆ = record { value = opened .parts .debug; valid = tt; fits = left-first (left-rest from₅ (d₆ (opened .parts .constants) (opened .functions) (opened .valid .1))) }
+              debug-ready d₆ = record { value = o .parts .debug; valid = tt; fits = left-first (left-rest from₅ (d₆ (o .parts .constants) (o .functions) (o .valid .1))) }

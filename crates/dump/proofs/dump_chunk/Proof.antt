@@ -4,9 +4,6 @@ use Rattle.dump.proofs.Calls.{chunk-puts, header-fits, root-ready}
 use Rattle.dump.proofs.dump_chunk.Statement.{statement}
 use Rattle.dump.proofs.dump_chunk.Tie as tie
 
-dump-header-requires : tie.Need-dump-header-requires
-dump-header-requires c κs = search (needs, header-fits)
-
 dump-function-requires : tie.Need-dump-function-requires
 dump-function-requires c κs =
     let c₁ = c .before .before .before in let c₂ = c₁ .before .before .before .before .before .before in
@@ -19,6 +16,8 @@ returns c =
     chunk-puts (c₃ .args .strip) (c₃ .args .name .now) (c₂ .dump-header .ensures) (c₁ .dump-function .ensures)
 
 pub dump-chunk-spec : {M : Type 1} → statement M
-dump-chunk-spec = tie.close (tie.spec dump-header-requires dump-function-requires
+dump-chunk-spec = tie.close (tie.spec
+    (λ c. search (needs, header-fits))  -- dump-header-requires
+    dump-function-requires
     (λ c. search needs)  -- same-length
     returns)

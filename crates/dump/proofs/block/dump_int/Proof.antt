@@ -7,26 +7,14 @@ use Rattle.dump.proofs.block.dump_int.Tie as tie
 
 -- The four bytes are stored one behind the other.
 
-slice-write-out-2 : tie.Need-slice-write-out-2
-slice-write-out-2 c = simp length-set (omega (arith, c .pre))
-
-slice-write-out-3 : tie.Need-slice-write-out-3
-slice-write-out-3 c = simp length-set (omega (arith, c .pre))
-
-slice-write-out-4 : tie.Need-slice-write-out-4
-slice-write-out-4 c = simp length-set (omega (arith, c .pre))
-
-returns : tie.Need-returns
-returns c = search (needs, int-stored)
-
 pub dump-int-spec : {M : Type 1} → statement M
 dump-int-spec = tie.close (tie.spec
     (λ c. search needs) (λ c. search needs) (λ c. search needs)  -- cast-out, slice-write-out, cast-out-2
     (λ c. search needs)  -- add-out
-    slice-write-out-2
+    (λ c. simp length-set (omega (arith, c .pre)))  -- slice-write-out-2
     (λ c. search needs) (λ c. search needs)  -- cast-out-3, add-out-2
-    slice-write-out-3
+    (λ c. simp length-set (omega (arith, c .pre)))  -- slice-write-out-3
     (λ c. search needs) (λ c. search needs)  -- cast-out-4, add-out-3
-    slice-write-out-4
+    (λ c. simp length-set (omega (arith, c .pre)))  -- slice-write-out-4
     (λ c. search needs)  -- same-length
-    returns)
+    (λ c. search (needs, int-stored)))  -- returns

@@ -17,20 +17,15 @@ Inv-loop out₀ at l i₀ out i = (i ≤ length l) × (length out ≡ length out
 abbrev μ-loop : tie.MeasureT-loop
 μ-loop out₀ at l i₀ out i = length l - i
 
-loop-holds : tie.Need-loop-holds Inv-loop μ-loop
-loop-holds c = search (needs, ints-start)
-
-loop-again : tie.Need-loop-again Inv-loop μ-loop
-loop-again c = search (needs, ints-turn)
-
 returns : tie.Need-returns Inv-loop μ-loop
 returns c = let e : c .before .loop .i ≡ length (c .before .before .before .before .args .l .now) = omega arith in c .before .loop .inv .2 ∙ rw (e, take-length (c .before .before .before .before .args .l .now))
 
 pub dump-ints-spec : {M : Type 1} → statement M
-dump-ints-spec = tie.close (tie.spec Inv-loop μ-loop loop-holds
+dump-ints-spec = tie.close (tie.spec Inv-loop μ-loop
+    (λ c. search (needs, ints-start))  -- loop-holds
     (λ c. omega arith) (λ c. omega arith) (λ c. omega arith)  -- mul-dump-int, add-dump-int, mul-dump-int-2
     (λ c. omega arith) (λ c. search needs) (λ c. omega arith)  -- shared-slice-read-dump-int, dump-int-requires, add-i
     (λ c. omega arith)  -- loop-less
-    loop-again
+    (λ c. search (needs, ints-turn))  -- loop-again
     (λ c. search needs)  -- same-length
     returns)

@@ -4,11 +4,8 @@ use Rattle.dump.proofs.Blocks.{size-stored}
 use Rattle.dump.proofs.block.dump_size.Statement.{statement}
 use Rattle.dump.proofs.block.dump_size.Tie as tie
 
-returns : tie.Need-returns
-returns c = search (needs, size-stored)
-
 pub dump-size-spec : {M : Type 1} → statement M
 dump-size-spec = tie.close (tie.spec
     (λ c. search needs) (λ c. search needs) (λ c. search needs)  -- cast-dump-int, dump-int-requires, add-dump-int
     (λ c. search needs) (λ c. search needs) (λ c. search needs)  -- cast-dump-int-2, dump-int-requires-2, same-length
-    returns)
+    (λ c. search (needs, size-stored)))  -- returns

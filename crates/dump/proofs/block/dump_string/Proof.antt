@@ -9,12 +9,10 @@ use Rattle.dump.proofs.block.dump_string.Tie as tie
 same-length : tie.Need-same-length
 same-length c = simp length-set (c .before .before .copy .kept .0 ∙ c .before .before .before .before .before .before .dump-size .kept .0)
 
-returns : tie.Need-returns
-returns c = search (needs, string-stored)
-
 pub dump-string-spec : {M : Type 1} → statement M
 dump-string-spec = tie.close (tie.spec
     (λ c. search needs) (λ c. search needs) (λ c. search needs)  -- add-dump-size, dump-size-requires, add-copy
     (λ c. search needs) (λ c. search needs) (λ c. search needs)  -- copy-requires, add-out, add-out-2
     (λ c. search needs)  -- slice-write-out
-    same-length returns)
+    same-length
+    (λ c. search (needs, string-stored)))  -- returns

@@ -97,7 +97,7 @@ count-function-returns-2 t c =
     let c₁ = c .before in let c₂ = c₁ .before in let c₃ = c₂ .before in let c₄ = c₃ .before in let c₅ = c₄ .before in
     let c₆ = c₅ .before in let c₇ = c₆ .before in let c₈ = c₇ .before in
     let a = c₈ .before .before .before .before .args in
-    function-dumped (a .allowance) (a .strip) (a .root) (a .outer .now) (c₇ .own-source .result .now) (c₈ .if1 .left) (c₇ .own-source .ensures) (c₆ .count-source .ensures) (word-counted (c₅ .ahead .ensures)) (word-counted (c₄ .ahead2 .ensures)) (packed-counted (c₃ .ahead3 .ensures)) (c₂ .count-code .ensures) (c₁ .count-constants .ensures) (λ g. c .count-debug .ensures g _)
+    function-dumped (a .allowance) (a .strip) _ (a .outer .now) (c₇ .own-source .result .now) (c₈ .if1 .left) (c₇ .own-source .ensures) (c₆ .count-source .ensures) (word-counted (c₅ .ahead .ensures)) (word-counted (c₄ .ahead2 .ensures)) (packed-counted (c₃ .ahead3 .ensures)) (c₂ .count-code .ensures) (c₁ .count-constants .ensures) (λ g. c .count-debug .ensures g _)
 
 pub +count-constants+count-function-spec : {M : Type 1} → statement M
 +count-constants+count-function-spec = close μ-count-constants μ-count-function (λ t. count-constants-lts.spec

@@ -10,7 +10,7 @@ use Rattle.format.specs.Write.{dumpFunction}
 use Rattle.proto.proofs.Walks.{none-deep}
 use Rattle.dump.specs.Step.{reached}
 use Rattle.dump.proofs.Lists.{Writing, count-ready, writing-start, writing-next, writing-turn}
-use Rattle.dump.proofs.Functions.{constants-dumped, function-dumped, source-ready, line-ready, last-ready, packed-ready, code-ready, constants-ready, debug-ready, values-ready, children-ready}
+use Rattle.dump.proofs.Functions.{constants-dumped, function-dumped, opened, source-ready, line-ready, last-ready, packed-ready, code-ready, constants-ready, debug-ready, values-ready, children-ready}
 use borrow.Fn.Kinds.{In}
 use borrow.Fn.PlainCycle.{Measures, is, falls, and}
 use Rattle.dump.proofs.function.dump_constants.Reads as dump-constants
@@ -105,33 +105,33 @@ dump-constants-returns t c =
 dump-function-dump-source-requires : (t : ℕ) → dump-function-lts.Need-dump-source-requires (dump-function-calls t) (dump-function-at t) dump-function.Post
 dump-function-dump-source-requires t c κs =
     let c₁ = c .before in let c₂ = c₁ .before in let c₃ = c₂ .before .before .before .before .before in
-    source-ready (c₃ .args .allowance) (c₃ .args .strip) (c₃ .args .root) (c₃ .args .outer .now) (c₁ .own-source .result .now) (c₂ .if1 .left) (c₁ .own-source .ensures) (c₃ .pre .1)
+    source-ready (opened (c₂ .if1 .left) (c₁ .own-source .ensures) (c₃ .pre .1))
 
 dump-function-dump-word-requires : (t : ℕ) → dump-function-lts.Need-dump-word-requires (dump-function-calls t) (dump-function-at t) dump-function.Post
 dump-function-dump-word-requires t c κs =
     let c₁ = c .before .before .before in let c₂ = c₁ .before .before in let c₃ = c₂ .before in
     let c₄ = c₃ .before .before .before .before .before in
-    line-ready (c₄ .args .allowance) (c₄ .args .strip) (c₄ .args .root) (c₄ .args .outer .now) (c₂ .own-source .result .now) (c₃ .if1 .left) (c₂ .own-source .ensures) (c₄ .pre .1) (c₁ .dump-source .ensures)
+    line-ready (opened (c₃ .if1 .left) (c₂ .own-source .ensures) (c₄ .pre .1)) (c₁ .dump-source .ensures)
 
 dump-function-dump-word-requires-2 : (t : ℕ) → dump-function-lts.Need-dump-word-requires-2 (dump-function-calls t) (dump-function-at t) dump-function.Post
 dump-function-dump-word-requires-2 t c κs =
     let c₁ = c .before .before .before in let c₂ = c₁ .before .before .before .before in let c₃ = c₂ .before .before in
     let c₄ = c₃ .before in let c₅ = c₄ .before .before .before .before .before in
-    last-ready (c₅ .args .allowance) (c₅ .args .strip) (c₅ .args .root) (c₅ .args .outer .now) (c₃ .own-source .result .now) (c₄ .if1 .left) (c₃ .own-source .ensures) (c₅ .pre .1) (c₂ .dump-source .ensures) (c₁ .dump-word .ensures)
+    last-ready (opened (c₄ .if1 .left) (c₃ .own-source .ensures) (c₅ .pre .1)) (c₂ .dump-source .ensures) (c₁ .dump-word .ensures)
 
 dump-function-dump-packed-requires : (t : ℕ) → dump-function-lts.Need-dump-packed-requires (dump-function-calls t) (dump-function-at t) dump-function.Post
 dump-function-dump-packed-requires t c κs =
     let c₁ = c .before .before .before in let c₂ = c₁ .before .before .before .before in
     let c₃ = c₂ .before .before .before .before in let c₄ = c₃ .before .before in let c₅ = c₄ .before in
     let c₆ = c₅ .before .before .before .before .before in
-    packed-ready (c₆ .args .allowance) (c₆ .args .strip) (c₆ .args .root) (c₆ .args .outer .now) (c₄ .own-source .result .now) (c₅ .if1 .left) (c₄ .own-source .ensures) (c₆ .pre .1) (c₃ .dump-source .ensures) (c₂ .dump-word .ensures) (c₁ .dump-word2 .ensures)
+    packed-ready (opened (c₅ .if1 .left) (c₄ .own-source .ensures) (c₆ .pre .1)) (c₃ .dump-source .ensures) (c₂ .dump-word .ensures) (c₁ .dump-word2 .ensures)
 
 dump-function-dump-code-requires : (t : ℕ) → dump-function-lts.Need-dump-code-requires (dump-function-calls t) (dump-function-at t) dump-function.Post
 dump-function-dump-code-requires t c κs =
     let c₁ = c .before .before .before in let c₂ = c₁ .before .before .before .before in
     let c₃ = c₂ .before .before .before .before in let c₄ = c₃ .before .before .before .before in
     let c₅ = c₄ .before .before in let c₆ = c₅ .before in let c₇ = c₆ .before .before .before .before .before in
-    code-ready (c₇ .args .allowance) (c₇ .args .strip) (c₇ .args .root) (c₇ .args .outer .now) (c₅ .own-source .result .now) (c₆ .if1 .left) (c₅ .own-source .ensures) (c₇ .pre .1) (c₄ .dump-source .ensures) (c₃ .dump-word .ensures) (c₂ .dump-word2 .ensures) (c₁ .dump-packed .ensures)
+    code-ready (opened (c₆ .if1 .left) (c₅ .own-source .ensures) (c₇ .pre .1)) (c₄ .dump-source .ensures) (c₃ .dump-word .ensures) (c₂ .dump-word2 .ensures) (c₁ .dump-packed .ensures)
 
 dump-function-dump-constants-requires : (t : ℕ) → dump-function-lts.Need-dump-constants-requires (dump-function-calls t) (dump-function-at t) dump-function.Post
 dump-function-dump-constants-requires t c κs =
@@ -139,7 +139,7 @@ dump-function-dump-constants-requires t c κs =
     let c₃ = c₂ .before .before .before .before in let c₄ = c₃ .before .before .before .before in
     let c₅ = c₄ .before .before .before .before in let c₆ = c₅ .before .before in let c₇ = c₆ .before in
     let c₈ = c₇ .before .before .before .before .before in
-    (omega (arith, c₈ .pre .0, c₇ .if1 .left), constants-ready (c₈ .args .allowance) (c₈ .args .strip) (c₈ .args .root) (c₈ .args .outer .now) (c₆ .own-source .result .now) (c₇ .if1 .left) (c₆ .own-source .ensures) (c₈ .pre .1) (c₅ .dump-source .ensures) (c₄ .dump-word .ensures) (c₃ .dump-word2 .ensures) (c₂ .dump-packed .ensures) (c₁ .dump-code .ensures))
+    (omega (arith, c₈ .pre .0, c₇ .if1 .left), constants-ready (opened (c₇ .if1 .left) (c₆ .own-source .ensures) (c₈ .pre .1)) (c₅ .dump-source .ensures) (c₄ .dump-word .ensures) (c₃ .dump-word2 .ensures) (c₂ .dump-packed .ensures) (c₁ .dump-code .ensures))
 
 dump-function-dump-debug-requires : (t : ℕ) → dump-function-lts.Need-dump-debug-requires (dump-function-calls t) (dump-function-at t) dump-function.Post
 dump-function-dump-debug-requires t c κs =
@@ -147,7 +147,7 @@ dump-function-dump-debug-requires t c κs =
     let c₃ = c₂ .before .before .before .before in let c₄ = c₃ .before .before .before .before in
     let c₅ = c₄ .before .before .before .before in let c₆ = c₅ .before .before .before .before in
     let c₇ = c₆ .before .before in let c₈ = c₇ .before in let c₉ = c₈ .before .before .before .before .before in
-    debug-ready (c₉ .args .allowance) (c₉ .args .strip) (c₉ .args .root) (c₉ .args .outer .now) (c₇ .own-source .result .now) (c₈ .if1 .left) (c₇ .own-source .ensures) (c₉ .pre .1) (c₆ .dump-source .ensures) (c₅ .dump-word .ensures) (c₄ .dump-word2 .ensures) (c₃ .dump-packed .ensures) (c₂ .dump-code .ensures) (c₁ .dump-constants .ensures)
+    debug-ready (opened (c₈ .if1 .left) (c₇ .own-source .ensures) (c₉ .pre .1)) (c₆ .dump-source .ensures) (c₅ .dump-word .ensures) (c₄ .dump-word2 .ensures) (c₃ .dump-packed .ensures) (c₂ .dump-code .ensures) (c₁ .dump-constants .ensures)
 
 dump-function-same-length : (t : ℕ) → dump-function-lts.Need-same-length (dump-function-calls t) (dump-function-at t) dump-function.Post
 dump-function-same-length t c =
@@ -164,7 +164,7 @@ dump-function-returns-2 t c =
     let c₅ = c₄ .before .before .before .before in let c₆ = c₅ .before .before .before .before in
     let c₇ = c₆ .before .before .before .before in let c₈ = c₇ .before .before in let c₉ = c₈ .before in
     let c₁₀ = c₉ .before .before .before .before .before in
-    function-dumped (c₁₀ .args .allowance) (c₁₀ .args .strip) (c₁₀ .args .root) (c₁₀ .args .outer .now) (c₈ .own-source .result .now) (c₉ .if1 .left) (c₈ .own-source .ensures) (c₇ .dump-source .ensures) (c₆ .dump-word .ensures) (c₅ .dump-word2 .ensures) (c₄ .dump-packed .ensures) (c₃ .dump-code .ensures) (c₂ .dump-constants .ensures) (c₁ .dump-debug .ensures)
+    function-dumped (c₁₀ .args .allowance) (c₁₀ .args .strip) _ (c₁₀ .args .outer .now) (c₈ .own-source .result .now) (c₉ .if1 .left) (c₈ .own-source .ensures) (c₇ .dump-source .ensures) (c₆ .dump-word .ensures) (c₅ .dump-word2 .ensures) (c₄ .dump-packed .ensures) (c₃ .dump-code .ensures) (c₂ .dump-constants .ensures) (c₁ .dump-debug .ensures)
 
 pub +dump-constants+dump-function-spec : {M : Type 1} → statement M
 +dump-constants+dump-function-spec = close μ-dump-constants μ-dump-function (λ t. dump-constants-lts.spec
