@@ -16,10 +16,10 @@ use Rattle.dump.proofs.Functions.{constants-dumped, function-dumped}
 use borrow.Fn.Kinds.{In}
 use borrow.Fn.PlainCycle.{Measures, is, falls, and}
 use Rattle.dump.proofs.count.count_constants.Reads as count-constants
-use Rattle.dump.proofs.count.count_constants.Kinds as count-constants-kinds
+use Rattle.dump.proofs.count.count_constants.Kinds as constants-kinds
 use Rattle.dump.proofs.count.+count_constants+count_function.Lts-count_constants as count-constants-lts
 use Rattle.dump.proofs.count.count_function.Reads as count-function
-use Rattle.dump.proofs.count.count_function.Kinds as count-function-kinds
+use Rattle.dump.proofs.count.count_function.Kinds as function-kinds
 use Rattle.dump.proofs.count.+count_constants+count_function.Lts-count_function as count-function-lts
 use Rattle.dump.proofs.count.ahead.Reads as ahead-reads
 use Rattle.dump.proofs.count.count_code.Reads as count-code-reads
@@ -31,43 +31,23 @@ use Rattle.proto.proofs.walk.word_at.Reads as word-at-reads
 use Rattle.dump.proofs.count.+count_constants+count_function.{statement}
 use Rattle.dump.proofs.count.+count_constants+count_function.Tie.{close}
 
-abbrev μ-count-constants : Measures 2 count-constants-kinds.ps ℕ
-μ-count-constants κs a = a .1 .1 .1 .1 .1 .0 + a .1 .1 .1 .1 .1 .0 + 1
+abbrev μ-constants : Measures 2 constants-kinds.ps ℕ
+μ-constants κs a = a .1 .1 .1 .1 .1 .0 + a .1 .1 .1 .1 .1 .0 + 1
 
-abbrev μ-count-function : Measures 2 count-function-kinds.ps ℕ
-μ-count-function κs a = a .1 .1 .1 .1 .1 .1 .0 + a .1 .1 .1 .1 .1 .1 .0
+abbrev μ-function : Measures 2 function-kinds.ps ℕ
+μ-function κs a = a .1 .1 .1 .1 .1 .1 .0 + a .1 .1 .1 .1 .1 .1 .0
 
-abbrev count-constants-at : ℕ → In 2 count-constants-kinds.ps
-count-constants-at t =
-    and
-    2
-    count-constants-kinds.ps
-    (is 2 count-constants-kinds.ps μ-count-constants t)
-    count-constants.Pre
+abbrev count-constants-at : ℕ → In 2 constants-kinds.ps
+count-constants-at t = and 2 constants-kinds.ps (is 2 constants-kinds.ps μ-constants t) count-constants.Pre
 
-abbrev count-constants-below : ℕ → In 2 count-constants-kinds.ps
-count-constants-below t =
-    and
-    2
-    count-constants-kinds.ps
-    (falls 2 count-constants-kinds.ps _<_ μ-count-constants t)
-    count-constants.Pre
+abbrev count-constants-below : ℕ → In 2 constants-kinds.ps
+count-constants-below t = and 2 constants-kinds.ps (falls 2 constants-kinds.ps _<_ μ-constants t) count-constants.Pre
 
-abbrev count-function-at : ℕ → In 2 count-function-kinds.ps
-count-function-at t =
-    and
-    2
-    count-function-kinds.ps
-    (is 2 count-function-kinds.ps μ-count-function t)
-    count-function.Pre
+abbrev count-function-at : ℕ → In 2 function-kinds.ps
+count-function-at t = and 2 function-kinds.ps (is 2 function-kinds.ps μ-function t) count-function.Pre
 
-abbrev count-function-below : ℕ → In 2 count-function-kinds.ps
-count-function-below t =
-    and
-    2
-    count-function-kinds.ps
-    (falls 2 count-function-kinds.ps _<_ μ-count-function t)
-    count-function.Pre
+abbrev count-function-below : ℕ → In 2 function-kinds.ps
+count-function-below t = and 2 function-kinds.ps (falls 2 function-kinds.ps _<_ μ-function t) count-function.Pre
 
 abbrev count-constants-calls : ℕ → count-constants-lts.Claims
 count-constants-calls t = (count-values-reads.Asked, count-values-reads.Learnt, word-at-reads.Asked, word-at-reads.Learnt, ahead-reads.Asked, ahead-reads.Learnt, count-function-below t, count-function.Post)
@@ -100,7 +80,7 @@ count-function-returns-2 t c =
     function-dumped (a .allowance) (a .strip) _ (a .outer .now) (c₇ .own-source .result .now) (c₈ .if1 .left) (c₇ .own-source .ensures) (c₆ .count-source .ensures) (word-counted (c₅ .ahead .ensures)) (word-counted (c₄ .ahead2 .ensures)) (packed-counted (c₃ .ahead3 .ensures)) (c₂ .count-code .ensures) (c₁ .count-constants .ensures) (λ g. c .count-debug .ensures g _)
 
 pub +count-constants+count-function-spec : {M : Type 1} → statement M
-+count-constants+count-function-spec = close μ-count-constants μ-count-function (λ t. count-constants-lts.spec
++count-constants+count-function-spec = close μ-constants μ-function (λ t. count-constants-lts.spec
     (count-constants-calls t) (count-constants-at t) count-constants.Post count-constants-Inv-loop
     count-constants-μ-loop
     (λ c. search needs) (λ c. search needs)  -- count-values-requires, word-at-requires

@@ -14,10 +14,10 @@ use Rattle.dump.proofs.Functions.{constants-dumped, function-dumped, op
 use borrow.Fn.Kinds.{In}
 use borrow.Fn.PlainCycle.{Measures, is, falls, and}
 use Rattle.dump.proofs.function.dump_constants.Reads as dump-constants
-use Rattle.dump.proofs.function.dump_constants.Kinds as dump-constants-kinds
+use Rattle.dump.proofs.function.dump_constants.Kinds as constants-kinds
 use Rattle.dump.proofs.function.+dump_constants+dump_function.Lts-dump_constants as dump-constants-lts
 use Rattle.dump.proofs.function.dump_function.Reads as dump-function
-use Rattle.dump.proofs.function.dump_function.Kinds as dump-function-kinds
+use Rattle.dump.proofs.function.dump_function.Kinds as function-kinds
 use Rattle.dump.proofs.function.+dump_constants+dump_function.Lts-dump_function as dump-function-lts
 use Rattle.dump.proofs.function.dump_source.Reads as dump-source-reads
 use Rattle.dump.proofs.list.dump_code.Reads as dump-code-reads
@@ -30,39 +30,23 @@ use Rattle.proto.proofs.walk.word_at.Reads as word-at-reads
 use Rattle.dump.proofs.function.+dump_constants+dump_function.{statement}
 use Rattle.dump.proofs.function.+dump_constants+dump_function.Tie.{close}
 
-abbrev μ-dump-constants : Measures 3 dump-constants-kinds.ps ℕ
-μ-dump-constants κs a = a .1 .1 .1 .1 .1 .1 .0 + a .1 .1 .1 .1 .1 .1 .0 + 1
+abbrev μ-constants : Measures 3 constants-kinds.ps ℕ
+μ-constants κs a = a .1 .1 .1 .1 .1 .1 .0 + a .1 .1 .1 .1 .1 .1 .0 + 1
 
-abbrev μ-dump-function : Measures 3 dump-function-kinds.ps ℕ
-μ-dump-function κs a = a .1 .1 .1 .1 .1 .1 .1 .0 + a .1 .1 .1 .1 .1 .1 .1 .0
+abbrev μ-function : Measures 3 function-kinds.ps ℕ
+μ-function κs a = a .1 .1 .1 .1 .1 .1 .1 .0 + a .1 .1 .1 .1 .1 .1 .1 .0
 
-abbrev dump-constants-at : ℕ → In 3 dump-constants-kinds.ps
-dump-constants-at t =
-    and
-    3
-    dump-constants-kinds.ps
-    (is 3 dump-constants-kinds.ps μ-dump-constants t)
-    dump-constants.Pre
+abbrev dump-constants-at : ℕ → In 3 constants-kinds.ps
+dump-constants-at t = and 3 constants-kinds.ps (is 3 constants-kinds.ps μ-constants t) dump-constants.Pre
 
-abbrev dump-constants-below : ℕ → In 3 dump-constants-kinds.ps
-dump-constants-below t =
-    and
-    3
-    dump-constants-kinds.ps
-    (falls 3 dump-constants-kinds.ps _<_ μ-dump-constants t)
-    dump-constants.Pre
+abbrev dump-constants-below : ℕ → In 3 constants-kinds.ps
+dump-constants-below t = and 3 constants-kinds.ps (falls 3 constants-kinds.ps _<_ μ-constants t) dump-constants.Pre
 
-abbrev dump-function-at : ℕ → In 3 dump-function-kinds.ps
-dump-function-at t =
-    and 3 dump-function-kinds.ps (is 3 dump-function-kinds.ps μ-dump-function t) dump-function.Pre
+abbrev dump-function-at : ℕ → In 3 function-kinds.ps
+dump-function-at t = and 3 function-kinds.ps (is 3 function-kinds.ps μ-function t) dump-function.Pre
 
-abbrev dump-function-below : ℕ → In 3 dump-function-kinds.ps
-dump-function-below t =
-    and
-    3
-    dump-function-kinds.ps
-    (falls 3 dump-function-kinds.ps _<_ μ-dump-function t)
-    dump-function.Pre
+abbrev dump-function-below : ℕ → In 3 function-kinds.ps
+dump-function-below t = and 3 function-kinds.ps (falls 3 function-kinds.ps _<_ μ-function t) dump-function.Pre
 
 abbrev dump-constants-calls : ℕ → dump-constants-lts.Claims
 dump-constants-calls t = (dump-values-reads.Asked, dump-values-reads.Learnt, word-at-reads.Asked, word-at-reads.Learnt, dump-word-reads.Asked, dump-word-reads.Learnt, dump-function-below t, dump-function.Post)
@@ -167,7 +151,7 @@ dump-function-returns-2 t c =
     function-dumped (c₁₀ .args .allowance) (c₁₀ .args .strip) _ (c₁₀ .args .outer .now) (c₈ .own-source .result .now) (c₉ .if1 .left) (c₈ .own-source .ensures) (c₇ .dump-source .ensures) (c₆ .dump-word .ensures) (c₅ .dump-word2 .ensures) (c₄ .dump-packed .ensures) (c₃ .dump-code .ensures) (c₂ .dump-constants .ensures) (c₁ .dump-debug .ensures)
 
 pub +dump-constants+dump-function-spec : {M : Type 1} → statement M
-+dump-constants+dump-function-spec = close μ-dump-constants μ-dump-function (λ t. dump-constants-lts.spec
++dump-constants+dump-function-spec = close μ-constants μ-function (λ t. dump-constants-lts.spec
     (dump-constants-calls t) (dump-constants-at t) dump-constants.Post dump-constants-Inv-loop dump-constants-μ-loop
     (dump-constants-dump-values-requires t)
     (λ c. search needs)  -- word-at-requires
