@@ -1,18 +1,24 @@
 -- The chunk of the tree that a store holds, and the call.
-use Prim.Native.Nat.{ℕ, zero-le, _+_, _*_, _≤_, _<_}
-use mathlib.Core.Path.{_≡_, ap}
+use Prim.Native.Nat.{ℕ, zero-le, _+_, _*_, _^_, _≤_, _<_}
+use mathlib.Core.Path.{_≡_, sym, ap, _∙_}
 use mathlib.Core.List.{List, []}
-use mathlib.Core.Bool.{Bool}
+use mathlib.Core.Bool.{Bool, true, false, not}
 use native.Mathlib.Omega.{arith}
 use lib.ListN.{length, length-append}
+use borrow.Author.Tests.{not-true, not-false}
 use Rattle.lent.specs.Memory.{far, Puts}
 use Rattle.lent.proofs.Writes.{put-length, put-then}
 use Rattle.format.specs.Tree.{Function}
 use Rattle.format.specs.Store.{functionPiece}
 use Rattle.format.specs.Valid.{depth, Valid, Holds}
 use Rattle.format.specs.Write.{dumpHeader, dumpFunction, dumpChunk}
+use Rattle.format.specs.Stored.{treeOf}
+use Rattle.format.specs.Undump.{nameOk}
+use Rattle.format.specs.Dump.{writeLeft, writeRefused, dumped}
+use Rattle.format.specs.declared.Written.{Written}
+use Rattle.proto.specs.Formed.{isHeld}
 use Rattle.proto.proofs.Stores.{held-tree}
-use Rattle.proto.proofs.Calls.{root-stands}
+use Rattle.proto.proofs.Calls.{root-stands, refused-name, refused-store, roomy-written, refused-room, all-written}
 use Rattle.dump.specs.Step.{Reached, Dumps, Ready, ChunkFits}
 use Rattle.dump.proofs.Bounds.{chunk-bound}
 
@@ -20,16 +26,6 @@ pub chunk-puts : {words text out out₁ : List ℕ} {a : ℕ} {r : Reached} (str
     → ((f : Function) → Valid f depth → Dumps words text (functionPiece f) (dumpFunction f strip [] name) (record { at = 0; len = a; out = out₁ }) r)
     → (f : Function) → Holds words text f → Puts (dumpChunk strip name f) 0 out (r .len) (r .out)
 chunk-puts strip name p d f h = put-then p (d f (h .valid) .dumps 0 (root-stands h) .1)
-
--- there is room for the chunk of any tree that the store holds
-pub roomy : {words text : List ℕ} {space : ℕ} (strip : Bool) (name : List ℕ) → 12 + 5 * length words + length text + length name ≤ space
-    → (f : Function) → Holds words text f → length (dumpChunk strip name f) ≤ space
-roomy strip name h f t = let b = chunk-bound f strip name in omega (arith, b, ap length (t .words-are), ap length (t .text-is))
-
--- and where it was counted and is no longer than the space
-pub counted-room : {words text : List ℕ} {space n : ℕ} (strip : Bool) (name : List ℕ) → ((f : Function) → Holds words text f → Puts (dumpChunk strip name f) 0 [] n []) → n ≤ space → space < far
-    → (f : Function) → Holds words text f → length (dumpChunk strip name f) ≤ space
-counted-room strip name p h k f t = let x = p f t .puts zero-le zero-le in omega (arith, x .0)
 
 -- ---- what the chunk asks for
 
@@ -46,3 +42,42 @@ module _ {words text name out : List ℕ} {strip : Bool} (r : ChunkFits words te
       let e : length out₁ ≡ length out = put-length p zero-le k in
       held-tree words text (λ x. Ready words text (λ f. Valid f depth) functionPiece (λ f. dumpFunction f strip [] name) (record { at = 0; len = 12; out = out₁ })) (r .held)
       (λ f t. record { value = f; valid = t .valid; fits = record { to = 0; stands = root-stands t; room = omega (arith, chunk-length strip name f, r .room f t); small = omega arith } })
+
+-- ---- the call, by what the tests of the name, of the store and of the room said
+
+module _ (words text name out : List ℕ) (strip : Bool) where
+  pub name-refused : {b : Bool} {r : Written} → b ≡ nameOk name → not b ≡ true → r ≡ writeRefused 1 [] .answer → writeLeft r out ≡ dumped words text name strip out
+  unfolding dumped
+  name-refused e t q = rw q (refused-name (λ f. dumpChunk strip name f) words text name out (sym e ∙ not-true _ t))
+
+  module _ {c : Bool} (f : c ≡ isHeld (treeOf words text)) where
+    pub store-refused : {b : Bool} {r : Written} → b ≡ nameOk name → not b ≡ false → not c ≡ true → r ≡ writeRefused 10 [] .answer → writeLeft r out ≡ dumped words text name strip out
+    unfolding dumped
+    store-refused e t u q = rw q (refused-store (λ f. dumpChunk strip name f) words text name out (sym e ∙ not-false _ t) (sym f ∙ not-true _ u))
+
+    module _ (u : not c ≡ false) (small : length out * 1 < 2 ^ 63) where
+      -- there is room for the chunk of any tree that the store holds
+      module _ {d : Bool} (room : d ≡ true → 12 + 5 * length words + length text + length name ≤ length out) (yes : d ≡ true) where
+        pub roomy-fits : ChunkFits words text name strip out
+        roomy-fits =
+            record { held = sym f ∙ not-false _ u; room = λ g t. omega (arith, chunk-bound g strip name, ap length (t .words-are), ap length (t .text-is), room yes); small = omega arith }
+
+        pub roomy-dumped : {b : Bool} {n : ℕ} {out′ : List ℕ} → b ≡ nameOk name → not b ≡ false → ((g : Function) → Holds words text g → Puts (dumpChunk strip name g) 0 out n out′)
+            → writeLeft (record { refusal = 0; len = n }) out′ ≡ dumped words text name strip out
+        unfolding dumped
+        roomy-dumped e t p = roomy-written (λ f. dumpChunk strip name f) words text name out (sym e ∙ not-false _ t) (sym f ∙ not-false _ u) (omega arith) (roomy-fits .room) p
+
+      -- it was counted
+      module _ {n : ℕ} (counts : (g : Function) → Holds words text g → Puts (dumpChunk strip name g) 0 [] n []) where
+        pub counted-fits : n ≤ length out → ChunkFits words text name strip out
+        counted-fits h = record { held = sym f ∙ not-false _ u; room = λ g t. let x = counts g t .puts zero-le zero-le in omega (arith, x .0); small = omega arith }
+
+        module _ {b : Bool} (e : b ≡ nameOk name) (t : not b ≡ false) where
+          pub room-refused : {r : Written} → length out < n → r ≡ writeRefused 11 [] .answer → writeLeft r out ≡ dumped words text name strip out
+          unfolding dumped
+          room-refused h q = rw q (refused-room (λ f. dumpChunk strip name f) words text name out (sym e ∙ not-false _ t) (sym f ∙ not-false _ u) counts (omega arith) h)
+
+          pub counted-dumped : {m : ℕ} {out′ : List ℕ} → n ≤ length out → ((g : Function) → Holds words text g → Puts (dumpChunk strip name g) 0 out m out′)
+              → writeLeft (record { refusal = 0; len = n }) out′ ≡ dumped words text name strip out
+          unfolding dumped
+          counted-dumped h p = all-written (λ f. dumpChunk strip name f) words text name out (sym e ∙ not-false _ t) (sym f ∙ not-false _ u) counts (omega arith) h p
