@@ -1,9 +1,8 @@
 -- The bytes of integers, sizes and strings: stored one by one, and in a loop.
 use Prim.Native.Nat.{ℕ, suc, _+_, _*_, _/_, _%_, _≤_, _<_}
-use mathlib.Core.Path.{_≡_, refl, sym, ap, _∙_}
+use mathlib.Core.Path.{_≡_, refl, sym, _∙_}
 use mathlib.Core.List.{List, [], _∷_, _++_, append-assoc, append-nil}
 use native.Mathlib.Omega.{arith}
-use native.Mathlib.Nat.{mul-suc}
 use native.Mathlib.Numerals.{add-one}
 use lib.ListN.{length, take, getD, set, length-append}
 use lib.Seq.{sets, take-suc, take-length, length-take-le}
@@ -22,7 +21,8 @@ int-bytes n =
     rw (a, b)
 
 pub int-length : (n : ℕ) → length (dumpInt n) ≡ 4
-int-length n = ap length (int-bytes n)
+unfolding dumpNumber
+int-length n = refl
 
 -- its four bytes, each at its place
 pub int-stored : (out : List ℕ) (at n : ℕ) → set (set (set (set out at (n % 256)) (at + 1) (n / 256 % 256)) (at + 2) (n / 65536 % 256)) (at + 3) (n / 16777216 % 256) ≡ sets out at (dumpInt n)
@@ -56,15 +56,15 @@ pub stored-then : {l m : List ℕ} (a b out : List ℕ) (at k : ℕ) → length 
 stored-then a b out at k n e f = f ∙ rw (e, ← n) (sets-append a out b at)
 
 pub size-length : (n : ℕ) → length (dumpSize n) ≡ 8
-size-length n = rw (size-ints n) (length-append (dumpInt (n % 4294967296)) _ ∙ rw (int-length (n % 4294967296), int-length (n / 4294967296)))
+unfolding dumpNumber
+size-length n = refl
 
 pub size-stored : {out₁ out₂ : List ℕ} (out : List ℕ) (at n : ℕ) → out₁ ≡ sets out at (dumpInt (n % 4294967296)) → out₂ ≡ sets out₁ (at + 4) (dumpInt (n / 4294967296)) → out₂ ≡ sets out at (dumpSize n)
 size-stored out at n e f = rw (size-ints n) (stored-then (dumpInt (n % 4294967296)) (dumpInt (n / 4294967296)) out at 4 (int-length (n % 4294967296)) e f)
 
 pub string-length : (s : List ℕ) → length (dumpText s) ≡ length s + 9
-string-length s =
-    let a : length (dumpSize (length s + 1) ++ s) ≡ 8 + length s = length-append (dumpSize (length s + 1)) s ∙ rw (size-length (length s + 1)) in
-    length-append (dumpSize (length s + 1) ++ s) (0 ∷ []) ∙ omega (arith, a)
+unfolding dumpNumber
+string-length s = simp length-append (omega arith)
 
 pub string-stored : {out₁ out₂ : List ℕ} (out s : List ℕ) (at : ℕ) → out₁ ≡ sets out at (dumpSize (length s + 1)) → out₂ ≡ sets out₁ (at + 8) (take (length s) s)
     → set out₂ (at + 8 + length s) 0 ≡ sets out at (dumpText s)
@@ -86,13 +86,10 @@ unfolding each
 each-append e [] t = refl
 each-append e (a ∷ s) t = rw (each-append e s t) (sym (append-assoc (e a) (each e s) (each e t)))
 
-pub each-length : {A : Type 0} (e : A → List ℕ) (k : ℕ) → ((a : A) → length (e a) ≡ k) → (l : List A) → length (each e l) ≡ k * length l
-unfolding each
-each-length e k h [] = omega arith
-each-length e k h (a ∷ l) = length-append (e a) (each e l) ∙ rw (h a, each-length e k h l, mul-suc k (length l)) (omega arith)
-
 pub ints-length : (l : List ℕ) → length (each dumpInt l) ≡ 4 * length l
-ints-length l = each-length dumpInt 4 int-length l
+unfolding each
+ints-length [] = refl
+ints-length (n ∷ l) = length-append (dumpInt n) (each dumpInt l) ∙ omega (arith, int-length n, ints-length l)
 
 pub code-length : (l : List ℕ) → length (dumpList dumpInt l) ≡ 4 + 4 * length l
 code-length l = length-append (dumpInt (length l)) (each dumpInt l) ∙ rw (int-length (length l), ints-length l)

@@ -26,8 +26,7 @@ use Rattle.proto.proofs.Stores.{children-count, children-list, every-valid}
 use Rattle.dump.specs.Step.{Reached, Dumps, Fits, Ready, SourceFits, Any, constantsPiece, around}
 use Rattle.dump.proofs.Blocks.{int-length, size-length, string-length, puts-in}
 use Rattle.dump.proofs.Steps.{Item, item, Made, made-two, Left, dumps-past, dumps-made, wrote-none, wrote-next, left-made, left-first, left-rest, Step, WordStep, PackedStep, CodeStep, WordRoom, CodeRoom, place, word-fits, code-fits, three-within}
-use Rattle.dump.proofs.Lists.{DumpsAll, looped}
-use Rattle.dump.proofs.Counts.{puts-counted}
+use Rattle.dump.proofs.Lists.{DumpsAll, looped, puts-counted}
 
 -- ---- the source
 

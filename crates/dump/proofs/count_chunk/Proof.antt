@@ -1,7 +1,7 @@
 -- The header, and behind it the root.
 use borrow.Author.Needs.{needs}
 use mathlib.Core.Path.{refl}
-use Rattle.dump.proofs.Counts.{puts-counted}
+use Rattle.dump.proofs.Lists.{puts-counted}
 use Rattle.dump.proofs.Calls.{chunk-puts}
 use Rattle.dump.proofs.count_chunk.Statement.{statement}
 use Rattle.dump.proofs.count_chunk.Tie as tie

@@ -23,9 +23,9 @@ returns c = let e : c .before .loop .i ≡ length (c .before .before .before .be
 pub dump-ints-spec : {M : Type 1} → statement M
 dump-ints-spec = tie.close (tie.spec Inv-loop μ-loop
     (λ c. search (needs, ints-start))  -- loop-holds
-    (λ c. omega arith) (λ c. omega arith) (λ c. omega arith)  -- mul-dump-int, add-dump-int, mul-dump-int-2
-    (λ c. omega arith) (λ c. search needs) (λ c. omega arith)  -- shared-slice-read-dump-int, dump-int-requires, add-i
-    (λ c. omega arith)  -- loop-less
+    (λ c. search needs) (λ c. search needs) (λ c. search needs)  -- mul-dump-int, add-dump-int, mul-dump-int-2
+    (λ c. search needs) (λ c. search needs) (λ c. search needs)  -- shared-slice-read-dump-int, dump-int-requires, add-i
+    (λ c. search needs)  -- loop-less
     (λ c. search (needs, ints-turn))  -- loop-again
     (λ c. search needs)  -- same-length
     returns)

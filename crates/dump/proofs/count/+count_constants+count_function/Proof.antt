@@ -10,8 +10,7 @@ use Rattle.format.specs.Write.{dumpFunction}
 use Rattle.format.proofs.Loops.{Loop, loop-start, loop-turn}
 use Rattle.proto.proofs.Walks.{none-deep}
 use Rattle.dump.specs.Step.{reached}
-use Rattle.dump.proofs.Lists.{DumpsAll, all-more}
-use Rattle.dump.proofs.Counts.{word-counted, packed-counted}
+use Rattle.dump.proofs.Lists.{DumpsAll, all-more, word-counted, packed-counted}
 use Rattle.dump.proofs.Functions.{constants-dumped, function-dumped}
 use borrow.Fn.Kinds.{In}
 use borrow.Fn.PlainCycle.{Measures, is, falls, and}

@@ -2,7 +2,7 @@
 use borrow.Author.Needs.{needs}
 use native.Mathlib.Omega.{arith}
 use Prim.Native.Nat.{_+_}
-use Rattle.dump.proofs.Counts.{constant-counted}
+use Rattle.dump.proofs.Lists.{constant-counted}
 use Rattle.dump.proofs.count.count_constant.Statement.{statement}
 use Rattle.dump.proofs.count.count_constant.Tie as tie
 

@@ -2,7 +2,7 @@
 use borrow.Author.Needs.{needs}
 use native.Mathlib.Omega.{arith}
 use Prim.Native.Nat.{_+_}
-use Rattle.dump.proofs.Counts.{local-counted}
+use Rattle.dump.proofs.Lists.{local-counted}
 use Rattle.dump.proofs.count.count_local.Statement.{statement}
 use Rattle.dump.proofs.count.count_local.Tie as tie
 

@@ -2,7 +2,7 @@
 use borrow.Author.Needs.{needs}
 use native.Mathlib.Omega.{arith}
 use Prim.Native.Nat.{_+_}
-use Rattle.dump.proofs.Counts.{name-counted}
+use Rattle.dump.proofs.Lists.{name-counted}
 use Rattle.dump.proofs.count.count_name.Statement.{statement}
 use Rattle.dump.proofs.count.count_name.Tie as tie
 

@@ -22,7 +22,7 @@ dump-locals-spec = tie.close (tie.spec Inv-loop μ-loop
     (λ c. search (needs, count-ready))  -- dump-word-requires
     (λ c. search (needs, any-start))  -- loop-holds
     (λ c. search (needs, writing-next))  -- dump-local-requires
-    (λ c. omega arith) (λ c. omega arith)  -- add-i, loop-less
+    (λ c. search needs) (λ c. search needs)  -- add-i, loop-less
     (λ c. search (needs, any-turn))  -- loop-again
     (λ c. search needs)  -- same-length
     (λ c. search (needs, any-end)))  -- returns
