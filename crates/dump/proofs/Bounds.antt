@@ -24,16 +24,7 @@ record Bound (p : Piece) (b : List ℕ) (x : ℕ) : Type 0 where
   bound : (to : ℕ) → length b ≤ 5 * length (p .words to) + length (p .text) + x
 
 bound-then : {p q : Piece} {b c : List ℕ} {x : ℕ} → Bound p b x → Bound q c 0 → Bound (p ⊕ q) (b ++ c) x
-bound-then {p} {q} {b} {c} d e =
-    record {
-      bound = λ to.
-          let i = d .bound to in
-          let j = e .bound (to + length (p .text)) in
-          let l : length (b ++ c) ≡ length b + length c = length-append b c in
-          let m : length (p .words to ++ q .words (to + length (p .text))) ≡ length (p .words to) + length (q .words (to + length (p .text))) = length-append (p .words to) _ in
-          let n : length (p .text ++ q .text) ≡ length (p .text) + length (q .text) = length-append (p .text) (q .text) in
-          omega (arith, i, j, l, m, n);
-    }
+bound-then {p} d e = record { bound = λ to. simp length-append (omega (arith, d .bound to, e .bound (to + length (p .text)))) }
 
 module _ {A : Type 0} (piece : A → Piece) (bytes : A → List ℕ) where
   bound-each : (l : List A) → Every (λ a. Bound (piece a) (bytes a) 0) l → Bound (pieces piece l) (each bytes l) 0
