@@ -68,12 +68,11 @@ string-length s = simp length-append (omega arith)
 
 pub string-stored : {out₁ out₂ : List ℕ} (out s : List ℕ) (at : ℕ) → out₁ ≡ sets out at (dumpSize (length s + 1)) → out₂ ≡ sets out₁ (at + 8) (take (length s) s)
     → set out₂ (at + 8 + length s) 0 ≡ sets out at (dumpText s)
-string-stored {out₂ = out₂} out s at e g =
-    let size = length s + 1 in
-    let b : out₂ ≡ sets out at (dumpSize size ++ s) = stored-then (dumpSize size) s out at 8 (size-length size) e (g ∙ rw (take-length s)) in
-    let n : length (dumpSize size ++ s) ≡ 8 + length s = length-append (dumpSize size) s ∙ rw (size-length size) in
+unfolding dumpNumber
+string-stored out s at e g =
+    let size = dumpSize (length s + 1) in
     let i : at + 8 + length s ≡ at + (8 + length s) = omega arith in
-    stored-then (dumpSize size ++ s) (0 ∷ []) out at (8 + length s) n b (rw i)
+    stored-then (size ++ s) (0 ∷ []) out at (8 + length s) (omega arith) (stored-then size s out at 8 refl e (g ∙ rw (take-length s))) (rw i)
 
 -- what is stored within the space is written
 pub puts-in : {b out out′ : List ℕ} {at r k : ℕ} → length b ≡ k → at + k ≤ length out → r ≡ at + k → out′ ≡ sets out at b → Puts b at out r out′
@@ -81,10 +80,11 @@ puts-in n h e q = put-within (omega (arith, n)) (omega (arith, n)) q
 
 -- ---- a list
 
-pub each-append : {A : Type 0} (e : A → List ℕ) (s t : List A) → each e (s ++ t) ≡ each e s ++ each e t
+-- one integer more
+each-more : (l : List ℕ) (n : ℕ) → each dumpInt (l ++ n ∷ []) ≡ each dumpInt l ++ dumpInt n
 unfolding each
-each-append e [] t = refl
-each-append e (a ∷ s) t = rw (each-append e s t) (sym (append-assoc (e a) (each e s) (each e t)))
+each-more [] n = append-nil (dumpInt n)
+each-more (a ∷ l) n = rw (each-more l n) (sym (append-assoc (dumpInt a) (each dumpInt l) (dumpInt n)))
 
 pub ints-length : (l : List ℕ) → length (each dumpInt l) ≡ 4 * length l
 unfolding each
@@ -93,10 +93,6 @@ ints-length (n ∷ l) = length-append (dumpInt n) (each dumpInt l) ∙ omega (ar
 
 pub code-length : (l : List ℕ) → length (dumpList dumpInt l) ≡ 4 + 4 * length l
 code-length l = length-append (dumpInt (length l)) (each dumpInt l) ∙ rw (int-length (length l), ints-length l)
-
-each-one : (n : ℕ) → each dumpInt (n ∷ []) ≡ dumpInt n
-unfolding each
-each-one n = append-nil (dumpInt n)
 
 pub ints-start : (out l : List ℕ) (at : ℕ) → out ≡ sets out at (each dumpInt (take 0 l))
 unfolding each
@@ -107,5 +103,5 @@ pub ints-turn : {out out′ : List ℕ} (out₀ l : List ℕ) (at i : ℕ) → i
     → out′ ≡ sets out₀ at (each dumpInt (take (i + 1) l))
 ints-turn out₀ l at i h e q =
     let n : length (each dumpInt (take i l)) ≡ 4 * i = ints-length (take i l) ∙ rw (length-take-le i l (omega arith)) in
-    let t : each dumpInt (take (i + 1) l) ≡ each dumpInt (take i l) ++ dumpInt (getD l i 0) = rw (add-one i, take-suc l i 0 h) (each-append dumpInt (take i l) (getD l i 0 ∷ []) ∙ rw (each-one (getD l i 0))) in
+    let t : each dumpInt (take (i + 1) l) ≡ each dumpInt (take i l) ++ dumpInt (getD l i 0) = rw (add-one i, take-suc l i 0 h) (each-more (take i l) (getD l i 0)) in
     rw (q, e, t) (rw n at (sets-append (each dumpInt (take i l)) out₀ (dumpInt (getD l i 0)) at))

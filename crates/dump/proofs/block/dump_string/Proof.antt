@@ -1,18 +1,14 @@
 -- The size, the bytes and the zero are stored one behind the other.
 use borrow.Author.Needs.{needs}
 use mathlib.Core.Path.{_∙_}
-use lib.ListN.{length-set}
 use Rattle.dump.proofs.Blocks.{string-stored}
 use Rattle.dump.proofs.block.dump_string.Statement.{statement}
 use Rattle.dump.proofs.block.dump_string.Tie as tie
-
-same-length : tie.Need-same-length
-same-length c = simp length-set (c .before .before .copy .kept .0 ∙ c .before .before .before .before .before .before .dump-size .kept .0)
 
 pub dump-string-spec : {M : Type 1} → statement M
 dump-string-spec = tie.close (tie.spec
     (λ c. search needs) (λ c. search needs) (λ c. search needs)  -- add-dump-size, dump-size-requires, add-copy
     (λ c. search needs) (λ c. search needs) (λ c. search needs)  -- copy-requires, add-out, add-out-2
     (λ c. search needs)  -- slice-write-out
-    same-length
+    (λ c. search (needs, _∙_))  -- same-length
     (λ c. search (needs, string-stored)))  -- returns

@@ -6,12 +6,6 @@ use Rattle.dump.proofs.Lists.{constant-counted}
 use Rattle.dump.proofs.count.count_constant.Statement.{statement}
 use Rattle.dump.proofs.count.count_constant.Tie as tie
 
-cast-on : tie.Need-cast-on
-cast-on c = let c₁ = c .before .before .before in omega (arith, c₁ .shared-slice-known .given (c₁ .before .args .s .at + 2))
-
-add-on-2 : tie.Need-add-on-2
-add-on-2 c = let c₁ = c .before .before .before in omega (arith, c₁ .shared-slice-known .given (c₁ .before .args .s .at + 2))
-
 returns-4 : tie.Need-returns-4
 returns-4 c = let w = c .before .before .match .rest in constant-counted (c .on4 .ensures) (λ m f. f .3 (w .0 .0 .1) (w .0 .1) (w .1))
 
@@ -20,7 +14,8 @@ count-constant-spec = tie.close (tie.spec
     (λ c. search needs) (λ c. search needs) (λ c. search needs)  -- mul-kind, shared-slice-read-kind, on-requires
     (λ c. search needs) (λ c. search needs) (λ c. search needs)  -- on-requires-2, on-requires-3, add-on
     (λ c. search needs) (λ c. search needs)  -- mul-on, shared-slice-read-on
-    cast-on add-on-2
+    (λ c. omega (arith, c .shared-slice-known3 .given (c .before .before .before .before .args .s .at + 2)))  -- cast-on
+    (λ c. omega (arith, c .shared-slice-known3 .given (c .before .before .before .before .args .s .at + 2)))  -- add-on-2
     (λ c. search needs)  -- on-requires-4
     (λ c. constant-counted (c .on .ensures) (λ m f. f .0 (c .before .match .keys1)))  -- returns
     (λ c. constant-counted (c .on2 .ensures) (λ m f. f .1 (c .before .match .keys2)))  -- returns-2
