@@ -60,19 +60,16 @@ dump-constants-Inv-loop words text strip source out₀ allowance n p₀ i₀ out
 abbrev dump-constants-μ-loop : dump-constants-lts.MeasureT-loop
 dump-constants-μ-loop words text strip source out₀ allowance n p₀ i₀ out p i = n - i
 
-dump-constants-dump-values-requires : (t : ℕ) → dump-constants-lts.Need-dump-values-requires (dump-constants-calls t) (dump-constants-at t) dump-constants.Post dump-constants-Inv-loop dump-constants-μ-loop
-dump-constants-dump-values-requires t c κs = let c₁ = c .before .before .before .before .before in values-ready (c₁ .args .allowance) (c₁ .args .strip) (c₁ .args .source .now) (c₁ .pre .1)
-
 dump-constants-dump-word-requires : (t : ℕ) → dump-constants-lts.Need-dump-word-requires (dump-constants-calls t) (dump-constants-at t) dump-constants.Post dump-constants-Inv-loop dump-constants-μ-loop
 dump-constants-dump-word-requires t c κs =
     let c₁ = c .before .before .before .before in let c₂ = c₁ .before .before .before .before .before .before in
-    count-ready functionPiece _ (children-ready (c₂ .args .allowance) (c₂ .args .strip) (c₂ .args .source .now) (c₂ .pre .1) (c₁ .dump-values .ensures))
+    count-ready functionPiece _ (children-ready _ _ _ (c₂ .pre .1) (c₁ .dump-values .ensures))
 
 dump-constants-loop-holds : (t : ℕ) → dump-constants-lts.Need-loop-holds (dump-constants-calls t) (dump-constants-at t) dump-constants.Post dump-constants-Inv-loop dump-constants-μ-loop
 dump-constants-loop-holds t c =
     let c₁ = c .before .before in let c₂ = c₁ .before .before in let c₃ = c₂ .before .before .before in
-    let c₄ = c₃ .before .before .before .before .before in let c₅ = c₄ .before in
-    writing-start (c₄ .shared-slice-known .given) (c₂ .word-at .ensures) (children-ready (c₅ .args .allowance) (c₅ .args .strip) (c₅ .args .source .now) (c₅ .pre .1) (c₃ .dump-values .ensures)) (c₁ .dump-word .ensures)
+    let c₄ = c₃ .before .before .before .before .before in
+    writing-start (c₄ .shared-slice-known .given) (c₂ .word-at .ensures) (children-ready _ _ _ (c₄ .before .pre .1) (c₃ .dump-values .ensures)) (c₁ .dump-word .ensures)
 
 dump-constants-dump-function-requires : (t : ℕ) → dump-constants-lts.Need-dump-function-requires (dump-constants-calls t) (dump-constants-at t) dump-constants.Post dump-constants-Inv-loop dump-constants-μ-loop
 dump-constants-dump-function-requires t c κs =
@@ -83,55 +80,50 @@ dump-constants-dump-function-requires t c κs =
 dump-constants-returns : (t : ℕ) → dump-constants-lts.Need-returns (dump-constants-calls t) (dump-constants-at t) dump-constants.Post dump-constants-Inv-loop dump-constants-μ-loop
 dump-constants-returns t c =
     let c₁ = c .before in let c₂ = c₁ .before .before .before in let c₃ = c₂ .before .before in
-    let c₄ = c₃ .before .before .before in let c₅ = c₄ .before .before .before .before .before .before in
-    constants-dumped (c₅ .args .allowance) (c₅ .args .strip) (c₅ .args .source .now) (c₄ .dump-values .ensures) (c₃ .word-at .ensures) (c₂ .dump-word .ensures) (c .loop-test .left) (c₁ .loop .inv .loop)
+    constants-dumped _ _ _ (c₃ .before .before .before .dump-values .ensures) (c₃ .word-at .ensures) (c₂ .dump-word .ensures) (c .loop-test .left) (c₁ .loop .inv .loop)
 
 dump-function-dump-source-requires : (t : ℕ) → dump-function-lts.Need-dump-source-requires (dump-function-calls t) (dump-function-at t) dump-function.Post
 dump-function-dump-source-requires t c κs =
-    let c₁ = c .before in let c₂ = c₁ .before in let c₃ = c₂ .before .before .before .before .before in
-    source-ready (opened (c₂ .if1 .left) (c₁ .own-source .ensures) (c₃ .pre .1))
+    let c₁ = c .before in
+    source-ready (opened (c₁ .before .if1 .left) (c₁ .own-source .ensures) (c₁ .before .before .before .before .before .before .pre .1))
 
 dump-function-dump-word-requires : (t : ℕ) → dump-function-lts.Need-dump-word-requires (dump-function-calls t) (dump-function-at t) dump-function.Post
 dump-function-dump-word-requires t c κs =
-    let c₁ = c .before .before .before in let c₂ = c₁ .before .before in let c₃ = c₂ .before in
-    let c₄ = c₃ .before .before .before .before .before in
-    line-ready (opened (c₃ .if1 .left) (c₂ .own-source .ensures) (c₄ .pre .1)) (c₁ .dump-source .ensures)
+    let c₁ = c .before .before .before in let c₂ = c₁ .before .before in
+    line-ready (opened (c₂ .before .if1 .left) (c₂ .own-source .ensures) (c₂ .before .before .before .before .before .before .pre .1)) (c₁ .dump-source .ensures)
 
 dump-function-dump-word-requires-2 : (t : ℕ) → dump-function-lts.Need-dump-word-requires-2 (dump-function-calls t) (dump-function-at t) dump-function.Post
 dump-function-dump-word-requires-2 t c κs =
     let c₁ = c .before .before .before in let c₂ = c₁ .before .before .before .before in let c₃ = c₂ .before .before in
-    let c₄ = c₃ .before in let c₅ = c₄ .before .before .before .before .before in
-    last-ready (opened (c₄ .if1 .left) (c₃ .own-source .ensures) (c₅ .pre .1)) (c₂ .dump-source .ensures) (c₁ .dump-word .ensures)
+    last-ready (opened (c₃ .before .if1 .left) (c₃ .own-source .ensures) (c₃ .before .before .before .before .before .before .pre .1)) (c₂ .dump-source .ensures) (c₁ .dump-word .ensures)
 
 dump-function-dump-packed-requires : (t : ℕ) → dump-function-lts.Need-dump-packed-requires (dump-function-calls t) (dump-function-at t) dump-function.Post
 dump-function-dump-packed-requires t c κs =
     let c₁ = c .before .before .before in let c₂ = c₁ .before .before .before .before in
-    let c₃ = c₂ .before .before .before .before in let c₄ = c₃ .before .before in let c₅ = c₄ .before in
-    let c₆ = c₅ .before .before .before .before .before in
-    packed-ready (opened (c₅ .if1 .left) (c₄ .own-source .ensures) (c₆ .pre .1)) (c₃ .dump-source .ensures) (c₂ .dump-word .ensures) (c₁ .dump-word2 .ensures)
+    let c₃ = c₂ .before .before .before .before in let c₄ = c₃ .before .before in
+    packed-ready (opened (c₄ .before .if1 .left) (c₄ .own-source .ensures) (c₄ .before .before .before .before .before .before .pre .1)) (c₃ .dump-source .ensures) (c₂ .dump-word .ensures) (c₁ .dump-word2 .ensures)
 
 dump-function-dump-code-requires : (t : ℕ) → dump-function-lts.Need-dump-code-requires (dump-function-calls t) (dump-function-at t) dump-function.Post
 dump-function-dump-code-requires t c κs =
     let c₁ = c .before .before .before in let c₂ = c₁ .before .before .before .before in
     let c₃ = c₂ .before .before .before .before in let c₄ = c₃ .before .before .before .before in
-    let c₅ = c₄ .before .before in let c₆ = c₅ .before in let c₇ = c₆ .before .before .before .before .before in
-    code-ready (opened (c₆ .if1 .left) (c₅ .own-source .ensures) (c₇ .pre .1)) (c₄ .dump-source .ensures) (c₃ .dump-word .ensures) (c₂ .dump-word2 .ensures) (c₁ .dump-packed .ensures)
+    let c₅ = c₄ .before .before in
+    code-ready (opened (c₅ .before .if1 .left) (c₅ .own-source .ensures) (c₅ .before .before .before .before .before .before .pre .1)) (c₄ .dump-source .ensures) (c₃ .dump-word .ensures) (c₂ .dump-word2 .ensures) (c₁ .dump-packed .ensures)
 
 dump-function-dump-constants-requires : (t : ℕ) → dump-function-lts.Need-dump-constants-requires (dump-function-calls t) (dump-function-at t) dump-function.Post
 dump-function-dump-constants-requires t c κs =
     let c₁ = c .before .before .before in let c₂ = c₁ .before .before .before .before in
     let c₃ = c₂ .before .before .before .before in let c₄ = c₃ .before .before .before .before in
-    let c₅ = c₄ .before .before .before .before in let c₆ = c₅ .before .before in let c₇ = c₆ .before in
-    let c₈ = c₇ .before .before .before .before .before in
-    (omega (arith, c₈ .pre .0, c₇ .if1 .left), constants-ready (opened (c₇ .if1 .left) (c₆ .own-source .ensures) (c₈ .pre .1)) (c₅ .dump-source .ensures) (c₄ .dump-word .ensures) (c₃ .dump-word2 .ensures) (c₂ .dump-packed .ensures) (c₁ .dump-code .ensures))
+    let c₅ = c₄ .before .before .before .before in let c₆ = c₅ .before .before in
+    (omega (arith, c₆ .before .before .before .before .before .before .pre .0, c₆ .before .if1 .left), constants-ready (opened (c₆ .before .if1 .left) (c₆ .own-source .ensures) (c₆ .before .before .before .before .before .before .pre .1)) (c₅ .dump-source .ensures) (c₄ .dump-word .ensures) (c₃ .dump-word2 .ensures) (c₂ .dump-packed .ensures) (c₁ .dump-code .ensures))
 
 dump-function-dump-debug-requires : (t : ℕ) → dump-function-lts.Need-dump-debug-requires (dump-function-calls t) (dump-function-at t) dump-function.Post
 dump-function-dump-debug-requires t c κs =
     let c₁ = c .before .before .before in let c₂ = c₁ .before .before .before .before in
     let c₃ = c₂ .before .before .before .before in let c₄ = c₃ .before .before .before .before in
     let c₅ = c₄ .before .before .before .before in let c₆ = c₅ .before .before .before .before in
-    let c₇ = c₆ .before .before in let c₈ = c₇ .before in let c₉ = c₈ .before .before .before .before .before in
-    debug-ready (opened (c₈ .if1 .left) (c₇ .own-source .ensures) (c₉ .pre .1)) (c₆ .dump-source .ensures) (c₅ .dump-word .ensures) (c₄ .dump-word2 .ensures) (c₃ .dump-packed .ensures) (c₂ .dump-code .ensures) (c₁ .dump-constants .ensures)
+    let c₇ = c₆ .before .before in
+    debug-ready (opened (c₇ .before .if1 .left) (c₇ .own-source .ensures) (c₇ .before .before .before .before .before .before .pre .1)) (c₆ .dump-source .ensures) (c₅ .dump-word .ensures) (c₄ .dump-word2 .ensures) (c₃ .dump-packed .ensures) (c₂ .dump-code .ensures) (c₁ .dump-constants .ensures)
 
 dump-function-same-length : (t : ℕ) → dump-function-lts.Need-same-length (dump-function-calls t) (dump-function-at t) dump-function.Post
 dump-function-same-length t c =
@@ -146,14 +138,13 @@ dump-function-returns-2 t c =
     let c₁ = c .before .before in let c₂ = c₁ .before .before .before .before in
     let c₃ = c₂ .before .before .before .before in let c₄ = c₃ .before .before .before .before in
     let c₅ = c₄ .before .before .before .before in let c₆ = c₅ .before .before .before .before in
-    let c₇ = c₆ .before .before .before .before in let c₈ = c₇ .before .before in let c₉ = c₈ .before in
-    let c₁₀ = c₉ .before .before .before .before .before in
-    function-dumped (c₁₀ .args .allowance) (c₁₀ .args .strip) _ (c₁₀ .args .outer .now) (c₈ .own-source .result .now) (c₉ .if1 .left) (c₈ .own-source .ensures) (c₇ .dump-source .ensures) (c₆ .dump-word .ensures) (c₅ .dump-word2 .ensures) (c₄ .dump-packed .ensures) (c₃ .dump-code .ensures) (c₂ .dump-constants .ensures) (c₁ .dump-debug .ensures)
+    let c₇ = c₆ .before .before .before .before in let c₈ = c₇ .before .before in
+    function-dumped _ _ _ _ _ (c₈ .before .if1 .left) (c₈ .own-source .ensures) (c₇ .dump-source .ensures) (c₆ .dump-word .ensures) (c₅ .dump-word2 .ensures) (c₄ .dump-packed .ensures) (c₃ .dump-code .ensures) (c₂ .dump-constants .ensures) (c₁ .dump-debug .ensures)
 
 pub +dump-constants+dump-function-spec : {M : Type 1} → statement M
 +dump-constants+dump-function-spec = close μ-constants μ-function (λ t. dump-constants-lts.spec
     (dump-constants-calls t) (dump-constants-at t) dump-constants.Post dump-constants-Inv-loop dump-constants-μ-loop
-    (dump-constants-dump-values-requires t)
+    (λ c κs. values-ready _ _ _ (c .before .before .before .before .before .pre .1))  -- dump-values-requires
     (λ c. search needs)  -- word-at-requires
     (dump-constants-dump-word-requires t)
     (dump-constants-loop-holds t)
