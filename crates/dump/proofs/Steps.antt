@@ -118,8 +118,7 @@ module _ {words text : List ℕ} where
 
   module _ {p : Piece} {b : List ℕ} {l : List Item} {s : Reached} (e : Made p b l) where
     pub dumps-made : {r : Reached} → Wrote words text l s r → Dumps words text p b s r
-    dumps-made w =
-        record { dumps = λ to h. let x = w .wrote .dumps to (stands-same (e .piece) h) in (rw (e .piece .words to) (x .0), rw (e .bytes) (x .1)) }
+    dumps-made w = record { dumps = λ to h. let x = w .wrote .dumps to (stands-same (e .piece) h) in (rw (e .piece .words to) (x .0), rw (e .bytes) (x .1)) }
 
     pub left-made : Fits words text p b s → Left words text l s
     left-made f = record { fits = record { to = f .to; stands = stands-same (e .piece) (f .stands); room = rw (← (e .bytes)) (f .room); small = f .small } }
