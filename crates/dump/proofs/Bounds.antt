@@ -15,7 +15,7 @@ use Rattle.format.specs.Write.{dumpNumber, dumpInt, dumpString, dumpText, each,
 use Rattle.format.proofs.RoundTrip.{same-is}
 use Rattle.proto.specs.Walk.{children}
 use Rattle.dump.proofs.Blocks.{int-length, size-length, string-length, code-length}
-use Rattle.dump.proofs.Steps.{Item, Made, made-three, local-made, debug-made}
+use Rattle.dump.proofs.Steps.{Segment, Made, made-three, local-made, debug-made}
 use Rattle.dump.proofs.Lists.{every-all}
 use Rattle.dump.proofs.Functions.{constants-made, function-made}
 
@@ -32,8 +32,8 @@ module _ {A : Type 0} (piece : A → Piece) (bytes : A → List ℕ) where
   bound-each [] h = record { bound = λ to. omega arith }
   bound-each (a ∷ l) h = bound-then (h .0) (bound-each l (h .1))
 
--- the items that something is made of, one behind the other
-bound-made : {p : Piece} {b : List ℕ} {a : Item} {l : List Item} {x : ℕ} → Made p b (a ∷ l) → Bound (a .piece) (a .bytes) x → Every (λ y. Bound (y .piece) (y .bytes) 0) l → Bound p b x
+-- the segments that something is made of, one behind the other
+bound-made : {p : Piece} {b : List ℕ} {a : Segment} {l : List Segment} {x : ℕ} → Made p b (a ∷ l) → Bound (a .piece) (a .bytes) x → Every (λ y. Bound (y .piece) (y .bytes) 0) l → Bound p b x
 unfolding pieces each
 bound-made {l = l} e d h = record { bound = λ to. rw (e .piece .words to, e .piece .text, e .bytes) (bound-then d (bound-each (λ y. y .piece) (λ y. y .bytes) l h) .bound to) }
 

@@ -25,7 +25,7 @@ use Rattle.proto.proofs.Walks.{past-words}
 use Rattle.proto.proofs.Stores.{children-count, children-list, every-valid}
 use Rattle.dump.specs.Step.{Reached, Dumps, Fits, Ready, SourceFits, Any, constantsPiece, around}
 use Rattle.dump.proofs.Blocks.{int-length, size-length, string-length, puts-in}
-use Rattle.dump.proofs.Steps.{Item, item, Made, made-two, Left, dumps-past, dumps-made, wrote-none, wrote-next, left-made, left-first, left-rest, Step, WordStep, PackedStep, CodeStep, WordRoom, CodeRoom, place, word-fits, code-fits, three-within}
+use Rattle.dump.proofs.Steps.{Segment, segment, Made, made-two, Left, dumps-past, dumps-made, each-none, each-next, left-made, left-first, left-rest, Step, WordStep, PackedStep, CodeStep, WordRoom, CodeRoom, reachedAt, word-fits, code-fits, three-within}
 use Rattle.dump.proofs.Lists.{DumpsAll, looped, puts-counted}
 
 -- ---- the source
@@ -61,8 +61,8 @@ module _ (at : ℕ) (source out : List ℕ) (e : Bool) (r : at + length (sourceB
   own-puts h q = rw h (puts-in (string-length source) (room-own h) (omega arith) q)
 
 -- the source given is that of the function which stands there
-abbrev pub Own : (words text outer source : List ℕ) (at : ℕ) → Type 0
-Own words text outer source at = (v : Source) (to : ℕ) → Stands words text at to (sourcePiece v) → source ≡ filled outer v
+abbrev pub OwnSource : (words text outer source : List ℕ) (at : ℕ) → Type 0
+OwnSource words text outer source at = (v : Source) (to : ℕ) → Stands words text at to (sourcePiece v) → source ≡ filled outer v
 
 abbrev pub SourceStep : (words around outer source : List ℕ) (s r : Reached) → Type 0
 SourceStep words around outer source s r =
@@ -70,16 +70,16 @@ SourceStep words around outer source s r =
 
 module _ {words : List ℕ} {at : ℕ} {e : Bool} (root : Bool) (outer source : List ℕ)
     (f : (s : Source) (t : List ℕ) (to : ℕ) → Stands words t at to (sourcePiece s) → source ≡ filled outer s → e ≡ same source (around root outer)) where
-  pub source-dumped : {a len n : ℕ} {out out′ : List ℕ} → Skips words 3 at a → Puts (sourceBytes e source) len out n out′ → SourceStep words (around root outer) outer source (place at len out) (place a n out′)
+  pub source-dumped : {a len n : ℕ} {out out′ : List ℕ} → Skips words 3 at a → Puts (sourceBytes e source) len out n out′ → SourceStep words (around root outer) outer source (reachedAt at len out) (reachedAt a n out′)
   source-dumped s p v t h = dumps-past (past-words 3 (sourcePiece v) (source-words v) s) (λ to k. rw (f v t to k (h to k)) at p)
 
-  pub elided-counted : {a len n : ℕ} → e ≡ true → Skips words 3 at a → n ≡ min (len + 8) far → SourceStep words (around root outer) outer source (place at len []) (place a n [])
+  pub elided-counted : {a len n : ℕ} → e ≡ true → Skips words 3 at a → n ≡ min (len + 8) far → SourceStep words (around root outer) outer source (reachedAt at len []) (reachedAt a n [])
   elided-counted h s p = source-dumped s (rw h (puts-counted (rw (size-length 0) p)))
 
-  pub own-counted : {a len m n : ℕ} → e ≡ false → Skips words 3 at a → m ≡ min (len + length source) far → n ≡ min (m + 9) far → SourceStep words (around root outer) outer source (place at len []) (place a n [])
+  pub own-counted : {a len m n : ℕ} → e ≡ false → Skips words 3 at a → m ≡ min (len + length source) far → n ≡ min (m + 9) far → SourceStep words (around root outer) outer source (reachedAt at len []) (reachedAt a n [])
   own-counted h s p q = source-dumped s (rw h (puts-counted (omega (arith, string-length source))))
 
-  pub source-room : {len : ℕ} {out : List ℕ} → SourceFits words outer source (dumpString (elided (around root outer) source)) (place at len out) → len + length (sourceBytes e source) ≤ length out
+  pub source-room : {len : ℕ} {out : List ℕ} → SourceFits words outer source (dumpString (elided (around root outer) source)) (reachedAt at len out) → len + length (sourceBytes e source) ≤ length out
   source-room r = rw (f (r .value) (r .text) (r .fits .to) (r .fits .stands) (r .filled-in)) (r .fits .room)
 
 pub source-within : {words outer source bytes : List ℕ} {s : Reached} → SourceFits words outer source bytes s → s .at + 3 ≤ length words
@@ -97,11 +97,11 @@ unfolding each children dumpFunctions
 children-bytes Functions.none strip source = refl
 children-bytes (Functions.more f fs) strip source = rw (children-bytes fs strip source)
 
-abbrev constantsItems : Bool → List ℕ → List Value → Functions → List Item
-constantsItems strip source ks fs =
-    item (list constantPiece ks) (dumpList dumpConstant ks) ∷ item (list functionPiece (children fs)) (dumpList (λ f. dumpFunction f strip source source) (children fs)) ∷ []
+abbrev constantsSegments : Bool → List ℕ → List Value → Functions → List Segment
+constantsSegments strip source ks fs =
+    segment (list constantPiece ks) (dumpList dumpConstant ks) ∷ segment (list functionPiece (children fs)) (dumpList (λ f. dumpFunction f strip source source) (children fs)) ∷ []
 
-pub constants-made : (strip : Bool) (source : List ℕ) (ks : List Value) (fs : Functions) → Made (constantsPiece ks fs) (dumpConstants ks (count fs) (dumpFunctions fs strip source)) (constantsItems strip source ks fs)
+pub constants-made : (strip : Bool) (source : List ℕ) (ks : List Value) (fs : Functions) → Made (constantsPiece ks fs) (dumpConstants ks (count fs) (dumpFunctions fs strip source)) (constantsSegments strip source ks fs)
 constants-made strip source ks fs =
     let m = made-two (list constantPiece ks) (list functionPiece (children fs)) (dumpList dumpConstant ks) (dumpList (λ f. dumpFunction f strip source source) (children fs)) in
     let e : dumpConstants ks (count fs) (dumpFunctions fs strip source) ≡ dumpList dumpConstant ks ++ dumpList (λ f. dumpFunction f strip source source) (children fs) =
@@ -111,10 +111,10 @@ constants-made strip source ks fs =
 module _ {words text : List ℕ} (n : ℕ) (strip : Bool) (source : List ℕ) where
   pub constants-dumped : {k i : ℕ} {s a b r : Reached} → Step (list constantPiece) (dumpList dumpConstant) words text s a → k ≡ getD words (a .at) 0 → WordStep words a b → k ≤ i
       → Loop (DumpsAll words text (λ f. Valid f n) functionPiece (λ f. dumpFunction f strip source source)) k b i r → ConstantsStep words text n strip source s r
-  constants-dumped d e w h l ks fs v = dumps-made (constants-made strip source ks fs) (wrote-next (d ks) (wrote-next (looped h e w l (children fs) (every-valid n fs v)) wrote-none))
+  constants-dumped d e w h l ks fs v = dumps-made (constants-made strip source ks fs) (each-next (d ks) (each-next (looped h e w l (children fs) (every-valid n fs v)) each-none))
 
   module _ {s : Reached} (r : Ready {A = List Value × Functions} words text (λ v. ValidAll (v .1) n) (λ v. constantsPiece (v .0) (v .1)) (λ v. dumpConstants (v .0) (count (v .1)) (dumpFunctions (v .1) strip source)) s) where
-    constants-left : Left words text (constantsItems strip source (r .value .0) (r .value .1)) s
+    constants-left : Left words text (constantsSegments strip source (r .value .0) (r .value .1)) s
     constants-left = left-made (constants-made strip source (r .value .0) (r .value .1)) (r .fits)
 
     pub values-ready : Ready words text Any (list constantPiece) (dumpList dumpConstant) s
@@ -125,19 +125,19 @@ module _ {words text : List ℕ} (n : ℕ) (strip : Bool) (source : List ℕ) wh
 
 -- ---- a function
 
-abbrev pub functionItems : Bool → List ℕ → List ℕ → Parts → Functions → List Item
-functionItems strip around source p fs =
-    item (sourcePiece (p .source)) (dumpString (elided around source))
-    ∷ item (word (p .lineDefined)) (dumpInt (p .lineDefined))
-    ∷ item (word (p .lastLineDefined)) (dumpInt (p .lastLineDefined))
-    ∷ item (word (packed p)) (p .numUpvalues ∷ p .numParams ∷ p .isVararg ∷ p .maxStackSize ∷ [])
-    ∷ item (ints (p .code)) (dumpCode (p .code))
-    ∷ item (constantsPiece (p .constants) fs) (dumpConstants (p .constants) (count fs) (dumpFunctions fs strip source))
-    ∷ item (debugPiece (p .debug)) (dumpDebug (kept strip (p .debug)))
+abbrev pub functionSegments : Bool → List ℕ → List ℕ → Parts → Functions → List Segment
+functionSegments strip around source p fs =
+    segment (sourcePiece (p .source)) (dumpString (elided around source))
+    ∷ segment (word (p .lineDefined)) (dumpInt (p .lineDefined))
+    ∷ segment (word (p .lastLineDefined)) (dumpInt (p .lastLineDefined))
+    ∷ segment (word (packed p)) (p .numUpvalues ∷ p .numParams ∷ p .isVararg ∷ p .maxStackSize ∷ [])
+    ∷ segment (ints (p .code)) (dumpCode (p .code))
+    ∷ segment (constantsPiece (p .constants) fs) (dumpConstants (p .constants) (count fs) (dumpFunctions fs strip source))
+    ∷ segment (debugPiece (p .debug)) (dumpDebug (kept strip (p .debug)))
     ∷ []
 
 made-seven : (s a b c code ks fs d : Piece) (x₁ x₂ x₃ x₄ x₅ x₆ x₇ : List ℕ)
-    → Made (s ⊕ a ⊕ b ⊕ c ⊕ code ⊕ ks ⊕ fs ⊕ d) (x₁ ++ x₂ ++ x₃ ++ x₄ ++ x₅ ++ x₆ ++ x₇) (item s x₁ ∷ item a x₂ ∷ item b x₃ ∷ item c x₄ ∷ item code x₅ ∷ item (ks ⊕ fs) x₆ ∷ item d x₇ ∷ [])
+    → Made (s ⊕ a ⊕ b ⊕ c ⊕ code ⊕ ks ⊕ fs ⊕ d) (x₁ ++ x₂ ++ x₃ ++ x₄ ++ x₅ ++ x₆ ++ x₇) (segment s x₁ ∷ segment a x₂ ∷ segment b x₃ ∷ segment c x₄ ∷ segment code x₅ ∷ segment (ks ⊕ fs) x₆ ∷ segment d x₇ ∷ [])
 unfolding pieces each
 made-seven s a b c code ks fs d x₁ x₂ x₃ x₄ x₅ x₆ x₇ =
     let e : Same (s ⊕ a ⊕ b ⊕ c ⊕ code ⊕ ks ⊕ fs ⊕ d) (s ⊕ a ⊕ b ⊕ c ⊕ code ⊕ (ks ⊕ fs) ⊕ d ⊕ plain []) =
@@ -145,7 +145,7 @@ made-seven s a b c code ks fs d x₁ x₂ x₃ x₄ x₅ x₆ x₇ =
     record { piece = e; bytes = simp (append-assoc, append-nil) }
 
 pub function-made : (strip : Bool) (around outer source : List ℕ) (p : Parts) (fs : Functions) → source ≡ filled outer (p .source)
-    → Made (functionPiece (Function.function p fs)) (dumpFunction (Function.function p fs) strip around outer) (functionItems strip around source p fs)
+    → Made (functionPiece (Function.function p fs)) (dumpFunction (Function.function p fs) strip around outer) (functionSegments strip around source p fs)
 unfolding functionPiece dumpFunction
 function-made strip around outer source p fs e =
     rw (← e)
@@ -168,7 +168,7 @@ valid-parts {n} p fs h v =
     let w : Valid (Function.function p fs) (suc (n - 1)) = rw e at v in
     (w .0, w .2)
 
-pub function-dumped : {words text : List ℕ} {s a b c d e f r : Reached} (n : ℕ) (strip : Bool) (around outer source : List ℕ) → (n ≡ 0 → ⊥) → Own words text outer source (s .at)
+pub function-dumped : {words text : List ℕ} {s a b c d e f r : Reached} (n : ℕ) (strip : Bool) (around outer source : List ℕ) → (n ≡ 0 → ⊥) → OwnSource words text outer source (s .at)
     → SourceStep words around outer source s a → WordStep words a b → WordStep words b c → PackedStep words c d → CodeStep words d e
     → ConstantsStep words text (n - 1) strip source e f → Step debugPiece (λ g. dumpDebug (kept strip g)) words text f r
     → (g : Function) → Valid g n → Dumps words text (functionPiece g) (dumpFunction g strip around outer) s r
@@ -177,7 +177,7 @@ function-dumped {text = text} n strip around outer source deep own d₁ d₂ d�
     record {
       dumps = λ to h.
           dumps-made (function-made strip around outer source p fs (own (p .source) to (source-stands p fs h)))
-          (wrote-next (d₁ (p .source) text (own (p .source))) (wrote-next (d₂ (p .lineDefined) text) (wrote-next (d₃ (p .lastLineDefined) text) (wrote-next (d₄ p text (w .0)) (wrote-next (d₅ (p .code) text) (wrote-next (d₆ (p .constants) fs (w .1)) (wrote-next (d₇ (p .debug)) wrote-none)))))))
+          (each-next (d₁ (p .source) text (own (p .source))) (each-next (d₂ (p .lineDefined) text) (each-next (d₃ (p .lastLineDefined) text) (each-next (d₄ p text (w .0)) (each-next (d₅ (p .code) text) (each-next (d₆ (p .constants) fs (w .1)) (each-next (d₇ (p .debug)) each-none)))))))
           .dumps to h;
     }
 
@@ -187,11 +187,11 @@ pub record Opened (words text : List ℕ) (n : ℕ) (strip : Bool) (around outer
   functions : Functions
   valid : ValidParts parts × ValidAll functions (n - 1)
   is-own : source ≡ filled outer (parts .source)
-  left : Left words text (functionItems strip around source parts functions) s
+  left : Left words text (functionSegments strip around source parts functions) s
 
 module _ {words text : List ℕ} {n : ℕ} {strip : Bool} {around outer source : List ℕ} {s : Reached} where
-  pub opened : (n ≡ 0 → ⊥) → Own words text outer source (s .at) → Ready words text (λ f. Valid f n) functionPiece (λ f. dumpFunction f strip around outer) s → Opened words text n strip around outer source s
-  opened deep own x = go (x .value) (x .valid) (x .fits)
+  pub function-opened : (n ≡ 0 → ⊥) → OwnSource words text outer source (s .at) → Ready words text (λ f. Valid f n) functionPiece (λ f. dumpFunction f strip around outer) s → Opened words text n strip around outer source s
+  function-opened deep own x = go (x .value) (x .valid) (x .fits)
     where
       go : (g : Function) → Valid g n → Fits words text (functionPiece g) (dumpFunction g strip around outer) s → Opened words text n strip around outer source s
       go (Function.function p fs) v f =
@@ -199,9 +199,9 @@ module _ {words text : List ℕ} {n : ℕ} {strip : Bool} {around outer source :
           record { parts = p; functions = fs; valid = valid-parts p fs deep v; is-own = g; left = left-made (function-made strip around outer source p fs g) f }
 
   module _ (o : Opened words text n strip around outer source s) where
-    -- the items from the k-th on are left at m
+    -- the segments from the k-th on are left at m
     abbrev From : ℕ → Reached → Type 0
-    From k m = Left words text (drop k (functionItems strip around source (o .parts) (o .functions))) m
+    From k m = Left words text (drop k (functionSegments strip around source (o .parts) (o .functions))) m
 
     pub source-ready : SourceFits words outer source (dumpString (elided around source)) s
     source-ready = record { text = text; value = o .parts .source; filled-in = o .is-own; fits = left-first (o .left) }

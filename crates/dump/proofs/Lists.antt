@@ -25,7 +25,7 @@ use Rattle.proto.proofs.Pieces.{constant-words, pieces-words}
 use Rattle.dump.specs.Step.{Reached, Dumps, Fits, Ready, Any, Ahead, reached}
 use Rattle.dump.specs.declared.list.DumpState.{DumpState}
 use Rattle.dump.proofs.Blocks.{int-length, string-length, code-length}
-use Rattle.dump.proofs.Steps.{Step, WordStep, WordRoom, place, dumps-none, dumps-then, dumps-length, fits-left, fits-right, word-fits, PackedStep, CodeStep}
+use Rattle.dump.proofs.Steps.{Step, WordStep, WordRoom, reachedAt, dumps-none, dumps-then, dumps-length, fits-left, fits-right, word-fits, PackedStep, CodeStep}
 
 -- from s to r past every list of n items
 pub record DumpsAll {A : Type 0} (words text : List ℕ) (ok : A → Type 0) (piece : A → Piece) (bytes : A → List ℕ) (n : ℕ) (s r : Reached) : Type 0 where
@@ -72,7 +72,7 @@ pub record Writing {A : Type 0} (words text : List ℕ) (ok : A → Type 0) (pie
   pub loop : Loop (DumpsAll words text ok piece bytes) n s₀ i s
   pub left : Ready words text (λ l. (length l ≡ n - i) × Every ok l) (pieces piece) (each bytes) s
 
-pub count-ready : {A : Type 0} {words text out : List ℕ} {okL : List A → Type 0} {at len : ℕ} (piece : A → Piece) (bytes : A → List ℕ) → Ready words text okL (list piece) (dumpList bytes) (place at len out) → WordRoom words (place at len out)
+pub count-ready : {A : Type 0} {words text out : List ℕ} {okL : List A → Type 0} {at len : ℕ} (piece : A → Piece) (bytes : A → List ℕ) → Ready words text okL (list piece) (dumpList bytes) (reachedAt at len out) → WordRoom words (reachedAt at len out)
 count-ready piece bytes r = let l = r .value in word-fits (length l) (int-length (length l)) (fits-left (word (length l)) (pieces piece l) (dumpInt (length l)) (each bytes l) (r .fits))
 
 module _ {A : Type 0} {words text : List ℕ} {ok : A → Type 0} {piece : A → Piece} {bytes : A → List ℕ} {n : ℕ} where
@@ -89,9 +89,9 @@ module _ {A : Type 0} {words text : List ℕ} {ok : A → Type 0} {piece : A →
 
   module _ {i : ℕ} {s₀ s : Reached} (h : i < n) (w : Writing words text ok piece bytes n s₀ i s) where
     -- the next item, and those behind it
-    next : {P : Type 0} → ((a : A) (l : List A) → length l ≡ n - (i + 1) → ok a → Every ok l → Fits words text (pieces piece (a ∷ l)) (each bytes (a ∷ l)) s → P) → P
+    next-item : {P : Type 0} → ((a : A) (l : List A) → length l ≡ n - (i + 1) → ok a → Every ok l → Fits words text (pieces piece (a ∷ l)) (each bytes (a ∷ l)) s → P) → P
     unfolding Every
-    next {P} f = go (w .left .value) (w .left .valid .0) (w .left .valid .1) (w .left .fits)
+    next-item {P} f = go (w .left .value) (w .left .valid .0) (w .left .valid .1) (w .left .fits)
       where
         go : (l : List A) → length l ≡ n - i → Every ok l → Fits words text (pieces piece l) (each bytes l) s → P
         go [] e k x = absurd (omega arith)
@@ -99,12 +99,12 @@ module _ {A : Type 0} {words text : List ℕ} {ok : A → Type 0} {piece : A →
 
     pub writing-next : Ready words text ok piece bytes s
     unfolding pieces each
-    writing-next = next (λ a l e v k f. record { value = a; valid = v; fits = fits-left (piece a) (pieces piece l) (bytes a) (each bytes l) f })
+    writing-next = next-item (λ a l e v k f. record { value = a; valid = v; fits = fits-left (piece a) (pieces piece l) (bytes a) (each bytes l) f })
 
     pub writing-turn : {m : Reached} → ((a : A) → ok a → Dumps words text (piece a) (bytes a) s m) → Writing words text ok piece bytes n s₀ (i + 1) m
     unfolding pieces each
     writing-turn d =
-        next
+        next-item
         (λ a l e v k f.
         record {
           small = w .small;
@@ -152,8 +152,8 @@ module _ {words : List ℕ} {s r : DumpState} where
 -- ---- items of k words
 
 -- k words on, and so many bytes
-abbrev On : (k bytes : ℕ) (s r : DumpState) → Type 0
-On k bytes s r = (r .at ≡ s .at + k) × (r .len ≡ min (s .len + bytes) far)
+abbrev AheadExactly : (k bytes : ℕ) (s r : DumpState) → Type 0
+AheadExactly k bytes s r = (r .at ≡ s .at + k) × (r .len ≡ min (s .len + bytes) far)
 
 -- k words on, past whichever item stands there
 abbrev ItemStep : {A : Type 0} (piece : A → Piece) (bytes : A → List ℕ) (k : ℕ) (words : List ℕ) (s r : DumpState) → Type 0
@@ -171,21 +171,21 @@ sizes (Value.num high low) h = omega (arith, here-get 3 _ (h .in-words))
 sizes {to = to} (Value.str s) h = omega (arith, here-get 4 _ (h .in-words), here-item (4 ∷ (to + 0) ∷ length s ∷ []) 2 (omega arith) (h .in-words), string-length s)
 
 module _ {words : List ℕ} {s r : DumpState} where
-  item-counted : {A : Type 0} {k n : ℕ} {piece : A → Piece} {bytes : A → List ℕ} → On k n s r
+  item-counted : {A : Type 0} {k n : ℕ} {piece : A → Piece} {bytes : A → List ℕ} → AheadExactly k n s r
       → ((a : A) (t : List ℕ) (to : ℕ) → Stands words t (s .at) to (piece a) → (length (piece a .words to) ≡ k) × (length (bytes a) ≡ n)) → ItemStep piece bytes k words s r
   item-counted e f = (e .0, λ a t. ahead-counted (record { at = rw (e .0) skips-on; len = e .1 }) (f a t))
 
-  pub name-counted : On 2 (getD words (s .at + 1) 0 + 9) s r → ItemStep string dumpText 2 words s r
+  pub name-counted : AheadExactly 2 (getD words (s .at + 1) 0 + 9) s r → ItemStep string dumpText 2 words s r
   name-counted e = item-counted e (λ n t to h. (refl, omega (arith, string-length n, here-item (to ∷ length n ∷ []) 1 (omega arith) (h .in-words))))
 
-  pub local-counted : On 4 (getD words (s .at + 1) 0 + 17) s r → ItemStep localPiece dumpLocal 4 words s r
+  pub local-counted : AheadExactly 4 (getD words (s .at + 1) 0 + 17) s r → ItemStep localPiece dumpLocal 4 words s r
   local-counted e =
       item-counted e
       (λ v t to h.
       let g : getD words (s .at + 1) 0 ≡ length (v .name) = here-item (to ∷ length (v .name) ∷ v .start ∷ v .end ∷ []) 1 (omega arith) (h .in-words) in
       (refl, simp length-append (omega (arith, simp length-append at (string-length (v .name)), int-length (v .start), int-length (v .end)))))
 
-  pub constant-counted : {n : ℕ} → On 3 n s r → ((m : ℕ) → Sizes (getD words (s .at) 0) (getD words (s .at + 2) 0) m → m ≡ n) → ItemStep constantPiece dumpConstant 3 words s r
+  pub constant-counted : {n : ℕ} → AheadExactly 3 n s r → ((m : ℕ) → Sizes (getD words (s .at) 0) (getD words (s .at + 2) 0) m → m ≡ n) → ItemStep constantPiece dumpConstant 3 words s r
   constant-counted e f = item-counted e (λ k t to h. (constant-words k to, f (length (dumpConstant k)) (sizes k h)))
 
 -- ---- lists of them

@@ -69,66 +69,66 @@ module _ {words text : List ℕ} where
         small = omega (arith, f .small);
       }
 
--- ---- several items
+-- ---- several segments
 
 -- a piece, and what is written for it
-pub record Item : Type 0 where
+pub record Segment : Type 0 where
   pub piece : Piece
   pub bytes : List ℕ
 
-abbrev pub item : Piece → List ℕ → Item
-item p b = record { piece = p; bytes = b }
+abbrev pub segment : Piece → List ℕ → Segment
+segment p b = record { piece = p; bytes = b }
 
-abbrev pub pieceOf : List Item → Piece
-pieceOf l = pieces (λ x. x .piece) l
+abbrev pub joinedPiece : List Segment → Piece
+joinedPiece l = pieces (λ x. x .piece) l
 
-abbrev pub bytesOf : List Item → List ℕ
-bytesOf l = each (λ x. x .bytes) l
+abbrev pub joinedBytes : List Segment → List ℕ
+joinedBytes l = each (λ x. x .bytes) l
 
--- a piece and its bytes are those of the items, one behind the other
-pub record Made (p : Piece) (b : List ℕ) (l : List Item) : Type 0 where
-  pub piece : Same p (pieceOf l)
-  pub bytes : b ≡ bytesOf l
+-- a piece and its bytes are those of the segments, one behind the other
+pub record Made (p : Piece) (b : List ℕ) (l : List Segment) : Type 0 where
+  pub piece : Same p (joinedPiece l)
+  pub bytes : b ≡ joinedBytes l
 
--- the items are written, from s to r
-pub record Wrote (words text : List ℕ) (l : List Item) (s r : Reached) : Type 0 where
-  pub wrote : Dumps words text (pieceOf l) (bytesOf l) s r
+-- the segments are written, from s to r
+pub record DumpsEach (words text : List ℕ) (l : List Segment) (s r : Reached) : Type 0 where
+  pub joined : Dumps words text (joinedPiece l) (joinedBytes l) s r
 
--- the items are left to be written at s
-pub record Left (words text : List ℕ) (l : List Item) (s : Reached) : Type 0 where
-  pub fits : Fits words text (pieceOf l) (bytesOf l) s
+-- the segments are left to be written at s
+pub record Left (words text : List ℕ) (l : List Segment) (s : Reached) : Type 0 where
+  pub fits : Fits words text (joinedPiece l) (joinedBytes l) s
 
 module _ {words text : List ℕ} where
-  pub wrote-none : {s : Reached} → Wrote words text [] s s
+  pub each-none : {s : Reached} → DumpsEach words text [] s s
   unfolding pieces each
-  wrote-none = record { wrote = dumps-none }
+  each-none = record { joined = dumps-none }
 
-  module _ {x : Item} {l : List Item} {s : Reached} where
-    pub wrote-next : {m r : Reached} → Dumps words text (x .piece) (x .bytes) s m → Wrote words text l m r → Wrote words text (x ∷ l) s r
+  module _ {x : Segment} {l : List Segment} {s : Reached} where
+    pub each-next : {m r : Reached} → Dumps words text (x .piece) (x .bytes) s m → DumpsEach words text l m r → DumpsEach words text (x ∷ l) s r
     unfolding pieces each
-    wrote-next d w = record { wrote = dumps-then d (w .wrote) }
+    each-next d w = record { joined = dumps-then d (w .joined) }
 
     pub left-first : Left words text (x ∷ l) s → Fits words text (x .piece) (x .bytes) s
     unfolding pieces each
-    left-first f = fits-left (x .piece) (pieceOf l) (x .bytes) (bytesOf l) (f .fits)
+    left-first f = fits-left (x .piece) (joinedPiece l) (x .bytes) (joinedBytes l) (f .fits)
 
     pub left-rest : {m : Reached} → Left words text (x ∷ l) s → Dumps words text (x .piece) (x .bytes) s m → Left words text l m
     unfolding pieces each
-    left-rest f d = record { fits = fits-right (x .piece) (pieceOf l) (x .bytes) (bytesOf l) (f .fits) d }
+    left-rest f d = record { fits = fits-right (x .piece) (joinedPiece l) (x .bytes) (joinedBytes l) (f .fits) d }
 
-  module _ {p : Piece} {b : List ℕ} {l : List Item} {s : Reached} (e : Made p b l) where
-    pub dumps-made : {r : Reached} → Wrote words text l s r → Dumps words text p b s r
-    dumps-made w = record { dumps = λ to h. let x = w .wrote .dumps to (stands-same (e .piece) h) in (rw (e .piece .words to) (x .0), rw (e .bytes) (x .1)) }
+  module _ {p : Piece} {b : List ℕ} {l : List Segment} {s : Reached} (e : Made p b l) where
+    pub dumps-made : {r : Reached} → DumpsEach words text l s r → Dumps words text p b s r
+    dumps-made w = record { dumps = λ to h. let x = w .joined .dumps to (stands-same (e .piece) h) in (rw (e .piece .words to) (x .0), rw (e .bytes) (x .1)) }
 
     pub left-made : Fits words text p b s → Left words text l s
     left-made f = record { fits = record { to = f .to; stands = stands-same (e .piece) (f .stands); room = rw (← (e .bytes)) (f .room); small = f .small } }
 
 -- two, and three
-pub made-two : (p q : Piece) (x y : List ℕ) → Made (p ⊕ q) (x ++ y) (item p x ∷ item q y ∷ [])
+pub made-two : (p q : Piece) (x y : List ℕ) → Made (p ⊕ q) (x ++ y) (segment p x ∷ segment q y ∷ [])
 unfolding pieces each
 made-two p q x y = record { piece = record { words = λ to. simp append-nil; text = simp append-nil }; bytes = simp append-nil }
 
-pub made-three : (p q r : Piece) (x y z : List ℕ) → Made (p ⊕ q ⊕ r) (x ++ y ++ z) (item p x ∷ item q y ∷ item r z ∷ [])
+pub made-three : (p q r : Piece) (x y z : List ℕ) → Made (p ⊕ q ⊕ r) (x ++ y ++ z) (segment p x ∷ segment q y ∷ segment r z ∷ [])
 unfolding pieces each
 made-three p q r x y z = record { piece = record { words = λ to. simp append-nil; text = simp append-nil }; bytes = simp (append-assoc, append-nil) }
 
@@ -156,8 +156,8 @@ abbrev pub NameRoom : (words : List ℕ) (s : Reached) → Type 0
 NameRoom words s = (s .at + 2 ≤ length words) × (s .len + (getD words (s .at + 1) 0 + 9) ≤ length (s .out))
 
 -- so that a state is found by its parts
-abbrev pub place : (at len : ℕ) (out : List ℕ) → Reached
-place at len out = record { at = at; len = len; out = out }
+abbrev pub reachedAt : (at len : ℕ) (out : List ℕ) → Reached
+reachedAt at len out = record { at = at; len = len; out = out }
 
 module _ {words text : List ℕ} {s : Reached} where
   -- a word that is written as four bytes
@@ -182,10 +182,10 @@ module _ {words text : List ℕ} {s : Reached} where
   three-within p e f = omega (arith, here-length (p .words (f .to)) (f .stands .in-words), e (f .to))
 
 module _ {words text out : List ℕ} {at len : ℕ} where
-  pub name-ready : Ready words text Any string dumpText (place at len out) → NameRoom words (place at len out)
+  pub name-ready : Ready words text Any string dumpText (reachedAt at len out) → NameRoom words (reachedAt at len out)
   name-ready r = name-fits (r .value) (r .fits)
 
-  module _ (r : Ready words text Any constantPiece dumpConstant (place at len out)) where
+  module _ (r : Ready words text Any constantPiece dumpConstant (reachedAt at len out)) where
     pub constant-within : at + 3 ≤ length words
     constant-within = three-within (constantPiece (r .value)) (constant-words (r .value)) (r .fits)
 
@@ -304,35 +304,35 @@ module _ (text out : List ℕ) (k : Constant) (at : ℕ) (h : at + length (dumpC
 
 -- ---- a local: its name, start and end
 
-abbrev localItems : Local → List Item
-localItems v = item (string (v .name)) (dumpText (v .name)) ∷ item (word (v .start)) (dumpInt (v .start)) ∷ item (word (v .end)) (dumpInt (v .end)) ∷ []
+abbrev localSegments : Local → List Segment
+localSegments v = segment (string (v .name)) (dumpText (v .name)) ∷ segment (word (v .start)) (dumpInt (v .start)) ∷ segment (word (v .end)) (dumpInt (v .end)) ∷ []
 
-pub local-made : (v : Local) → Made (localPiece v) (dumpLocal v) (localItems v)
+pub local-made : (v : Local) → Made (localPiece v) (dumpLocal v) (localSegments v)
 local-made v = made-three (string (v .name)) (word (v .start)) (word (v .end)) (dumpText (v .name)) (dumpInt (v .start)) (dumpInt (v .end))
 
 pub local-dumped : {words text : List ℕ} {s a b r : Reached} → Step string dumpText words text s a → WordStep words a b → WordStep words b r → Step localPiece dumpLocal words text s r
-local-dumped {text = text} d e f v = dumps-made (local-made v) (wrote-next (d (v .name)) (wrote-next (e (v .start) text) (wrote-next (f (v .end) text) wrote-none)))
+local-dumped {text = text} d e f v = dumps-made (local-made v) (each-next (d (v .name)) (each-next (e (v .start) text) (each-next (f (v .end) text) each-none)))
 
 module _ {words text : List ℕ} {s : Reached} (r : Ready words text Any localPiece dumpLocal s) where
-  local-left : Left words text (localItems (r .value)) s
+  local-left : Left words text (localSegments (r .value)) s
   local-left = left-made (local-made (r .value)) (r .fits)
 
   pub local-name : NameRoom words s
   local-name = name-fits (r .value .name) (left-first local-left)
 
   module _ {at len : ℕ} {out : List ℕ} where
-    pub local-start : Step string dumpText words text s (place at len out) → WordRoom words (place at len out)
+    pub local-start : Step string dumpText words text s (reachedAt at len out) → WordRoom words (reachedAt at len out)
     local-start d = let v = r .value in word-fits (v .start) (int-length (v .start)) (left-first (left-rest local-left (d (v .name))))
 
-    pub local-end : {a : Reached} → Step string dumpText words text s a → WordStep words a (place at len out) → WordRoom words (place at len out)
+    pub local-end : {a : Reached} → Step string dumpText words text s a → WordStep words a (reachedAt at len out) → WordRoom words (reachedAt at len out)
     local-end d e = let v = r .value in word-fits (v .end) (int-length (v .end)) (left-first (left-rest (left-rest local-left (d (v .name))) (e (v .start) text)))
 
 -- ---- the debug lists
 
-abbrev debugItems : Debug → List Item
-debugItems d = item (ints (d .lines)) (dumpCode (d .lines)) ∷ item (list localPiece (d .locals)) (dumpList dumpLocal (d .locals)) ∷ item (list string (d .upvalues)) (dumpList dumpText (d .upvalues)) ∷ []
+abbrev debugSegments : Debug → List Segment
+debugSegments d = segment (ints (d .lines)) (dumpCode (d .lines)) ∷ segment (list localPiece (d .locals)) (dumpList dumpLocal (d .locals)) ∷ segment (list string (d .upvalues)) (dumpList dumpText (d .upvalues)) ∷ []
 
-pub debug-made : (d : Debug) → Made (debugPiece d) (dumpDebug d) (debugItems d)
+pub debug-made : (d : Debug) → Made (debugPiece d) (dumpDebug d) (debugSegments d)
 debug-made d = made-three (ints (d .lines)) (list localPiece (d .locals)) (list string (d .upvalues)) (dumpCode (d .lines)) (dumpList dumpLocal (d .locals)) (dumpList dumpText (d .upvalues))
 
 -- none of them is three counts of 0
@@ -349,7 +349,7 @@ debug-stripped e w p d = rw e (dumps-past (w d) (λ to h. p))
 
 pub debug-dumped : {words text : List ℕ} {strip : Bool} {s a b r : Reached} → strip ≡ false → CodeStep words s a → Step (list localPiece) (dumpList dumpLocal) words text a b → Step (list string) (dumpList dumpText) words text b r
     → Step debugPiece (λ d. dumpDebug (kept strip d)) words text s r
-debug-dumped {text = text} e f g h d = rw e (dumps-made (debug-made d) (wrote-next (f (d .lines) text) (wrote-next (g (d .locals)) (wrote-next (h (d .upvalues)) wrote-none))))
+debug-dumped {text = text} e f g h d = rw e (dumps-made (debug-made d) (each-next (f (d .lines) text) (each-next (g (d .locals)) (each-next (h (d .upvalues)) each-none))))
 
 module _ {words text : List ℕ} {s : Reached} {strip : Bool} (r : Ready words text Any debugPiece (λ d. dumpDebug (kept strip d)) s) where
   pub no-debug-fits : strip ≡ true → s .len + 12 ≤ length (s .out)
@@ -357,7 +357,7 @@ module _ {words text : List ℕ} {s : Reached} {strip : Bool} (r : Ready words t
   no-debug-fits e = rw e at (r .fits .room)
 
   module _ (e : strip ≡ false) where
-    debug-left : Left words text (debugItems (r .value)) s
+    debug-left : Left words text (debugSegments (r .value)) s
     debug-left = left-made (debug-made (r .value)) (rw e at (r .fits))
 
     pub lines-ready : CodeRoom words s

@@ -10,7 +10,7 @@ use Rattle.format.specs.Write.{dumpFunction}
 use Rattle.proto.proofs.Walks.{none-deep}
 use Rattle.dump.specs.Step.{reached}
 use Rattle.dump.proofs.Lists.{Writing, count-ready, writing-start, writing-next, writing-turn}
-use Rattle.dump.proofs.Functions.{constants-dumped, function-dumped, opened, source-ready, line-ready, last-ready, packed-ready, code-ready, constants-ready, debug-ready, values-ready, children-ready}
+use Rattle.dump.proofs.Functions.{constants-dumped, function-dumped, function-opened, source-ready, line-ready, last-ready, packed-ready, code-ready, constants-ready, debug-ready, values-ready, children-ready}
 use borrow.Fn.Kinds.{In}
 use borrow.Fn.PlainCycle.{Measures, is, falls, and}
 use Rattle.dump.proofs.function.dump_constants.Reads as dump-constants
@@ -85,37 +85,37 @@ dump-constants-returns t c =
 dump-function-dump-source-requires : (t : ℕ) → dump-function-lts.Need-dump-source-requires (dump-function-calls t) (dump-function-at t) dump-function.Post
 dump-function-dump-source-requires t c κs =
     let c₁ = c .before in
-    source-ready (opened (c₁ .before .if1 .left) (c₁ .own-source .ensures) (c₁ .before .before .before .before .before .before .pre .1))
+    source-ready (function-opened (c₁ .before .if1 .left) (c₁ .own-source .ensures) (c₁ .before .before .before .before .before .before .pre .1))
 
 dump-function-dump-word-requires : (t : ℕ) → dump-function-lts.Need-dump-word-requires (dump-function-calls t) (dump-function-at t) dump-function.Post
 dump-function-dump-word-requires t c κs =
     let c₁ = c .before .before .before in let c₂ = c₁ .before .before in
-    line-ready (opened (c₂ .before .if1 .left) (c₂ .own-source .ensures) (c₂ .before .before .before .before .before .before .pre .1)) (c₁ .dump-source .ensures)
+    line-ready (function-opened (c₂ .before .if1 .left) (c₂ .own-source .ensures) (c₂ .before .before .before .before .before .before .pre .1)) (c₁ .dump-source .ensures)
 
 dump-function-dump-word-requires-2 : (t : ℕ) → dump-function-lts.Need-dump-word-requires-2 (dump-function-calls t) (dump-function-at t) dump-function.Post
 dump-function-dump-word-requires-2 t c κs =
     let c₁ = c .before .before .before in let c₂ = c₁ .before .before .before .before in let c₃ = c₂ .before .before in
-    last-ready (opened (c₃ .before .if1 .left) (c₃ .own-source .ensures) (c₃ .before .before .before .before .before .before .pre .1)) (c₂ .dump-source .ensures) (c₁ .dump-word .ensures)
+    last-ready (function-opened (c₃ .before .if1 .left) (c₃ .own-source .ensures) (c₃ .before .before .before .before .before .before .pre .1)) (c₂ .dump-source .ensures) (c₁ .dump-word .ensures)
 
 dump-function-dump-packed-requires : (t : ℕ) → dump-function-lts.Need-dump-packed-requires (dump-function-calls t) (dump-function-at t) dump-function.Post
 dump-function-dump-packed-requires t c κs =
     let c₁ = c .before .before .before in let c₂ = c₁ .before .before .before .before in
     let c₃ = c₂ .before .before .before .before in let c₄ = c₃ .before .before in
-    packed-ready (opened (c₄ .before .if1 .left) (c₄ .own-source .ensures) (c₄ .before .before .before .before .before .before .pre .1)) (c₃ .dump-source .ensures) (c₂ .dump-word .ensures) (c₁ .dump-word2 .ensures)
+    packed-ready (function-opened (c₄ .before .if1 .left) (c₄ .own-source .ensures) (c₄ .before .before .before .before .before .before .pre .1)) (c₃ .dump-source .ensures) (c₂ .dump-word .ensures) (c₁ .dump-word2 .ensures)
 
 dump-function-dump-code-requires : (t : ℕ) → dump-function-lts.Need-dump-code-requires (dump-function-calls t) (dump-function-at t) dump-function.Post
 dump-function-dump-code-requires t c κs =
     let c₁ = c .before .before .before in let c₂ = c₁ .before .before .before .before in
     let c₃ = c₂ .before .before .before .before in let c₄ = c₃ .before .before .before .before in
     let c₅ = c₄ .before .before in
-    code-ready (opened (c₅ .before .if1 .left) (c₅ .own-source .ensures) (c₅ .before .before .before .before .before .before .pre .1)) (c₄ .dump-source .ensures) (c₃ .dump-word .ensures) (c₂ .dump-word2 .ensures) (c₁ .dump-packed .ensures)
+    code-ready (function-opened (c₅ .before .if1 .left) (c₅ .own-source .ensures) (c₅ .before .before .before .before .before .before .pre .1)) (c₄ .dump-source .ensures) (c₃ .dump-word .ensures) (c₂ .dump-word2 .ensures) (c₁ .dump-packed .ensures)
 
 dump-function-dump-constants-requires : (t : ℕ) → dump-function-lts.Need-dump-constants-requires (dump-function-calls t) (dump-function-at t) dump-function.Post
 dump-function-dump-constants-requires t c κs =
     let c₁ = c .before .before .before in let c₂ = c₁ .before .before .before .before in
     let c₃ = c₂ .before .before .before .before in let c₄ = c₃ .before .before .before .before in
     let c₅ = c₄ .before .before .before .before in let c₆ = c₅ .before .before in
-    (omega (arith, c₆ .before .before .before .before .before .before .pre .0, c₆ .before .if1 .left), constants-ready (opened (c₆ .before .if1 .left) (c₆ .own-source .ensures) (c₆ .before .before .before .before .before .before .pre .1)) (c₅ .dump-source .ensures) (c₄ .dump-word .ensures) (c₃ .dump-word2 .ensures) (c₂ .dump-packed .ensures) (c₁ .dump-code .ensures))
+    (omega (arith, c₆ .before .before .before .before .before .before .pre .0, c₆ .before .if1 .left), constants-ready (function-opened (c₆ .before .if1 .left) (c₆ .own-source .ensures) (c₆ .before .before .before .before .before .before .pre .1)) (c₅ .dump-source .ensures) (c₄ .dump-word .ensures) (c₃ .dump-word2 .ensures) (c₂ .dump-packed .ensures) (c₁ .dump-code .ensures))
 
 dump-function-dump-debug-requires : (t : ℕ) → dump-function-lts.Need-dump-debug-requires (dump-function-calls t) (dump-function-at t) dump-function.Post
 dump-function-dump-debug-requires t c κs =
@@ -123,7 +123,7 @@ dump-function-dump-debug-requires t c κs =
     let c₃ = c₂ .before .before .before .before in let c₄ = c₃ .before .before .before .before in
     let c₅ = c₄ .before .before .before .before in let c₆ = c₅ .before .before .before .before in
     let c₇ = c₆ .before .before in
-    debug-ready (opened (c₇ .before .if1 .left) (c₇ .own-source .ensures) (c₇ .before .before .before .before .before .before .pre .1)) (c₆ .dump-source .ensures) (c₅ .dump-word .ensures) (c₄ .dump-word2 .ensures) (c₃ .dump-packed .ensures) (c₂ .dump-code .ensures) (c₁ .dump-constants .ensures)
+    debug-ready (function-opened (c₇ .before .if1 .left) (c₇ .own-source .ensures) (c₇ .before .before .before .before .before .before .pre .1)) (c₆ .dump-source .ensures) (c₅ .dump-word .ensures) (c₄ .dump-word2 .ensures) (c₃ .dump-packed .ensures) (c₂ .dump-code .ensures) (c₁ .dump-constants .ensures)
 
 dump-function-same-length : (t : ℕ) → dump-function-lts.Need-same-length (dump-function-calls t) (dump-function-at t) dump-function.Post
 dump-function-same-length t c =
