@@ -61,8 +61,8 @@ module _ (at : ℕ) (source out : List ℕ) (e : Bool) (r : at + length (sourceB
   own-puts h q = rw h (puts-in (string-length source) (room-own h) (omega arith) q)
 
 -- the source given is that of the function which stands there
-abbrev pub OwnSource : (words text outer source : List ℕ) (at : ℕ) → Type 0
-OwnSource words text outer source at = (v : Source) (to : ℕ) → Stands words text at to (sourcePiece v) → source ≡ filled outer v
+abbrev pub SourceIs : (words text outer source : List ℕ) (at : ℕ) → Type 0
+SourceIs words text outer source at = (v : Source) (to : ℕ) → Stands words text at to (sourcePiece v) → source ≡ filled outer v
 
 abbrev pub SourceStep : (words around outer source : List ℕ) (s r : Reached) → Type 0
 SourceStep words around outer source s r =
@@ -168,7 +168,7 @@ valid-parts {n} p fs h v =
     let w : Valid (Function.function p fs) (suc (n - 1)) = rw e at v in
     (w .0, w .2)
 
-pub function-dumped : {words text : List ℕ} {s a b c d e f r : Reached} (n : ℕ) (strip : Bool) (around outer source : List ℕ) → (n ≡ 0 → ⊥) → OwnSource words text outer source (s .at)
+pub function-dumped : {words text : List ℕ} {s a b c d e f r : Reached} (n : ℕ) (strip : Bool) (around outer source : List ℕ) → (n ≡ 0 → ⊥) → SourceIs words text outer source (s .at)
     → SourceStep words around outer source s a → WordStep words a b → WordStep words b c → PackedStep words c d → CodeStep words d e
     → ConstantsStep words text (n - 1) strip source e f → Step debugPiece (λ g. dumpDebug (kept strip g)) words text f r
     → (g : Function) → Valid g n → Dumps words text (functionPiece g) (dumpFunction g strip around outer) s r
@@ -190,7 +190,7 @@ pub record Opened (words text : List ℕ) (n : ℕ) (strip : Bool) (around outer
   left : Left words text (functionSegments strip around source parts functions) s
 
 module _ {words text : List ℕ} {n : ℕ} {strip : Bool} {around outer source : List ℕ} {s : Reached} where
-  pub function-opened : (n ≡ 0 → ⊥) → OwnSource words text outer source (s .at) → Ready words text (λ f. Valid f n) functionPiece (λ f. dumpFunction f strip around outer) s → Opened words text n strip around outer source s
+  pub function-opened : (n ≡ 0 → ⊥) → SourceIs words text outer source (s .at) → Ready words text (λ f. Valid f n) functionPiece (λ f. dumpFunction f strip around outer) s → Opened words text n strip around outer source s
   function-opened deep own x = go (x .value) (x .valid) (x .fits)
     where
       go : (g : Function) → Valid g n → Fits words text (functionPiece g) (dumpFunction g strip around outer) s → Opened words text n strip around outer source s
