@@ -16,9 +16,8 @@ use Rattle.format.specs.Write.{dumpNumber, dumpInt, dumpSize, dumpText, dumpLis
 pub int-bytes : (n : ℕ) → dumpInt n ≡ n % 256 ∷ n / 256 % 256 ∷ n / 65536 % 256 ∷ n / 16777216 % 256 ∷ []
 unfolding dumpNumber
 int-bytes n =
-    let a : n / 256 / 256 % 256 ≡ n / 65536 % 256 = omega arith in
-    let b : n / 256 / 256 / 256 % 256 ≡ n / 16777216 % 256 = omega arith in
-    rw (a, b)
+    let e : (n / 256 / 256 % 256 ≡ n / 65536 % 256) × (n / 256 / 256 / 256 % 256 ≡ n / 16777216 % 256) = omega arith in
+    rw (e .0, e .1)
 
 pub int-length : (n : ℕ) → length (dumpInt n) ≡ 4
 unfolding dumpNumber
@@ -27,27 +26,17 @@ int-length n = refl
 -- its four bytes, each at its place
 pub int-stored : (out : List ℕ) (at n : ℕ) → set (set (set (set out at (n % 256)) (at + 1) (n / 256 % 256)) (at + 2) (n / 65536 % 256)) (at + 3) (n / 16777216 % 256) ≡ sets out at (dumpInt n)
 int-stored out at n =
-    let a : at + 1 ≡ suc at = omega arith in
-    let b : at + 2 ≡ suc (suc at) = omega arith in
-    let c : at + 3 ≡ suc (suc (suc at)) = omega arith in
-    rw (a, b, c, int-bytes n)
-
--- a number whose upper part is a multiple of 256
-next-byte : (n a b : ℕ) → n ≡ a + 256 * b → (n % 256 ≡ a % 256) × (n / 256 ≡ a / 256 + b)
-next-byte n a b e = omega arith
+    let e : (at + 1 ≡ suc at) × (at + 2 ≡ suc (suc at)) × (at + 3 ≡ suc (suc (suc at))) = omega arith in
+    rw (e .0, e .1, e .2, int-bytes n)
 
 -- a size is two integers, the low one first
 pub size-ints : (n : ℕ) → dumpSize n ≡ dumpInt (n % 4294967296) ++ dumpInt (n / 4294967296)
 unfolding dumpNumber
 size-ints n =
     let low = n % 4294967296 in
-    let high = n / 4294967296 in
-    let a = next-byte n low (16777216 * high) (omega arith) in
-    let b = next-byte (n / 256) (low / 256) (65536 * high) (omega (arith, a .1)) in
-    let c = next-byte (n / 256 / 256) (low / 256 / 256) (256 * high) (omega (arith, b .1)) in
-    let d = next-byte (n / 256 / 256 / 256) (low / 256 / 256 / 256) high (omega (arith, c .1)) in
-    let e : n / 256 / 256 / 256 / 256 ≡ high = d .1 ∙ omega arith in
-    rw (a .0, b .0, c .0, d .0, e)
+    let e : (n % 256 ≡ low % 256) × (n / 256 % 256 ≡ low / 256 % 256) × (n / 256 / 256 % 256 ≡ low / 256 / 256 % 256) × (n / 256 / 256 / 256 % 256 ≡ low / 256 / 256 / 256 % 256) = omega arith in
+    let f : n / 256 / 256 / 256 / 256 ≡ n / 4294967296 = omega arith in
+    rw (e .0, e .1, e .2, e .3, f)
 
 -- ---- one behind the other
 

@@ -166,16 +166,13 @@ module _ {words text : List ℕ} {s : Reached} where
 
   pub code-fits : (l : List ℕ) → Fits words text (ints l) (dumpCode l) s → CodeRoom words s
   code-fits l f =
-      let w = f .stands .in-words in
-      let n : getD words (s .at) 0 ≡ length l = here-get (length l) l w in
-      (omega (arith, here-length (length l ∷ l) w), omega (arith, f .room, code-length l))
+      let n : getD words (s .at) 0 ≡ length l = here-get (length l) l (f .stands .in-words) in
+      (omega (arith, here-length (length l ∷ l) (f .stands .in-words)), omega (arith, f .room, code-length l))
 
   pub name-fits : (n : List ℕ) → Fits words text (string n) (dumpText n) s → NameRoom words s
   name-fits n f =
-      let w = f .stands .in-words in
-      let l = f .to ∷ length n ∷ [] in
-      let e : getD words (s .at + 1) 0 ≡ length n = here-item l 1 (omega arith) w in
-      (omega (arith, here-length l w), omega (arith, f .room, string-length n))
+      let e : getD words (s .at + 1) 0 ≡ length n = here-item (f .to ∷ length n ∷ []) 1 (omega arith) (f .stands .in-words) in
+      (omega (arith, here-length (f .to ∷ length n ∷ []) (f .stands .in-words)), omega (arith, f .room, string-length n))
 
   -- a piece of three words
   pub three-within : {b : List ℕ} (p : Piece) → ((to : ℕ) → length (p .words to) ≡ 3) → Fits words text p b s → s .at + 3 ≤ length words
