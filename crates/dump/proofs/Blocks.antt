@@ -12,22 +12,17 @@ use Rattle.format.specs.Write.{dumpNumber, dumpInt, dumpSize, dumpText, dumpLis
 
 -- ---- one integer
 
--- its bytes, low byte first
-pub int-bytes : (n : ℕ) → dumpInt n ≡ n % 256 ∷ n / 256 % 256 ∷ n / 65536 % 256 ∷ n / 16777216 % 256 ∷ []
-unfolding dumpNumber
-int-bytes n =
-    let e : (n / 256 / 256 % 256 ≡ n / 65536 % 256) × (n / 256 / 256 / 256 % 256 ≡ n / 16777216 % 256) = omega arith in
-    rw (e .0, e .1)
-
 pub int-length : (n : ℕ) → length (dumpInt n) ≡ 4
 unfolding dumpNumber
 int-length n = refl
 
 -- its four bytes, each at its place
 pub int-stored : (out : List ℕ) (at n : ℕ) → set (set (set (set out at (n % 256)) (at + 1) (n / 256 % 256)) (at + 2) (n / 65536 % 256)) (at + 3) (n / 16777216 % 256) ≡ sets out at (dumpInt n)
+unfolding dumpNumber
 int-stored out at n =
     let e : (at + 1 ≡ suc at) × (at + 2 ≡ suc (suc at)) × (at + 3 ≡ suc (suc (suc at))) = omega arith in
-    rw (e .0, e .1, e .2, int-bytes n)
+    let f : (n / 65536 % 256 ≡ n / 256 / 256 % 256) × (n / 16777216 % 256 ≡ n / 256 / 256 / 256 % 256) = omega arith in
+    rw (e .0, e .1, e .2, f .0, f .1)
 
 -- a size is two integers, the low one first
 pub size-ints : (n : ℕ) → dumpSize n ≡ dumpInt (n % 4294967296) ++ dumpInt (n / 4294967296)

@@ -28,7 +28,7 @@ use Rattle.proto.proofs.Walks.{past-word, past-words}
 use Rattle.proto.proofs.Pieces.{Same, stands-same, stands-left, stands-right, constant-words}
 use Rattle.dump.specs.declared.list.DumpState.{DumpState}
 use Rattle.dump.specs.Step.{Reached, reached, Dumps, Fits, Ready, Any}
-use Rattle.dump.proofs.Blocks.{int-bytes, int-length, stored-then, string-length, code-length, puts-in}
+use Rattle.dump.proofs.Blocks.{int-length, stored-then, string-length, code-length, puts-in}
 
 -- ---- one behind the other
 
@@ -196,11 +196,11 @@ unpacked : (p : Parts) → ValidParts p
 unpacked p v = omega arith
 
 four-bytes : (a b c d : ℕ) → Byte a → Byte b → Byte c → Byte d → dumpInt (((a * 256 + b) * 256 + c) * 256 + d) ≡ d ∷ c ∷ b ∷ a ∷ []
+unfolding dumpNumber
 four-bytes a b c d ha hb hc hd =
     let w = ((a * 256 + b) * 256 + c) * 256 + d in
-    let e : (w / 16777216 ≡ a) × (w / 65536 % 256 ≡ b) × (w / 256 % 256 ≡ c) × (w % 256 ≡ d) = omega arith in
-    let f : w / 16777216 % 256 ≡ a = omega (arith, e .0) in
-    int-bytes w ∙ rw (e .1, e .2, e .3, f)
+    let e : (w % 256 ≡ d) × (w / 256 % 256 ≡ c) × (w / 256 / 256 % 256 ≡ b) × (w / 256 / 256 / 256 % 256 ≡ a) = omega arith in
+    rw (e .0, e .1, e .2, e .3)
 
 -- a string of the text is no longer than the word behind its place says
 pub name-room : {name : List ℕ} (words text out : List ℕ) (s : DumpState) → NameRoom words (reached s out) → name ≡ part text (getD words (s .at) 0) (getD words (s .at + 1) 0) → s .len + (length name + 9) ≤ length out
