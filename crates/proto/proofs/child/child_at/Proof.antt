@@ -6,15 +6,11 @@ use Rattle.proto.proofs.Children.{child-further}
 use Rattle.proto.proofs.child.child_at.Statement.{statement}
 use Rattle.proto.proofs.child.child_at.Tie as tie
 
-sub-pass-all : tie.Need-sub-pass-all
-sub-pass-all c = omega (arith, c .before .start-child .ensures .0)
-
 returns : tie.Need-returns
 returns c = let s = c .before .before .start-child .ensures in (refl, λ h. child-further (s .0) (c .pass-all .ensures) (s .1 _ h))
 
 pub child-at-spec : {M : Type 1} → statement M
 child-at-spec = tie.close (tie.spec
-    (λ c. search needs)  -- start-child-requires
-    sub-pass-all
+    (λ c. search needs) (λ c. search needs)  -- start-child-requires, sub-pass-all
     (λ c. search needs)  -- pass-all-requires
     returns)

@@ -76,9 +76,6 @@ check-functions-calls t = (word-at-reads.Asked, word-at-reads.Learnt, check-word
 check-function-returns : (t : ℕ) → check-function-lts.Need-returns (check-function-calls t) (check-function-at t) check-function.Post
 check-function-returns t c = function-deep (c .before .if1 .taken) (c .wrong .ensures)
 
-check-function-sub-check-functions : (t : ℕ) → check-function-lts.Need-sub-check-functions (check-function-calls t) (check-function-at t) check-function.Post
-check-function-sub-check-functions t c = omega (arith, c .before .before .before .before .before .before .if1 .left)
-
 check-function-check-functions-requires :
     (t : ℕ) → check-function-lts.Need-check-functions-requires (check-function-calls t) (check-function-at t) check-function.Post
 check-function-check-functions-requires t c κs =
@@ -119,10 +116,6 @@ check-functions-returns t c =
     let c₄ = c₃ .before .before .before in
     children-checked (c₄ .args .allowance) (counted (c₃ .word-at .ensures) (c₂ .check-word .ensures _) (loop-stop (omega arith) (c₁ .loop .inv) (λ k. all-stopped (not-true _ (c .if1 .taken)) _)))
 
-check-functions-check-function-requires :
-    (t : ℕ) → check-functions-lts.Need-check-function-requires (check-functions-calls t) (check-functions-at t) check-functions.Post check-functions-Inv-loop check-functions-μ-loop
-check-functions-check-function-requires t c κs = let p = c .before .before .before .before .before .before .before .before .pre in (omega (arith, p .0), p .1)
-
 check-functions-loop-again : (t : ℕ) → check-functions-lts.Need-loop-again (check-functions-calls t) (check-functions-at t) check-functions.Post check-functions-Inv-loop check-functions-μ-loop
 check-functions-loop-again t c = loop-turn (omega arith) (c .before .before .before .before .loop .inv) (all-more (c .check-function .ensures))
 
@@ -139,12 +132,13 @@ pub +check-function+check-functions-spec : {M : Type 1} → statement M
     (λ c. search needs) (λ c. search needs)  -- check-source-requires, check-word-requires
     (λ c. search needs) (λ c. search needs)  -- check-word-requires-2, check-word-requires-3
     (λ c. search needs) (λ c. search needs)  -- check-ints-requires, check-constants-requires
-    (check-function-sub-check-functions t) (check-function-check-functions-requires t)
+    (λ c. search needs)  -- sub-check-functions
+    (check-function-check-functions-requires t)
     (λ c. search needs)  -- check-ints-requires-2
     (check-function-check-locals-requires t) (check-function-check-names-requires t) (check-function-returns-2 t))
     λ t. check-functions-lts.spec (check-functions-calls t) (check-functions-at t) check-functions.Post
     check-functions-Inv-loop check-functions-μ-loop
     (λ c. search needs) (λ c. search needs)  -- word-at-requires, check-word-requires
-    (check-functions-loop-holds t) (check-functions-returns t) (check-functions-check-function-requires t)
-    (λ c. omega arith) (λ c. omega arith)  -- add-i, loop-less
+    (check-functions-loop-holds t) (check-functions-returns t)
+    (λ c. search needs) (λ c. omega arith) (λ c. omega arith)  -- check-function-requires, add-i, loop-less
     (check-functions-loop-again t) (check-functions-returns-2 t)

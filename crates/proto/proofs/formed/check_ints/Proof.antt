@@ -9,11 +9,6 @@ use Rattle.proto.proofs.formed.check_ints.Tie as tie
 sub-if2 : tie.Need-sub-if2
 sub-if2 c = omega (arith, ints-within (c .before .before .before .before .args .words .now) (c .before .word-at .ensures) (c .before .before .check-word .ensures) (c .if1 .taken))
 
-add-t11 : tie.Need-add-t11
-add-t11 c =
-    let c₁ = c .before in let c₂ = c₁ .before in let c₃ = c₂ .before in let c₄ = c₃ .before .before in
-    omega (arith, ints-within (c₄ .args .words .now) (c₂ .word-at .ensures) (c₃ .check-word .ensures) (c₁ .if1 .taken))
-
 returns : tie.Need-returns
 returns c = λ t. ints-good t (c .before .before .word-at .ensures) (c .before .before .before .check-word .ensures) (λ i. omega (arith, c .before .before .before .before .shared-slice-known .given i)) (c .before .if1 .taken) (omega arith)
 
@@ -23,6 +18,8 @@ returns-2 c = λ t. ints-bad t (c .before .before .word-at .ensures) (c .before 
 pub check-ints-spec : {M : Type 1} → statement M
 check-ints-spec = tie.close (tie.spec
     (λ c. search needs) (λ c. search needs) (λ c. search needs)  -- check-word-requires, word-at-requires, cast-n
-    sub-if2 add-t11 returns
+    sub-if2
+    (λ c. search needs)  -- add-t11
+    returns
     (λ c. search needs)  -- wrong-requires
     returns-2)

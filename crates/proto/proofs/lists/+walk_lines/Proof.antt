@@ -47,17 +47,6 @@ walk-lines-returns-2 t c =
     let c₆ = c₅ .before .before .before .before in
     (passes-lines (c₄ .word-at .ensures) (c₅ .functions-at .ensures) (c₃ .skip .ensures) (c₂ .further .ensures) (all-deep (c .if2 .taken) (c₁ .if1 .left)), c₆ .pre .1)
 
-walk-lines-sub-walk-lines : (t : ℕ) → walk-lines-lts.Need-sub-walk-lines (walk-lines-calls t) (walk-lines-at t) walk-lines.Post
-walk-lines-sub-walk-lines t c = omega (arith, c .if2 .left)
-
-walk-lines-walk-lines-requires : (t : ℕ) → walk-lines-lts.Need-walk-lines-requires (walk-lines-calls t) (walk-lines-at t) walk-lines.Post
-walk-lines-walk-lines-requires t c κs =
-    let c₁ = c .before .before in let c₂ = c₁ .before .before .before .before .before .before .before .before .before in
-    (omega (arith, c₂ .pre .0, c₁ .if2 .left), c₂ .pre .1)
-
-walk-lines-sub-pass-all : (t : ℕ) → walk-lines-lts.Need-sub-pass-all (walk-lines-calls t) (walk-lines-at t) walk-lines.Post
-walk-lines-sub-pass-all t c = omega (arith, c .before .before .before .before .before .before .before .before .before .if1 .left)
-
 walk-lines-returns-3 : (t : ℕ) → walk-lines-lts.Need-returns-3 (walk-lines-calls t) (walk-lines-at t) walk-lines.Post
 walk-lines-returns-3 t c =
     let c₁ = c .before .before .before .before in let c₂ = c₁ .before .before .before in let c₃ = c₂ .before in
@@ -72,9 +61,9 @@ pub +walk-lines-spec : {M : Type 1} → statement M
     (λ c. search needs) (λ c. search needs)  -- functions-at-requires, word-at-requires
     (λ c. search needs) (λ c. search needs) (λ c. search needs)  -- skip-requires, further-requires, keep-requires
     (λ c. search needs) (λ c. search needs)  -- same-length, same-length-2
-    (walk-lines-returns t) (walk-lines-returns-2 t) (walk-lines-sub-walk-lines t) (walk-lines-walk-lines-requires t)
-    (λ c. search needs)  -- after-debug-requires
-    (walk-lines-sub-pass-all t)
+    (walk-lines-returns t) (walk-lines-returns-2 t)
+    (λ c. search needs) (λ c. search needs)  -- sub-walk-lines, walk-lines-requires
+    (λ c. search needs) (λ c. search needs)  -- after-debug-requires, sub-pass-all
     (λ c. search needs) (λ c. search needs) (λ c. search needs)  -- pass-all-requires, keep-requires-2, same-length-3
     (λ c. search needs)  -- same-length-4
     (walk-lines-returns-3 t)

@@ -47,14 +47,6 @@ seek-returns-2 t c = λ f v. search-here (c .before .before .before .before .arg
 seek-loop-holds : (t : ℕ) → seek-lts.Need-loop-holds (seek-calls t) (seek-at t) seek.Post seek-Inv-loop seek-μ-loop
 seek-loop-holds t c = loop-start
 
-seek-sub-seek : (t : ℕ) → seek-lts.Need-sub-seek (seek-calls t) (seek-at t) seek.Post seek-Inv-loop seek-μ-loop
-seek-sub-seek t c = omega (arith, c .before .before .before .before .before .before .before .if1 .left)
-
-seek-seek-requires : (t : ℕ) → seek-lts.Need-seek-requires (seek-calls t) (seek-at t) seek.Post seek-Inv-loop seek-μ-loop
-seek-seek-requires t c κs =
-    let c₁ = c .before .before .before .before .before .before .before in let c₂ = c₁ .before .before in
-    (omega (arith, c₂ .pre .0, c₁ .if1 .left), tt)
-
 seek-returns-3 : (t : ℕ) → seek-lts.Need-returns-3 (seek-calls t) (seek-at t) seek.Post seek-Inv-loop seek-μ-loop
 seek-returns-3 t c =
     let c₁ = c .before in let c₂ = c₁ .before .before in let c₃ = c₂ .before in let c₄ = c₃ .before in
@@ -83,7 +75,9 @@ pub +seek-spec : {M : Type 1} → statement M
     (seek-returns-2 t)
     (λ c. search needs) (λ c. search needs)  -- functions-at-requires, word-at-requires
     (λ c. search needs)  -- skip-requires
-    (seek-loop-holds t) (seek-sub-seek t) (seek-seek-requires t) (seek-returns-3 t)
+    (seek-loop-holds t)
+    (λ c. search needs) (λ c. search needs)  -- sub-seek, seek-requires
+    (seek-returns-3 t)
     (λ c. omega arith) (λ c. omega arith)  -- add-i, loop-less
     (seek-loop-again t)
     (λ c. search needs)  -- after-debug-requires

@@ -51,12 +51,6 @@ pass-all-calls t = (pass-below t, pass.Post)
 pass-returns : (t : ℕ) → pass-lts.Need-returns (pass-calls t) (pass-at t) pass.Post
 pass-returns t c = λ f v. absurd (none-deep (c .if1 .taken) f v)
 
-pass-sub-pass-all : (t : ℕ) → pass-lts.Need-sub-pass-all (pass-calls t) (pass-at t) pass.Post
-pass-sub-pass-all t c = omega (arith, c .before .before .before .before .if1 .left)
-
-pass-pass-all-requires : (t : ℕ) → pass-lts.Need-pass-all-requires (pass-calls t) (pass-at t) pass.Post
-pass-pass-all-requires t c κs = (omega (arith, c .before .before .before .before .before .before .pre .0, c .before .before .before .before .if1 .left), tt)
-
 pass-returns-2 : (t : ℕ) → pass-lts.Need-returns-2 (pass-calls t) (pass-at t) pass.Post
 pass-returns-2 t c =
     let c₁ = c .before in let c₂ = c₁ .before in let c₃ = c₂ .before in let c₄ = c₃ .before in let c₅ = c₄ .before in
@@ -74,9 +68,6 @@ pass-all-μ-loop words n allowance r₀ k₀ r k = n - k
 pass-all-loop-holds : (t : ℕ) → pass-all-lts.Need-loop-holds (pass-all-calls t) (pass-all-at t) pass-all.Post pass-all-Inv-loop pass-all-μ-loop
 pass-all-loop-holds t c = loop-start
 
-pass-all-pass-requires : (t : ℕ) → pass-all-lts.Need-pass-requires (pass-all-calls t) (pass-all-at t) pass-all.Post pass-all-Inv-loop pass-all-μ-loop
-pass-all-pass-requires t c κs = (omega (arith, c .before .before .before .pre .0), tt)
-
 pass-all-loop-again : (t : ℕ) → pass-all-lts.Need-loop-again (pass-all-calls t) (pass-all-at t) pass-all.Post pass-all-Inv-loop pass-all-μ-loop
 pass-all-loop-again t c = loop-turn (omega arith) (c .before .before .loop .inv) (all-more (c .pass .ensures))
 
@@ -86,11 +77,10 @@ pass-all-returns t c = loop-end (omega arith) (c .before .loop .inv) all-none
 pub +pass+pass-all-spec : {M : Type 1} → statement M
 +pass+pass-all-spec = close μ-pass μ-pass-all (λ t. pass-lts.spec (pass-calls t) (pass-at t) pass.Post (pass-returns t)
     (λ c. search needs) (λ c. search needs)  -- functions-at-requires, word-at-requires
-    (λ c. search needs) (λ c. search needs)  -- skip-requires, further-requires
-    (pass-sub-pass-all t) (pass-pass-all-requires t)
-    (λ c. search needs)  -- after-debug-requires
+    (λ c. search needs) (λ c. search needs) (λ c. search needs)  -- skip-requires, further-requires, sub-pass-all
+    (λ c. search needs) (λ c. search needs)  -- pass-all-requires, after-debug-requires
     (pass-returns-2 t))
     λ t. pass-all-lts.spec (pass-all-calls t) (pass-all-at t) pass-all.Post pass-all-Inv-loop pass-all-μ-loop
-    (pass-all-loop-holds t) (pass-all-pass-requires t)
-    (λ c. omega arith) (λ c. omega arith)  -- add-k, loop-less
+    (pass-all-loop-holds t)
+    (λ c. search needs) (λ c. omega arith) (λ c. omega arith)  -- pass-requires, add-k, loop-less
     (pass-all-loop-again t) (pass-all-returns t)
