@@ -1,5 +1,5 @@
 -- Places behind pieces: one behind the other, lists, and the functions in a function.
-use Prim.Native.Nat.{ℕ, suc, _+_, _*_, _≤_, min}
+use Prim.Native.Nat.{ℕ, suc, _+_, _-_, _*_, _≤_, min}
 use mathlib.Core.Path.{_≡_, refl, sym, _∙_}
 use mathlib.Core.List.{List, [], _∷_}
 use native.Mathlib.Omega.{arith}
@@ -139,3 +139,15 @@ module _ {words : List ℕ} where
 pub none-deep : {n : ℕ} → n ≡ 0 → (f : Function) → Valid f n → ⊥
 unfolding Valid
 none-deep e (Function.function p fs) v = rw e at v
+
+pub valid-inside : {n : ℕ} → (n ≡ 0 → ⊥) → (p : Parts) (fs : Functions) → Valid (Function.function p fs) n → ValidAll fs (n - 1)
+unfolding Valid
+valid-inside {n} z p fs v = let e : n ≡ suc (n - 1) = omega arith in (rw e at v) .2
+
+-- past a function: to the functions in it, past as many as the count says, and past the debug lists
+pub pass-inside : {words : List ℕ} {allowance i a b x k : ℕ} {s m : Next} → (allowance ≡ 0 → ⊥) → ((p : Parts) (fs : Functions) → Past words (toFunctions p fs) (s .at) a) → i ≡ getD words a 0 → Skips words 1 a b
+    → x ≡ min (s .number + 1) far → PassesAll words (allowance - 1) i (record { at = b; number = x }) m → ((d : Debug) → Past words (debugPiece d) (m .at) k)
+    → (f : Function) → Valid f allowance → Passes words (functionPiece f) (total f) s (record { at = k; number = m .number })
+pass-inside {allowance = allowance} z w e skip x all d =
+    let y : allowance ≡ suc (allowance - 1) = omega arith in
+    rw y (passes-function (allowance - 1) (passes-lines e w skip x all) d refl)

@@ -140,5 +140,5 @@ pub +check-function+check-functions-spec : {M : Type 1} → statement M
     check-functions-Inv-loop check-functions-μ-loop
     (λ c. search needs) (λ c. search needs)  -- word-at-requires, check-word-requires
     (check-functions-loop-holds t) (check-functions-returns t)
-    (λ c. search needs) (λ c. omega arith) (λ c. omega arith)  -- check-function-requires, add-i, loop-less
+    (λ c κs. search needs) (λ c. omega arith) (λ c. omega arith)  -- check-function-requires, add-i, loop-less
     (check-functions-loop-again t) (check-functions-returns-2 t)

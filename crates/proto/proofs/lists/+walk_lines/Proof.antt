@@ -62,7 +62,7 @@ pub +walk-lines-spec : {M : Type 1} → statement M
     (λ c. search needs) (λ c. search needs) (λ c. search needs)  -- skip-requires, further-requires, keep-requires
     (λ c. search needs) (λ c. search needs)  -- same-length, same-length-2
     (walk-lines-returns t) (walk-lines-returns-2 t)
-    (λ c. search needs) (λ c. search needs)  -- sub-walk-lines, walk-lines-requires
+    (λ c. search needs) (λ c κs. search needs)  -- sub-walk-lines, walk-lines-requires
     (λ c. search needs) (λ c. search needs)  -- after-debug-requires, sub-pass-all
     (λ c. search needs) (λ c. search needs) (λ c. search needs)  -- pass-all-requires, keep-requires-2, same-length-3
     (λ c. search needs)  -- same-length-4
