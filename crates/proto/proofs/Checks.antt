@@ -2,12 +2,13 @@
 use Prim.Native.Nat.{ℕ, suc, zero-le, _+_, _-_, _≤_, _<_, _^_}
 use mathlib.Core.Path.{_≡_, refl, sym, ap, _∙_}
 use mathlib.Core.List.{List, [], _∷_}
-use mathlib.Core.Bool.{Bool, true, false}
+use mathlib.Core.Bool.{Bool, true, false, not}
 use native.Mathlib.Omega.{arith}
 use native.Mathlib.Decide.{decLt}
 use native.Mathlib.Nat.{add-zero, add-assoc}
 use lib.ListN.{length, drop, getD, length-append, length-drop, length-take, List·getD-eq-default}
 use lib.Seq.{getD-take, getD-drop, length-take-le}
+use borrow.Author.Tests.{not-true}
 use Rattle.lent.specs.Memory.{Every, Word, Bytes}
 use Rattle.utf8.specs.Utf8.{isUtf8, isAscii}
 use Rattle.utf8.proofs.Laws.{utf8-bytes, utf8-ascii}
@@ -17,6 +18,7 @@ use Rattle.format.specs.Store.{Piece, word, _⊕_, string, pieces, list, ints}
 use Rattle.format.specs.Stored.{part, Here}
 use Rattle.format.specs.Valid.{Name, ValidList}
 use Rattle.format.proofs.Stored.{here-left, here-part}
+use Rattle.format.proofs.Loops.{Loop, loop-turn, loop-stop, loop-end}
 use Rattle.proto.specs.declared.formed.Checked.{Checked}
 use Rattle.proto.specs.Walk.{Stands}
 use Rattle.proto.specs.Formed.{Passed, Check, Within, three, Three}
@@ -167,7 +169,7 @@ pub record CheckAll {A : Type 0} (words text : List ℕ) (P : A → Type 0) (pie
   pub all : Check words text (λ l. (length l ≡ n) × Every P l) (pieces piece) s r
 
 module _ {A : Type 0} {words text : List ℕ} {P : A → Type 0} {piece : A → Piece} where
-  pub all-none : {s : Checked} → CheckAll words text P piece 0 s s
+  all-none : {s : Checked} → CheckAll words text P piece 0 s s
   unfolding pieces Every
   all-none {s} =
       record {
@@ -181,7 +183,7 @@ module _ {A : Type 0} {words text : List ℕ} {P : A → Type 0} {piece : A → 
       go [] e h = record { ok = h; at = sym (add-zero _); to = sym (add-zero _) }
       go (a ∷ l) e h = absurd (omega arith)
 
-  pub all-more : {s m : Checked} → Check words text P piece s m → (n : ℕ) (r : Checked) → CheckAll words text P piece n m r → CheckAll words text P piece (suc n) s r
+  all-more : {s m : Checked} → Check words text P piece s m → (n : ℕ) (r : Checked) → CheckAll words text P piece n m r → CheckAll words text P piece (suc n) s r
   unfolding pieces Every
   all-more {s} c n r d =
       record {
@@ -192,11 +194,8 @@ module _ {A : Type 0} {words text : List ℕ} {P : A → Type 0} {piece : A → 
       go [] e k = absurd (omega arith)
       go (a ∷ l) e k = record { value = (a, l); valid = (k .0, (omega arith, k .1)); same = same-refl }
 
-  pub all-stopped : {s : Checked} → s .ok ≡ false → (n : ℕ) → CheckAll words text P piece n s s
-  all-stopped e n = record { all = check-stopped e }
-
   -- a count, and as many items
-  pub counted : {n : ℕ} {s m r : Checked} → n ≡ getD words (s .at) 0 → Check words text (Within 0 limit) word s m → CheckAll words text P piece n m r → Check words text (ValidList P) (list piece) s r
+  counted : {n : ℕ} {s m r : Checked} → n ≡ getD words (s .at) 0 → Check words text (Within 0 limit) word s m → CheckAll words text P piece n m r → Check words text (ValidList P) (list piece) s r
   counted {n} {s} {m} {r} e c d =
       let w = check-then c (d .all) in
       record {
@@ -211,6 +210,17 @@ module _ {A : Type 0} {words text : List ℕ} {P : A → Type 0} {piece : A → 
             let g : length l ≡ n = sym (here-get (length l) _ (t .in-words)) ∙ sym e in
             w .complete h (length l, l) (record { above = zero-le; below = k .short }, (g, k .items)) t;
       }
+
+  -- the loop over the items: one more, one that is not well formed, and none left
+  pub items-turn : {n i : ℕ} {s m r : Checked} → i < n → Loop (CheckAll words text P piece) n s i m → Check words text P piece m r → Loop (CheckAll words text P piece) n s (i + 1) r
+  items-turn h l c = loop-turn h l (all-more c)
+
+  module _ {n i : ℕ} {s m r : Checked} (e : n ≡ getD words (s .at) 0) (c : (t : List ℕ) → Check words t (Within 0 limit) word s m) (l : Loop (CheckAll words text P piece) n m i r) where
+    pub items-stop : i < n → not (r .ok) ≡ true → Check words text (ValidList P) (list piece) s r
+    items-stop h o = counted e (c text) (loop-stop h l (λ k. record { all = check-stopped (not-true _ o) }))
+
+    pub items-end : n ≤ i → Check words text (ValidList P) (list piece) s r
+    items-end h = counted e (c text) (loop-end h l all-none)
 
 -- ---- words and bytes as they stand
 

@@ -15,7 +15,7 @@ use Rattle.proto.specs.declared.walk.Next.{Next}
 use Rattle.proto.specs.declared.lists.Lists.{Lists}
 use Rattle.proto.specs.Walk.{StandsAt, Skips, Past, Passes, PassesAll, toCode, toConstants, toFunctions, toLines, toLocals, totalAll}
 use Rattle.proto.specs.Lists.{ListsAt, ListsFound, LinesAt, LinesKept, WalksToLines}
-use Rattle.proto.proofs.Walks.{past-then, past-ints, past-locals, skip-items, all-none, all-more, passes-function, passes-past, none-deep}
+use Rattle.proto.proofs.Walks.{past-then, past-ints, past-locals, skip-items, all-none, all-more, passes-past, none-deep, pass-inside}
 use Rattle.proto.proofs.Items.{somewhere, code-stands, constants-stand, functions-stand, lines-stand, locals-stand, upvalues-stand}
 
 -- ---- the lists of a function
@@ -75,6 +75,11 @@ kept-more {words} {begins} {lines} {k} {at} {r} hb hl w l = record { kept = λ j
 pub walked : {words : List ℕ} {allowance : ℕ} {s r : Next} → WalksToLines words allowance s r → LinesAt words allowance (s .at) (r .at)
 walked w = record { past = λ p fs v. passes-past (w p fs v) }
 
+-- and they are kept
+pub walked-kept : {words begins lines begins′ lines′ : List ℕ} {allowance : ℕ} {s r : Next} → ((ws : List ℕ) → LinesKept ws begins lines → LinesAt ws allowance (s .at) (r .at) → LinesKept ws begins′ lines′)
+    → LinesKept words begins lines → WalksToLines words allowance s r → WalksToLines words allowance s r × LinesKept words begins′ lines′
+walked-kept keep k w = (w, keep _ k (walked w))
+
 pub all-zero : {words : List ℕ} {i n : ℕ} {s : Next} → i ≡ 0 → PassesAll words n i s s
 all-zero e = rw e all-none
 
@@ -88,8 +93,6 @@ all-deep {words} {i} {n} {s} {r} z h = record { all = go }
     go (Functions.more f fs) v e = absurd (none-deep z f (v .0))
 
 -- the first function, then the others
-pub all-first : {words : List ℕ} {i n : ℕ} {s m l r : Next} → 0 < n → 0 < i → WalksToLines words (n - 1) s l → ((d : Debug) → Past words (debugPiece d) (l .at) (m .at)) → m .number ≡ l .number → PassesAll words n (i - 1) m r → PassesAll words n i s r
-all-first {words} {i} {n} {s} {m} {l} {r} hn hi w d e others =
-    let x : i ≡ suc (i - 1) = omega arith in
-    let y : n ≡ suc (n - 1) = omega arith in
-    rw x (all-more (rw y (passes-function (n - 1) w d e)) (i - 1) r others)
+pub all-first : {words : List ℕ} {i n k : ℕ} {s l r : Next} → (n ≡ 0 → ⊥) → (i ≡ 0 → ⊥) → WalksToLines words (n - 1) s l → ((d : Debug) → Past words (debugPiece d) (l .at) k)
+    → PassesAll words n (i - 1) (record { at = k; number = l .number }) r → PassesAll words n i s r
+all-first {i = i} {r = r} hn hi w d others = let x : i ≡ suc (i - 1) = omega arith in rw x (all-more (pass-inside hn w d) (i - 1) r others)

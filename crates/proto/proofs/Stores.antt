@@ -1,5 +1,5 @@
 -- What the check of each part of a function finds, and of a whole store: it holds where, and only where, the store holds a tree.
-use Prim.Native.Nat.{ℕ, zero, suc, zero-le, _+_, _*_, _/_, _%_, _≤_, _<_}
+use Prim.Native.Nat.{ℕ, zero, suc, zero-le, _+_, _-_, _*_, _/_, _%_, _≤_, _<_}
 use mathlib.Core.Path.{_≡_, refl, ap, _∙_}
 use mathlib.Core.List.{List, [], _∷_}
 use mathlib.Core.Bool.{Bool, true, false, cond}
@@ -177,8 +177,8 @@ pub children-list : (fs : Functions) → list functionPiece (children fs) ≡ ch
 children-list fs = rw (children-count fs, children-pieces fs)
 
 module _ {words text : List ℕ} where
-  pub children-checked : {s r : Checked} (n : ℕ) → Check words text (ValidList (λ f. Valid f n)) (list functionPiece) s r → Check words text (ValidChildren n) childrenPiece s r
-  children-checked n c =
+  pub children-checked : {s r : Checked} {n : ℕ} → Check words text (ValidList (λ f. Valid f n)) (list functionPiece) s r → Check words text (ValidChildren n) childrenPiece s r
+  children-checked {n = n} c =
       check-as
       (λ l k.
       let e = children-of l in
@@ -254,19 +254,21 @@ parts-valid n v k =
     }
 
 module _ {words text : List ℕ} where
-  pub function-checked : (n : ℕ) {s a b c d e f g h i r : Checked} → Check words text ValidSource sourcePiece s a
-      → Check words text (Within 0 4294967295) word a b → Check words text (Within 0 4294967295) word b c → Check words text (Within 0 4294967295) word c d
-      → Check words text (ValidList Word) ints d e → Check words text (ValidList ValidConstant) (list constantPiece) e f → Check words text (ValidChildren n) childrenPiece f g
-      → Check words text (ValidList Word) ints g h → Check words text (ValidList ValidLocal) (list localPiece) h i → Check words text (ValidList (λ n. Name n)) (list string) i r
-      → Check words text (λ k. Valid k (suc n)) functionPiece s r
+  pub function-checked : {allowance : ℕ} {s a b c d e f g h i r : Checked} → (allowance ≡ 0 → ⊥) → Check words text ValidSource sourcePiece s a
+      → ((t : List ℕ) → Check words t (Within 0 4294967295) word a b) → ((t : List ℕ) → Check words t (Within 0 4294967295) word b c) → ((t : List ℕ) → Check words t (Within 0 4294967295) word c d)
+      → ((t : List ℕ) → Check words t (ValidList Word) ints d e) → Check words text (ValidList ValidConstant) (list constantPiece) e f → Check words text (ValidChildren (allowance - 1)) childrenPiece f g
+      → ((t : List ℕ) → Check words t (ValidList Word) ints g h) → Check words text (ValidList ValidLocal) (list localPiece) h i → Check words text (ValidList (λ n. Name n)) (list string) i r
+      → Check words text (λ k. Valid k allowance) functionPiece s r
   unfolding Valid functionPiece
-  function-checked n {s = s} {r = r} c₁ c₂ c₃ c₄ c₅ c₆ c₇ c₈ c₉ c₁₀ =
+  function-checked {allowance} {s = s} {r = r} z c₁ c₂ c₃ c₄ c₅ c₆ c₇ c₈ c₉ c₁₀ =
+      let n = allowance - 1 in
+      let y : allowance ≡ suc n = omega arith in
       let all : Check {A = Held} words text (HeldOk n) heldPiece s r =
-      check-then c₁ (check-then (any-word c₂) (check-then (any-word c₃) (check-then (any-word c₄) (check-then c₅ (check-then c₆ (check-then c₇ (debug-checked c₈ c₉ c₁₀))))))) in
-      check-as to from all
+      check-then c₁ (check-then (any-word (c₂ text)) (check-then (any-word (c₃ text)) (check-then (any-word (c₄ text)) (check-then (c₅ text) (check-then c₆ (check-then c₇ (debug-checked (c₈ text) c₉ c₁₀))))))) in
+      rw y (check-as (to n) (from n) all)
     where
-      to : (v : Held) → HeldOk n v → As (λ k. Valid k (suc n)) functionPiece (heldPiece v)
-      to v k =
+      to : (n : ℕ) (v : Held) → HeldOk n v → As (λ k. Valid k (suc n)) functionPiece (heldPiece v)
+      to n v k =
           let e : packed (partsOf v) ≡ v .1 .1 .1 .0 = packed-word (v .1 .1 .1 .0) (k .1 .1 .1 .0) in
           record {
             value = Function.function (partsOf v) (v .1 .1 .1 .1 .1 .1 .0);
@@ -274,8 +276,8 @@ module _ {words text : List ℕ} where
             same = rw e same-refl;
           }
 
-      from : (f : Function) → Valid f (suc n) → Stands words text (s .at) (s .to) (functionPiece f) → As (HeldOk n) heldPiece (functionPiece f)
-      from (Function.function p fs) k h =
+      from : (n : ℕ) (f : Function) → Valid f (suc n) → Stands words text (s .at) (s .to) (functionPiece f) → As (HeldOk n) heldPiece (functionPiece f)
+      from n (Function.function p fs) k h =
           record {
             value = (p .source, (p .lineDefined, (p .lastLineDefined, (packed p, (p .code, (p .constants, (fs, p .debug)))))));
             valid = (

@@ -144,10 +144,12 @@ pub valid-inside : {n : ℕ} → (n ≡ 0 → ⊥) → (p : Parts) (fs : Functio
 unfolding Valid
 valid-inside {n} z p fs v = let e : n ≡ suc (n - 1) = omega arith in (rw e at v) .2
 
--- past a function: to the functions in it, past as many as the count says, and past the debug lists
-pub pass-inside : {words : List ℕ} {allowance i a b x k : ℕ} {s m : Next} → (allowance ≡ 0 → ⊥) → ((p : Parts) (fs : Functions) → Past words (toFunctions p fs) (s .at) a) → i ≡ getD words a 0 → Skips words 1 a b
-    → x ≡ min (s .number + 1) far → PassesAll words (allowance - 1) i (record { at = b; number = x }) m → ((d : Debug) → Past words (debugPiece d) (m .at) k)
+-- from a function to its lines: to the functions in it, and past as many as the count says
+pub to-lines : {words : List ℕ} {allowance i a b x : ℕ} {s r : Next} → ((p : Parts) (fs : Functions) → Past words (toFunctions p fs) (s .at) a) → i ≡ getD words a 0 → Skips words 1 a b
+    → x ≡ min (s .number + 1) far → PassesAll words allowance i (record { at = b; number = x }) r → WalksToLines words allowance s r
+to-lines w e k x all = passes-lines e w k x all
+
+-- past it: and past the debug lists
+pub pass-inside : {words : List ℕ} {allowance k : ℕ} {s m : Next} → (allowance ≡ 0 → ⊥) → WalksToLines words (allowance - 1) s m → ((d : Debug) → Past words (debugPiece d) (m .at) k)
     → (f : Function) → Valid f allowance → Passes words (functionPiece f) (total f) s (record { at = k; number = m .number })
-pass-inside {allowance = allowance} z w e skip x all d =
-    let y : allowance ≡ suc (allowance - 1) = omega arith in
-    rw y (passes-function (allowance - 1) (passes-lines e w skip x all) d refl)
+pass-inside {allowance = allowance} z w d = let y : allowance ≡ suc (allowance - 1) = omega arith in rw y (passes-function (allowance - 1) w d refl)

@@ -13,20 +13,8 @@ use Rattle.proto.proofs.place.+seek.{statement}
 use Rattle.proto.proofs.place.+seek.Tie.{close}
 
 pub +seek-spec : {M : Type 1} → statement M
-+seek-spec = close (λ κs a. a .1 .1 .1 .1 .0) λ t. seek-lts.spec (
-  place.own_span.Reads.Asked,
-  place.own_span.Reads.Learnt,
-  walk.functions_at.Reads.Asked,
-  walk.functions_at.Reads.Learnt,
-  walk.word_at.Reads.Asked,
-  walk.word_at.Reads.Learnt,
-  walk.skip.Reads.Asked,
-  walk.skip.Reads.Learnt,
-  (λ κs a. (a .1 .1 .1 .1 .0 < t) × place.seek.Reads.Pre κs a),
-  place.seek.Reads.Post,
-  walk.after_debug.Reads.Asked,
-  walk.after_debug.Reads.Learnt,
-)
++seek-spec = close (λ κs a. a .1 .1 .1 .1 .0) λ t. seek-lts.spec
+    (place.own_span.Reads.Asked, place.own_span.Reads.Learnt, walk.functions_at.Reads.Asked, walk.functions_at.Reads.Learnt, walk.word_at.Reads.Asked, walk.word_at.Reads.Learnt, walk.skip.Reads.Asked, walk.skip.Reads.Learnt, (λ κs a. (a .1 .1 .1 .1 .0 < t) × place.seek.Reads.Pre κs a), place.seek.Reads.Post, walk.after_debug.Reads.Asked, walk.after_debug.Reads.Learnt)
     (λ κs a. (a .1 .1 .1 .1 .0 ≡ t) × place.seek.Reads.Pre κs a) place.seek.Reads.Post
     (λ words at place allowance source list n next₀ i₀ next i. Loop (SearchAll words place source (allowance - 1)) n next₀ i next)
     (λ words at place allowance source list n next₀ i₀ next i. n - i)

@@ -6,7 +6,7 @@ use Prim.Native.Nat.{_+_, _-_, _<_}
 use mathlib.Core.Path.{_≡_}
 use Rattle.proto.specs.Walk.{PassesAll}
 use Rattle.format.proofs.Loops.{Loop, loop-start, loop-turn, loop-end}
-use Rattle.proto.proofs.Walks.{all-none, all-more, none-deep, pass-inside}
+use Rattle.proto.proofs.Walks.{all-none, all-more, none-deep, pass-inside, to-lines}
 use Rattle.lent.proofs.further.Reads as further
 use Rattle.proto.proofs.walk
 use Rattle.proto.proofs.walk.+pass+pass_all.Lts-pass as pass-lts
@@ -22,7 +22,7 @@ pub +pass+pass-all-spec : {M : Type 1} → statement M
     (λ c. search needs) (λ c. search needs)  -- functions-at-requires, word-at-requires
     (λ c. search needs) (λ c. search needs) (λ c. search needs)  -- skip-requires, further-requires, sub-pass-all
     (λ c κs. search needs) (λ c. search needs)  -- pass-all-requires, after-debug-requires
-    (λ c. search pass-inside))  -- returns-2
+    (λ c. search (pass-inside, to-lines)))  -- returns-2
     λ t. pass-all-lts.spec ((λ κs a. (a .1 .1 .0 + a .1 .1 .0 < t) × walk.pass.Reads.Pre κs a), walk.pass.Reads.Post)
     (λ κs a. (a .1 .1 .1 .0 + a .1 .1 .1 .0 + 1 ≡ t) × walk.pass_all.Reads.Pre κs a) walk.pass_all.Reads.Post
     (λ words n allowance r₀ k₀ r k. Loop (PassesAll words allowance) n r₀ k r) (λ words n allowance r₀ k₀ r k. n - k)
