@@ -6,7 +6,7 @@ use Rattle.proto.proofs.child.first_child.Statement.{statement}
 use Rattle.proto.proofs.child.first_child.Tie as tie
 
 returns : tie.Need-returns
-returns c = (refl, child-first (c .before .skip .ensures) (c .further .ensures))
+returns c = search child-first
 
 pub first-child-spec : {M : Type 1} → statement M
 first-child-spec = tie.close (tie.spec

@@ -7,7 +7,7 @@ use Rattle.proto.proofs.formed.check_ints.Statement.{statement}
 use Rattle.proto.proofs.formed.check_ints.Tie as tie
 
 sub-if2 : tie.Need-sub-if2
-sub-if2 c = omega (arith, ints-within (c .before .before .before .before .args .words .now) (c .before .word-at .ensures) (c .before .before .check-word .ensures) (c .if1 .taken))
+sub-if2 c = search ints-within
 
 returns : tie.Need-returns
 returns c = λ t. ints-good t (c .before .before .word-at .ensures) (c .before .before .before .check-word .ensures) (λ i. omega (arith, c .before .before .before .before .shared-slice-known .given i)) (c .before .if1 .taken) (omega arith)

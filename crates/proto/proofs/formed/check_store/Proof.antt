@@ -17,7 +17,7 @@ check-function-requires : tie.Need-check-function-requires
 check-function-requires c κs e = sym (c .is-ascii .ensures) ∙ e
 
 returns-3 : tie.Need-returns-3
-returns-3 c = store-held (c .before .before .before .before .check-function .ensures) (c .before .before .before .if3 .taken) (omega arith) (omega arith) (omega arith)
+returns-3 c = search store-held
 
 returns-4 : tie.Need-returns-4
 returns-4 c = held-no _ _ (λ f h. c .if4 .left (store-passed (c .before .before .before .check-function .ensures) f h .1))

@@ -7,10 +7,10 @@ use Rattle.proto.proofs.formed.check_utf8.Statement.{statement}
 use Rattle.proto.proofs.formed.check_utf8.Tie as tie
 
 sub-part : tie.Need-sub-part
-sub-part c = omega (arith, string-within (c .before .before .before .check-string .ensures) (c .before .before .if1 .taken))
+sub-part c = search string-within
 
 returns : tie.Need-returns
-returns c = name-good (c .before .before .before .before .before .before .check-string .ensures) (c .before .is-utf8 .ensures) (c .before .before .part .ensures) (c .if2 .taken)
+returns c = search name-good
 
 returns-2 : tie.Need-returns-2
 returns-2 c = ⊎-elim (λ w. name-bad (c .before .before .check-string .ensures) (w .4 .ensures) (w .3 .ensures) (c .wrong .ensures) (w .5 .left)) (λ w. name-stopped (c .before .before .check-string .ensures) (w .left) (c .wrong .ensures)) (c .before .if1 .came)

@@ -8,10 +8,10 @@ use Rattle.proto.proofs.formed.check_word.Statement.{statement}
 use Rattle.proto.proofs.formed.check_word.Tie as tie
 
 returns : tie.Need-returns
-returns c = λ t. check-stopped (not-true _ (c .if1 .taken))
+returns c = search (check-stopped, not-true)
 
 returns-2 : tie.Need-returns-2
-returns-2 c = λ t. word-good (not-false _ (c .before .before .before .before .if1 .left)) (omega arith) (omega arith) (omega arith)
+returns-2 c = search (word-good, not-false)
 
 returns-3 : tie.Need-returns-3
 returns-3 c = λ t. word-bad (c .wrong .ensures) (λ h l k. ⊎-elim (λ w. omega arith) (λ w. ⊎-elim (λ w. omega arith) (λ w. omega arith) w) (c .before .if2 .came))

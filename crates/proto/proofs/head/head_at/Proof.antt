@@ -5,9 +5,7 @@ use Rattle.proto.proofs.head.head_at.Statement.{statement}
 use Rattle.proto.proofs.head.head_at.Tie as tie
 
 returns : tie.Need-returns
-returns c =
-    let c₁ = c .before in let c₂ = c₁ .before in let c₃ = c₂ .before in let c₄ = c₃ .before in let c₅ = c₄ .before in
-    head-here (c₅ .skip .ensures) (c₄ .word-at .ensures) (c₃ .skip2 .ensures) (c₂ .word-at2 .ensures) (c₁ .skip3 .ensures) (c .word-at3 .ensures)
+returns c = search head-here
 
 pub head-at-spec : {M : Type 1} → statement M
 head-at-spec = tie.close (tie.spec

@@ -10,7 +10,7 @@ returns c =
     (c₁ .kept-lines .ensures _ (c₂ .pre) (c .if1 .taken), c₂ .pre)
 
 returns-2 : tie.Need-returns-2
-returns-2 c = (walked (c .before .before .before .before .walk-lines .ensures .0), c .before .before .before .before .walk-lines .ensures .1)
+returns-2 c = search walked
 
 pub find-lines-spec : {M : Type 1} → statement M
 find-lines-spec = tie.close (tie.spec

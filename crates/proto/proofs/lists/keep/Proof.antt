@@ -6,7 +6,7 @@ use Rattle.proto.proofs.lists.keep.Statement.{statement}
 use Rattle.proto.proofs.lists.keep.Tie as tie
 
 returns-3 : tie.Need-returns-3
-returns-3 c = λ words w l. kept-more (omega arith) (omega arith) w l
+returns-3 c = search kept-more
 
 pub keep-spec : {M : Type 1} → statement M
 keep-spec = tie.close (tie.spec

@@ -5,7 +5,7 @@ use Rattle.proto.proofs.walk.after_debug.Statement.{statement}
 use Rattle.proto.proofs.walk.after_debug.Tie as tie
 
 returns : tie.Need-returns
-returns c = λ d. past-debug d (c .before .before .after-list .ensures) (c .before .after-list2 .ensures) (c .after-list3 .ensures)
+returns c = search past-debug
 
 pub after-debug-spec : {M : Type 1} → statement M
 after-debug-spec = tie.close (tie.spec

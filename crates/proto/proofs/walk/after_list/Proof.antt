@@ -13,7 +13,7 @@ add-skip : tie.Need-add-skip
 add-skip c = omega (arith, mul-le-mul-right (c .word-at .result) (c .before .before .pre))
 
 returns : tie.Need-returns
-returns c = skip-items (c .before .before .before .args .k) (c .before .word-at .ensures) (c .skip .ensures)
+returns c = search skip-items
 
 pub after-list-spec : {M : Type 1} → statement M
 after-list-spec = tie.close (tie.spec

@@ -5,7 +5,7 @@ use Rattle.proto.proofs.walk.code_at.Statement.{statement}
 use Rattle.proto.proofs.walk.code_at.Tie as tie
 
 returns : tie.Need-returns
-returns c = λ p fs. past-head p fs (c .skip .ensures)
+returns c = search past-head
 
 pub code-at-spec : {M : Type 1} → statement M
 code-at-spec = tie.close (tie.spec

@@ -7,7 +7,7 @@ use Rattle.proto.proofs.walk.ints_at.Tie as tie
 -- The count stands first, and the items behind it.
 
 returns : tie.Need-returns
-returns c = λ l t to h. ints-here l h (c .before .before .before .before .word-at .ensures) (c .before .before .before .skip .ensures) (c .before .before .least .ensures) (c .before .least2 .ensures) refl
+returns c = search ints-here
 
 pub ints-at-spec : {M : Type 1} → statement M
 ints-at-spec = tie.close (tie.spec

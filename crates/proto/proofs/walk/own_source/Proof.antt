@@ -5,10 +5,10 @@ use Rattle.proto.proofs.walk.own_source.Statement.{statement}
 use Rattle.proto.proofs.walk.own_source.Tie as tie
 
 returns : tie.Need-returns
-returns c = λ s to h. source-inherited _ s h (c .before .word-at .ensures) (c .if1 .taken)
+returns c = search source-inherited
 
 returns-2 : tie.Need-returns-2
-returns-2 c = λ s to h. source-own _ s h (c .before .before .before .word-at .ensures) (c .before .before .if1 .left) (c .before .skip .ensures) (c .string-at .ensures)
+returns-2 c = search source-own
 
 pub own-source-spec : {M : Type 1} → statement M
 own-source-spec = tie.close (tie.spec

@@ -5,9 +5,7 @@ use Rattle.proto.proofs.walk.part.Statement.{statement}
 use Rattle.proto.proofs.walk.part.Tie as tie
 
 returns : tie.Need-returns
-returns c =
-    let c₁ = c .before in let c₂ = c₁ .before in let c₃ = c₂ .before .before in
-    part-clamped (c₃ .args .text .now) (c₃ .args .start) (c₃ .args .len) (c₂ .least .result) (c₁ .least2 .result) (c₂ .least .ensures) (c₁ .least2 .ensures)
+returns c = search part-clamped
 
 pub part-spec : {M : Type 1} → statement M
 part-spec = tie.close (tie.spec

@@ -5,7 +5,7 @@ use Rattle.proto.proofs.walk.string_at.Statement.{statement}
 use Rattle.proto.proofs.walk.string_at.Tie as tie
 
 returns : tie.Need-returns
-returns c = λ s to h. string-here s h (c .before .before .before .word-at .ensures) (c .before .before .skip .ensures) (c .before .word-at2 .ensures) (c .part .ensures)
+returns c = search string-here
 
 pub string-at-spec : {M : Type 1} → statement M
 string-at-spec = tie.close (tie.spec
