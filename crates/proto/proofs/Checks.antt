@@ -1,5 +1,5 @@
 -- Steps of the check, one after the other: words, strings and lists.
-use Prim.Native.Nat.{ℕ, suc, zero-le, _+_, _-_, _≤_, _<_, _^_}
+use Prim.Native.Nat.{ℕ, suc, zero-le, _+_, _-_, _*_, _≤_, _<_, _^_}
 use mathlib.Core.Path.{_≡_, refl, sym, ap, _∙_}
 use mathlib.Core.List.{List, [], _∷_}
 use mathlib.Core.Bool.{Bool, true, false, not}
@@ -8,7 +8,10 @@ use native.Mathlib.Decide.{decLt}
 use native.Mathlib.Nat.{add-zero, add-assoc}
 use lib.ListN.{length, drop, getD, length-append, length-drop, length-take, List·getD-eq-default}
 use lib.Seq.{getD-take, getD-drop, length-take-le}
-use borrow.Author.Tests.{not-true}
+use lib.Dec.{T, ltb, leb, ltb→lt, leb→le}
+use mir.Val.{Fits}
+use mir.Syntax.{w64}
+use borrow.Author.Tests.{not-true, not-false}
 use Rattle.lent.specs.Memory.{Every, Word, Bytes}
 use Rattle.utf8.specs.Utf8.{isUtf8, isAscii}
 use Rattle.utf8.proofs.Laws.{utf8-bytes, utf8-ascii}
@@ -21,12 +24,32 @@ use Rattle.format.proofs.Stored.{here-left, here-part}
 use Rattle.format.proofs.Loops.{Loop, loop-turn, loop-stop, loop-end}
 use Rattle.proto.specs.declared.formed.Checked.{Checked}
 use Rattle.proto.specs.Walk.{Stands}
-use Rattle.proto.specs.Formed.{Passed, Check, Within, three, Three}
+use Rattle.proto.specs.Formed.{Passed, Check, Room, Within, three, Three}
 use Rattle.proto.proofs.Sublists.{here-length, here-item, here-get, here-none, here-one, here-two, here-three, here-join, here-take}
 use Rattle.proto.proofs.Pieces.{Same, same-refl, stands-same, same-sym, stands-left, stands-right}
 
 pub never : {b : Bool} → b ≡ true → b ≡ false → ⊥
 never p q = let z : _≡_ {A = ℕ} 0 1 = cc in omega arith
+
+-- ---- room for n items
+
+module _ {b : Bool} {len at n : ℕ} (h : Room b len at n) where
+  pub room-is : not b ≡ false → n ≤ len - at
+  room-is e = h .is (not-false b e)
+
+  module _ (some : T (ltb 0 n)) (e : not b ≡ false) where
+    pub room-ends : at + n ≤ len
+    room-ends = omega (arith, room-is e, ltb→lt 0 n some)
+
+    pub room-first : at < len
+    room-first = omega (arith, room-is e, ltb→lt 0 n some)
+
+    pub room-at : (i : ℕ) → T (ltb i n) → at + i < len
+    room-at i k = omega (arith, room-is e, ltb→lt i n k)
+
+    -- and their places do not wrap, in a slice of words
+    pub room-fits : (i : ℕ) → T (leb i n) → len * 4 < 2 ^ 63 → Fits w64 (at + i)
+    room-fits i k l = record { fits = omega (arith, room-ends, leb→le i n k) }
 
 -- the piece is that of a valid value
 pub record As {A : Type 0} (ok : A → Type 0) (piece : A → Piece) (p : Piece) : Type 0 where
@@ -45,6 +68,9 @@ module _ {words text : List ℕ} where
 
     pub check-wrong : {s r : Checked} → r .ok ≡ false → (s .ok ≡ true → (a : A) → ok a → Stands words text (s .at) (s .to) (piece a) → ⊥) → Check words text ok piece s r
     check-wrong e f = record { sound = λ h. absurd (never h e); complete = λ h a k t. absurd (f h a k t) }
+
+    pub check-room : {b : Bool} {n : ℕ} {s r : Checked} → r .ok ≡ false → Room b (length words) (s .at) n → not b ≡ true → ((a : A) → length (piece a .words (s .to)) ≡ n) → Check words text ok piece s r
+    check-room {b} e h z k = check-wrong e (λ o a v t. h .not (not-true b z) (omega (arith, here-length _ (t .in-words), k a)))
 
     -- past what was found
     pub check-passed : {s r : Checked} (c : Check words text ok piece s r) → (e : r .ok ≡ true) → Passed (piece (c .sound e .1 .value)) s r
@@ -129,9 +155,6 @@ module _ {words text : List ℕ} where
           sound = λ z. (e, record { value = (getD words (s .at) 0, getD words (s .at + 1) 0); valid = (w (s .at), w (s .at + 1)); stands = record { in-words = here-two h; in-text = here-none } });
           complete = λ z v k t. record { ok = refl; at = refl; to = sym (add-zero _) };
         }
-
-    pub pair-bad : {r : Checked} → r .ok ≡ false → (2 ≤ length words - s .at → ⊥) → Check {A = ℕ × ℕ} words text (λ v. Word (v .0) × Word (v .1)) (λ v. word (v .0) ⊕ word (v .1)) s r
-    pair-bad e f = check-wrong e (λ o v k t. f (omega (arith, here-length (v .0 ∷ v .1 ∷ []) (t .in-words))))
 
   -- ---- three words
 

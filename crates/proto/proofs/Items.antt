@@ -2,14 +2,14 @@
 use Prim.Native.Nat.{ℕ, zero, suc, _+_, _-_, _*_, _/_, _%_, _≤_, _<_, min}
 use mathlib.Core.Path.{_≡_, refl, sym, ap, _∙_}
 use mathlib.Core.List.{List, [], _∷_}
-use mathlib.Core.Bool.{true, false, cond, not}
+use mathlib.Core.Bool.{Bool, true, false, cond, not}
 use mathlib.Core.Option.{none, some}
 use native.Mathlib.Omega.{arith}
 use native.Mathlib.Nat.{add-zero, mul-suc, mul-zero}
 use lib.ListN.{length, take, drop, getD, length-append}
 use lib.Seq.{length-take-le}
 use lib.Dec.{eqb}
-use borrow.Author.Tests.{ne-eqb}
+use borrow.Author.Tests.{ne-eqb, not-true}
 use Rattle.format.specs.Tree.{Constant as Value, Source, Parts, Function, Functions, filled}
 use Rattle.format.specs.Store.{Piece, word, _⊕_, string, pieces, list, ints, sourcePiece, constantPiece, localPiece, debugPiece, packed, functionPiece, childrenPiece}
 use Rattle.format.specs.Stored.{part, Here}
@@ -21,6 +21,7 @@ use Rattle.format.proofs.Stored.{here-left, here-right, here-part, unpacked}
 use Rattle.proto.specs.Walk.{Stands, StandsAt, item, Skips, Past, toCode, toConstants, toFunctions, toLines, toLocals, toUpvalues}
 use Rattle.proto.specs.Constants.{ConstantAt}
 use Rattle.proto.specs.Head.{headOf}
+use Rattle.proto.specs.Formed.{Room}
 use Rattle.proto.proofs.Sublists.{here-length, here-get, here-item, here-front, part-clamped}
 use Rattle.proto.proofs.Pieces.{Same, same-sym, same-assoc, function-debug, stands-same, stands-left, stands-right, source-words, constant-words, pieces-words}
 use Rattle.proto.proofs.Walks.{past-stands}
@@ -173,11 +174,11 @@ module _ {words text : List ℕ} where
 -- ---- constants
 
 -- where there is no room for three words, none stands there
-pub constant-none : {words : List ℕ} {at : ℕ} {r : Constant} → (3 ≤ length words - at → ⊥) → ConstantAt words at r
-constant-none {words} {at} n = record { value = λ k text to h. absurd (none k to (h .in-words)); numbered = λ k text to h. absurd (none k to (h .in-words)) }
+pub constant-none : {words : List ℕ} {at : ℕ} {b : Bool} {r : Constant} → Room b (length words) at 3 → not b ≡ true → ConstantAt words at r
+constant-none {words} {at} {b} room e = record { value = λ k text to h. absurd (none k to (h .in-words)); numbered = λ k text to h. absurd (none k to (h .in-words)) }
   where
     none : (k : Value) (to : ℕ) → Here words at (constantPiece k .words to) → ⊥
-    none k to h = n (omega (arith, here-length (constantPiece k .words to) h, constant-words k to))
+    none k to h = room .not (not-true b e) (omega (arith, here-length (constantPiece k .words to) h, constant-words k to))
 
 -- the place n words on
 pub skips-on : {words : List ℕ} {n at : ℕ} → Skips words n at (at + n)
