@@ -5,10 +5,7 @@ use Rattle.proto.proofs.Children.{child-first}
 use Rattle.proto.proofs.child.first_child.Statement.{statement}
 use Rattle.proto.proofs.child.first_child.Tie as tie
 
-returns : tie.Need-returns
-returns c = search child-first
-
 pub first-child-spec : {M : Type 1} → statement M
 first-child-spec = tie.close (tie.spec
     (λ c. search needs) (λ c. search needs)  -- skip-requires, further-requires
-    returns)
+    (λ c. search child-first))  -- returns

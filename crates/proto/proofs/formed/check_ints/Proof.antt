@@ -6,9 +6,6 @@ use Rattle.proto.proofs.Checks.{never, ints-within, ints-good, ints-bad
 use Rattle.proto.proofs.formed.check_ints.Statement.{statement}
 use Rattle.proto.proofs.formed.check_ints.Tie as tie
 
-sub-if2 : tie.Need-sub-if2
-sub-if2 c = search ints-within
-
 returns : tie.Need-returns
 returns c = λ t. ints-good t (c .before .before .word-at .ensures) (c .before .before .before .check-word .ensures) (λ i. omega (arith, c .before .before .before .before .shared-slice-known .given i)) (c .before .if1 .taken) (omega arith)
 
@@ -18,7 +15,7 @@ returns-2 c = λ t. ints-bad t (c .before .before .word-at .ensures) (c .before 
 pub check-ints-spec : {M : Type 1} → statement M
 check-ints-spec = tie.close (tie.spec
     (λ c. search needs) (λ c. search needs) (λ c. search needs)  -- check-word-requires, word-at-requires, cast-n
-    sub-if2
+    (λ c. search ints-within)  -- sub-if2
     (λ c. search needs)  -- add-t11
     returns
     (λ c. search needs)  -- wrong-requires

@@ -9,12 +9,9 @@ returns c =
     let c₁ = c .before in let c₂ = c₁ .before .before .before .before .before .before in
     (c₁ .kept-lines .ensures _ (c₂ .pre) (c .if1 .taken), c₂ .pre)
 
-returns-2 : tie.Need-returns-2
-returns-2 c = search walked
-
 pub find-lines-spec : {M : Type 1} → statement M
 find-lines-spec = tie.close (tie.spec
     (λ c. search needs) (λ c. search needs) (λ c. search needs)  -- kept-lines-requires, same-length, same-length-2
     returns
     (λ c. search needs) (λ c. search needs) (λ c. search needs)  -- walk-lines-requires, same-length-3, same-length-4
-    returns-2)
+    (λ c. search walked))  -- returns-2

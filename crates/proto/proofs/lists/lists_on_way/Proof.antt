@@ -4,9 +4,6 @@ use Rattle.proto.proofs.ListPlaces.{lists-found}
 use Rattle.proto.proofs.lists.lists_on_way.Statement.{statement}
 use Rattle.proto.proofs.lists.lists_on_way.Tie as tie
 
-returns : tie.Need-returns
-returns c = search lists-found
-
 pub lists-on-way-spec : {M : Type 1} → statement M
 lists-on-way-spec = tie.close (tie.spec
     (λ c. search needs) (λ c. search needs)  -- find-lines-requires, word-at-requires
@@ -14,4 +11,4 @@ lists-on-way-spec = tie.close (tie.spec
     (λ c. search needs) (λ c. search needs)  -- item-at-requires-2, code-at-requires
     (λ c. search needs) (λ c. search needs)  -- constants-at-requires, functions-at-requires
     (λ c. search needs) (λ c. search needs)  -- same-length, same-length-2
-    returns)
+    (λ c. search lists-found))  -- returns

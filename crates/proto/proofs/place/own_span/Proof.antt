@@ -4,17 +4,10 @@ use Rattle.proto.proofs.Places.{span-inherited, span-own}
 use Rattle.proto.proofs.place.own_span.Statement.{statement}
 use Rattle.proto.proofs.place.own_span.Tie as tie
 
-returns : tie.Need-returns
-returns c = search span-inherited
-
-returns-2 : tie.Need-returns-2
-returns-2 c = search span-own
-
 pub own-span-spec : {M : Type 1} → statement M
 own-span-spec = tie.close (tie.spec
     (λ c. search needs)  -- word-at-requires
-    returns
+    (λ c. search span-inherited)  -- returns
     (λ c. search needs) (λ c. search needs) (λ c. search needs)  -- skip-requires, word-at-requires-2, cast-start
     (λ c. search needs) (λ c. search needs) (λ c. search needs)  -- skip-requires-2, word-at-requires-3, cast-len
-    (λ c. search needs)  -- add-t8
-    returns-2)
+    (λ c. search needs) (λ c. search span-own))  -- add-t8, returns-2

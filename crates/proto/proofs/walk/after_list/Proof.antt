@@ -12,12 +12,8 @@ mul-skip c = omega (arith, mul-le-mul-right (c .word-at .result) (c .before .bef
 add-skip : tie.Need-add-skip
 add-skip c = omega (arith, mul-le-mul-right (c .word-at .result) (c .before .before .pre))
 
-returns : tie.Need-returns
-returns c = search skip-items
-
 pub after-list-spec : {M : Type 1} → statement M
 after-list-spec = tie.close (tie.spec
     (λ c. search needs) (λ c. search needs)  -- word-at-requires, cast-skip
     mul-skip add-skip
-    (λ c. search needs)  -- skip-requires
-    returns)
+    (λ c. search needs) (λ c. search skip-items))  -- skip-requires, returns

@@ -4,11 +4,8 @@ use Rattle.proto.proofs.Items.{string-here}
 use Rattle.proto.proofs.walk.string_at.Statement.{statement}
 use Rattle.proto.proofs.walk.string_at.Tie as tie
 
-returns : tie.Need-returns
-returns c = search string-here
-
 pub string-at-spec : {M : Type 1} → statement M
 string-at-spec = tie.close (tie.spec
     (λ c. search needs) (λ c. search needs) (λ c. search needs)  -- word-at-requires, cast-place, skip-requires
     (λ c. search needs) (λ c. search needs) (λ c. search needs)  -- word-at-requires-2, cast-n, part-requires
-    returns)
+    (λ c. search string-here))  -- returns
