@@ -1,15 +1,15 @@
 -- Each function that functionAt finds stands in the store, well formed, and its source stands where its span says. So source_at and source answer as defined.
 use Prim.Native.Nat.{ℕ, zero, suc, _+_, _-_, _≤_}
-use mathlib.Core.Path.{_≡_, refl, sym}
+use mathlib.Core.Path.{_≡_, refl, sym, _∙_}
 use mathlib.Core.List.{List, [], _∷_}
-use mathlib.Core.Bool.{Bool, true, false, cond}
+use mathlib.Core.Bool.{Bool, true, false, cond, not}
 use mathlib.Core.Option.{Option, none, some}
 use native.Mathlib.Omega.{arith}
 use native.Mathlib.Nat.{add-zero}
 use lib.ListN.{length}
 use lib.Seq.{take-length}
 use lib.Dec.{eqb}
-use borrow.Author.Tests.{eqb-true}
+use borrow.Author.Tests.{eqb-true, eq-eqb, ne-eqb, not-true, not-false}
 use Rattle.lent.specs.Memory.{Every}
 use Rattle.lent.proofs.Lists.{every-append}
 use Rattle.format.specs.Tree.{Source, Parts, Function, Functions, count}
@@ -117,36 +117,34 @@ function-stands name {f} place x h e =
 
 -- ---- the calls
 
--- the search from the root
-root-seeks : {words text : List ℕ} {place : ℕ} {r : Sought} (name : List ℕ) (f : Function) → Holds words text f → Search words place (chunkName name .span) f 0 r → Seeks (functionAt f name place) (0 + length (wordsOf f)) r
-root-seeks name f h s = s .seeks 0 name (root-stands h .in-words)
+-- what a call gives, from what is shown of the tree and of what the search finds in it
+module _ {A : Type 0} (refuse : ℕ → A) (answer : Placed → A) (words text name : List ℕ) (place : ℕ) {b : Bool} (h : b ≡ isHeld (treeOf words text)) where
+  call-10 : not b ≡ true → refuse 10 ≡ onTree refuse (λ f. onFunction refuse answer (functionAt f name place)) (treeOf words text)
+  call-10 e = no-tree words text (λ t. refuse 10 ≡ onTree refuse (λ f. onFunction refuse answer (functionAt f name place)) t) (sym h ∙ not-true b e) refl
 
--- where the search finds none, and where it finds one
-not-sought : (P : Option Placed → Type 0) (x : Option Placed) (end : ℕ) (r : Sought) → Seeks x end r → r .found ≡ false → P none → P x
-not-sought P none end r h e k = k
-not-sought P (some x) end r h e k = absurd (never (h .0) e)
+  call-sought : {r : Sought} → not b ≡ false → ((f : Function) → Valid f depth → Search words place (chunkName name .span) f 0 r) → (x : A)
+      → (r .found ≡ false → x ≡ refuse 12) → (r .found ≡ true → (y : Placed) → r .source ≡ y .source .span → x ≡ answer y) → x ≡ onTree refuse (λ f. onFunction refuse answer (functionAt f name place)) (treeOf words text)
+  call-sought {r} e s x none-found found =
+      held-tree words text (λ t. x ≡ onTree refuse (λ f. onFunction refuse answer (functionAt f name place)) t) (sym h ∙ not-false b e)
+      (λ f t. by (functionAt f name place) _ (s f (t .valid) .seeks 0 name (root-stands t .in-words)))
+    where
+      by : (o : Option Placed) (end : ℕ) → Seeks o end r → x ≡ onFunction refuse answer o
+      by none end k = none-found (k .0)
+      by (some y) end k = found (k .0) y (k .1)
 
-sought : (P : Option Placed → Type 0) (x : Option Placed) (end : ℕ) (r : Sought) → Seeks x end r → r .found ≡ true → ((y : Placed) → r .source ≡ y .source .span → P (some y)) → P x
-sought P none end r h e k = absurd (never e (h .0))
-sought P (some x) end r h e k = k x (h .1)
-
-module _ (words text : List ℕ) (place : ℕ) where
-  pub place-10 : isHeld (treeOf words text) ≡ false → 10 ≡ placeRefusal words text place
+module _ (words text : List ℕ) (place : ℕ) {b : Bool} (h : b ≡ isHeld (treeOf words text)) where
+  pub place-10 : not b ≡ true → 10 ≡ placeRefusal words text place
   unfolding placeRefusal
-  place-10 h = no-tree words text (λ t. 10 ≡ onTree (λ n. n) (λ f. onFunction (λ n. n) (λ x. 0) (functionAt f [] place)) t) h refl
+  place-10 e = call-10 (λ n. n) (λ x. 0) words text [] place h e
 
-  module _ {r : Sought} (h : isHeld (treeOf words text) ≡ true) (s : (f : Function) → Valid f depth → Search words place (chunkName [] .span) f 0 r) where
+  module _ {r : Sought} (e : not b ≡ false) (s : (f : Function) → Valid f depth → Search words place (chunkName [] .span) f 0 r) where
     pub place-12 : r .found ≡ false → 12 ≡ placeRefusal words text place
     unfolding placeRefusal
-    place-12 e =
-        held-tree words text (λ t. 12 ≡ onTree (λ n. n) (λ f. onFunction (λ n. n) (λ x. 0) (functionAt f [] place)) t) h
-        (λ f k. not-sought (λ x. 12 ≡ onFunction (λ n. n) (λ x. 0) x) (functionAt f [] place) _ r (root-seeks [] f k (s f (k .valid))) e refl)
+    place-12 z = call-sought (λ n. n) (λ x. 0) words text [] place h e s 12 (λ k. refl) (λ k. absurd (never k z))
 
     pub place-0 : r .found ≡ true → 0 ≡ placeRefusal words text place
     unfolding placeRefusal
-    place-0 e =
-        held-tree words text (λ t. 0 ≡ onTree (λ n. n) (λ f. onFunction (λ n. n) (λ x. 0) (functionAt f [] place)) t) h
-        (λ f k. sought (λ x. 0 ≡ onFunction (λ n. n) (λ x. 0) x) (functionAt f [] place) _ r (root-seeks [] f k (s f (k .valid))) e (λ y i. refl))
+    place-0 z = call-sought (λ n. n) (λ x. 0) words text [] place h e s 0 (λ k. absurd (never z k)) (λ k y i. refl)
 
 -- what a call on the function at a place finds, where it is not refused
 pub record On (words text : List ℕ) (place : ℕ) : Type 0 where
@@ -185,32 +183,29 @@ module _ {A : Type 0} (refuse : ℕ → A) (answer : Placed → A) where
       by (some f) n = by-place (functionAt f [] place) n
 
 module _ (words text name : List ℕ) (place : ℕ) where
-  pub source-1 : nameOk name ≡ false → noSource 1 ≡ sourceAnswer words text name place
-  unfolding sourceAnswer
-  source-1 e = rw e
-
-  module _ (n : nameOk name ≡ true) where
-    pub source-10 : isHeld (treeOf words text) ≡ false → noSource 10 ≡ sourceAnswer words text name place
+  module _ {n : Bool} (k : n ≡ nameOk name) where
+    pub source-1 : {a : SourceAt} → not n ≡ true → a ≡ noSource 1 → a ≡ sourceAnswer words text name place
     unfolding sourceAnswer
-    source-10 h = rw n (no-tree words text (λ t. noSource 10 ≡ onTree noSource (λ f. onFunction noSource (λ x. spanAnswer (x .source .span)) (functionAt f name place)) t) h refl)
+    source-1 e q = q ∙ rw (sym k ∙ not-true n e)
 
-    module _ {r : Sought} (h : isHeld (treeOf words text) ≡ true) (s : (f : Function) → Valid f depth → Search words place (chunkName name .span) f 0 r) where
-      pub source-12 : r .found ≡ false → noSource 12 ≡ sourceAnswer words text name place
+    module _ {b : Bool} (ok : not n ≡ false) (h : b ≡ isHeld (treeOf words text)) where
+      pub source-10 : {a : SourceAt} → not b ≡ true → a ≡ noSource 10 → a ≡ sourceAnswer words text name place
       unfolding sourceAnswer
-      source-12 e =
-          rw n
-          (held-tree words text (λ t. noSource 12 ≡ onTree noSource (λ f. onFunction noSource (λ x. spanAnswer (x .source .span)) (functionAt f name place)) t) h
-          (λ f k. not-sought (λ x. noSource 12 ≡ onFunction noSource (λ x. spanAnswer (x .source .span)) x) (functionAt f name place) _ r (root-seeks name f k (s f (k .valid))) e refl))
+      source-10 e q = q ∙ rw (sym k ∙ not-false n ok) (call-10 noSource (λ x. spanAnswer (x .source .span)) words text name place h e)
 
-      pub source-found : r .found ≡ true → spanAnswer (r .source) ≡ sourceAnswer words text name place
-      unfolding sourceAnswer
-      source-found e =
-          rw n
-          (held-tree words text (λ t. spanAnswer (r .source) ≡ onTree noSource (λ f. onFunction noSource (λ x. spanAnswer (x .source .span)) (functionAt f name place)) t) h
-          (λ f k. sought (λ x. spanAnswer (r .source) ≡ onFunction noSource (λ x. spanAnswer (x .source .span)) x) (functionAt f name place) _ r (root-seeks name f k (s f (k .valid))) e (λ y i. rw i)))
+      module _ {r : Sought} (e : not b ≡ false) (s : (f : Function) → Valid f depth → Search words place (chunkName name .span) f 0 r) where
+        sought : (x : SourceAt) → (r .found ≡ false → x ≡ noSource 12) → (r .found ≡ true → x ≡ spanAnswer (r .source)) → x ≡ sourceAnswer words text name place
+        unfolding sourceAnswer
+        sought x refused found = rw (sym k ∙ not-false n ok) (call-sought noSource (λ x. spanAnswer (x .source .span)) words text name place h e s x refused (λ z y i. found z ∙ rw i))
+
+        pub source-12 : {a : SourceAt} → not (r .found) ≡ true → a ≡ noSource 12 → a ≡ sourceAnswer words text name place
+        source-12 z q = sought _ (λ t. q) (λ t. absurd (never t (not-true _ z)))
+
+        pub source-found : not (r .found) ≡ false → spanAnswer (r .source) ≡ sourceAnswer words text name place
+        source-found z = sought _ (λ t. absurd (never (not-false _ z) t)) (λ t. refl)
 
   -- what source_at answers leads to what source gives
-  pub source-part : (a : SourceAt) → a ≡ sourceAnswer words text name place
+  source-part : (a : SourceAt) → a ≡ sourceAnswer words text name place
       → (a .start ≤ a .end) × (atSpan text name (a .«in_text») (a .start) (a .end) ≡ sourcePart words text name place)
   unfolding sourceAnswer sourcePart
   source-part a e = rw e (by-name (nameOk name))
@@ -231,3 +226,13 @@ module _ (words text name : List ℕ) (place : ℕ) where
           (a .start ≤ a .end) × (atSpan text name (a .«in_text») (a .start) (a .end) ≡ cond b (onTree (λ n. []) (λ f. onFunction (λ n. []) (λ x. x .source .bytes) (functionAt f name place)) (treeOf words text)) [])
       by-name false = (omega arith, refl)
       by-name true = by-tree (treeOf words text) refl
+
+  module _ {a : SourceAt} (e : a ≡ sourceAnswer words text name place) where
+    pub source-ordered : a .start ≤ a .end
+    source-ordered = source-part a e .0
+
+    pub source-text : {r : List ℕ} → a .«in_text» ≡ 1 → r ≡ part text (a .start) (a .end - a .start) → r ≡ sourcePart words text name place
+    source-text i q = q ∙ rw (eq-eqb _ _ i) at (source-part a e .1)
+
+    pub source-name : {r : List ℕ} → (a .«in_text» ≡ 1 → ⊥) → r ≡ part name (a .start) (a .end - a .start) → r ≡ sourcePart words text name place
+    source-name i q = q ∙ rw (ne-eqb _ _ i) at (source-part a e .1)

@@ -37,8 +37,8 @@ bit (suc (suc n)) h = absurd (omega arith)
 module _ {words text : List ℕ} where
   -- ---- sources
 
-  pub source-inherited : {x : ℕ} {s r : Checked} → x ≡ getD words (s .at) 0 → x ≡ 0 → Check words text (Three 0 0 0) three s r → Check words text ValidSource sourcePiece s r
-  source-inherited {s = s} e z c = check-as to from c
+  pub source-inherited : {x : ℕ} {s r : Checked} → x ≡ getD words (s .at) 0 → x ≡ 0 → ((t : List ℕ) → Check words t (Three 0 0 0) three s r) → Check words text ValidSource sourcePiece s r
+  source-inherited {s = s} e z c = check-as to from (c text)
     where
       to : (w : Words) → Three 0 0 0 w → As ValidSource sourcePiece (three w)
       to w k =
@@ -50,9 +50,9 @@ module _ {words text : List ℕ} where
       from Source.inherited k h = record { value = record { first = 0; second = 0; third = 0 }; valid = record { is = refl; second = zero-le; third = zero-le }; same = same-refl }
       from (Source.own l) k h = absurd (omega (arith, here-get 1 _ (h .in-words)))
 
-  pub source-own : {x : ℕ} {s a r : Checked} → x ≡ getD words (s .at) 0 → (x ≡ 0 → ⊥) → Check words text (Within 1 1) word s a → Check words text (λ n. Name n) string a r → Check words text ValidSource sourcePiece s r
+  pub source-own : {x : ℕ} {s a r : Checked} → x ≡ getD words (s .at) 0 → (x ≡ 0 → ⊥) → ((t : List ℕ) → Check words t (Within 1 1) word s a) → Check words text (λ n. Name n) string a r → Check words text ValidSource sourcePiece s r
   source-own {s = s} e z c d =
-      check-as (λ v k. let g : v .0 ≡ 1 = omega (arith, k .0 .above, k .0 .below) in record { value = Source.own (v .1); valid = k .1; same = rw g same-refl }) from (check-then c d)
+      check-as (λ v k. let g : v .0 ≡ 1 = omega (arith, k .0 .above, k .0 .below) in record { value = Source.own (v .1); valid = k .1; same = rw g same-refl }) from (check-then (c text) d)
     where
       from : (v : Source) → ValidSource v → Stands words text (s .at) (s .to) (sourcePiece v) → As {A = ℕ × List ℕ} (λ v. Within 1 1 (v .0) × Name (v .1)) (λ v. word (v .0) ⊕ string (v .1)) (sourcePiece v)
       from Source.inherited k h = absurd (z (e ∙ here-get 0 _ (h .in-words)))
@@ -101,17 +101,17 @@ module _ {words text : List ℕ} where
         from (Constant.str l) k h = absurd (omega (arith, kind-here (Constant.str l) h))
 
     -- nil and false take no second word but 0, and true takes 1
-    pub constant-plain : x ≤ 1 → Check words text (Three x x 0) three s r → Check words text ValidConstant constantPiece s r
-    constant-plain h c = by x refl h c
+    pub constant-plain : x ≤ 1 → ((t : List ℕ) → Check words t (Three x x 0) three s r) → Check words text ValidConstant constantPiece s r
+    constant-plain h c = by x refl h (c text)
       where
         by : (k : ℕ) → x ≡ k → k ≤ 1 → Check words text (Three k k 0) three s r → Check words text ValidConstant constantPiece s r
         by zero z h c = constant-nil z c
         by (suc zero) z h c = constant-bool z c
         by (suc (suc k)) z h c = absurd (omega arith)
 
-    pub constant-num : x ≡ 3 → Check words text (Three 3 4294967295 4294967295) three s r → Check words text ValidConstant constantPiece s r
+    pub constant-num : x ≡ 3 → ((t : List ℕ) → Check words t (Three 3 4294967295 4294967295) three s r) → Check words text ValidConstant constantPiece s r
     constant-num z c =
-        check-as (λ w k. record { value = Constant.num (w .second) (w .third); valid = (omega (arith, k .second), omega (arith, k .third)); same = rw (k .is) same-refl }) from c
+        check-as (λ w k. record { value = Constant.num (w .second) (w .third); valid = (omega (arith, k .second), omega (arith, k .third)); same = rw (k .is) same-refl }) from (c text)
       where
         from : (v : Constant) → ValidConstant v → Stands words text (s .at) (s .to) (constantPiece v) → As (Three 3 4294967295 4294967295) three (constantPiece v)
         from Constant.nil k h = absurd (omega (arith, kind-here Constant.nil h))
@@ -121,10 +121,10 @@ module _ {words text : List ℕ} where
         from (Constant.str l) k h = absurd (omega (arith, kind-here (Constant.str l) h))
 
   -- none of the kinds above
-  pub constant-str : {x : ℕ} {s a r : Checked} → x ≡ getD words (s .at) 0 → 1 < x → (x ≡ 3 → ⊥) → Check words text (Within 4 4) word s a → Check words text Bytes string a r
+  pub constant-str : {x : ℕ} {s a r : Checked} → x ≡ getD words (s .at) 0 → 1 < x → (x ≡ 3 → ⊥) → ((t : List ℕ) → Check words t (Within 4 4) word s a) → Check words text Bytes string a r
       → Check words text ValidConstant constantPiece s r
   constant-str {s = s} e h n₃ c d =
-      check-as (λ v k. let g : v .0 ≡ 4 = omega (arith, k .0 .above, k .0 .below) in record { value = Constant.str (v .1); valid = k .1; same = rw g same-refl }) from (check-then c d)
+      check-as (λ v k. let g : v .0 ≡ 4 = omega (arith, k .0 .above, k .0 .below) in record { value = Constant.str (v .1); valid = k .1; same = rw g same-refl }) from (check-then (c text) d)
     where
       from : (v : Constant) → ValidConstant v → Stands words text (s .at) (s .to) (constantPiece v) → As {A = ℕ × List ℕ} (λ v. Within 4 4 (v .0) × Bytes (v .1)) (λ v. word (v .0) ⊕ string (v .1)) (constantPiece v)
       from Constant.nil k t = absurd (omega (arith, kind-here Constant.nil t))
@@ -134,13 +134,13 @@ module _ {words text : List ℕ} where
 
   -- ---- locals
 
-  pub local-checked : {s a r : Checked} → Check words text (λ n. Name n) string s a → Check {A = ℕ × ℕ} words text (λ v. Word (v .0) × Word (v .1)) (λ v. word (v .0) ⊕ word (v .1)) a r
+  pub local-checked : {s a r : Checked} → Check words text (λ n. Name n) string s a → ((t : List ℕ) → Check {A = ℕ × ℕ} words t (λ v. Word (v .0) × Word (v .1)) (λ v. word (v .0) ⊕ word (v .1)) a r)
       → Check words text ValidLocal localPiece s r
   local-checked c d =
       check-as
       (λ v k. record { value = record { name = v .0; start = v .1 .0; end = v .1 .1 }; valid = record { name = k .0; start = k .1 .0; end = k .1 .1 }; same = same-refl })
       (λ v k h. record { value = (v .name, (v .start, v .end)); valid = (k .name, (k .start, k .end)); same = same-refl })
-      (check-then c d)
+      (check-then c (d text))
 
 -- ---- the functions in a function
 

@@ -4,10 +4,6 @@ use Rattle.proto.proofs.Stores.{local-checked}
 use Rattle.proto.proofs.formed.check_local.Statement.{statement}
 use Rattle.proto.proofs.formed.check_local.Tie as tie
 
-returns : tie.Need-returns
-returns c = local-checked (c .before .check-name .ensures) (c .check-pair .ensures _)
-
 pub check-local-spec : {M : Type 1} → statement M
 check-local-spec = tie.close (tie.spec
-    (λ c. search needs) (λ c. search needs)  -- check-name-requires, check-pair-requires
-    returns)
+    (λ c. search needs) (λ c. search needs) (λ c. search local-checked))  -- check-name-requires, check-pair-requires, returns
