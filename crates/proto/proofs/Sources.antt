@@ -13,7 +13,7 @@ use borrow.Author.Tests.{eqb-true, eq-eqb, ne-eqb, not-true, not-false}
 use Rattle.lent.specs.Memory.{Every}
 use Rattle.lent.proofs.Lists.{every-append}
 use Rattle.format.specs.Tree.{Source, Parts, Function, Functions, count}
-use Rattle.format.specs.Store.{word, sourcePiece, debugPiece, functionPiece, functionPieces, wordsOf, childrenPiece}
+use Rattle.format.specs.Store.{word, sourcePiece, debugPiece, functionPiece, functionPieces, childrenPiece}
 use Rattle.format.specs.Stored.{part, treeOf}
 use Rattle.format.specs.Undump.{nameOk}
 use Rattle.format.specs.Valid.{depth, Valid, ValidAll, Holds}

@@ -4,10 +4,7 @@ use native.Mathlib.Omega.{arith}
 use Rattle.proto.proofs.child.start_child.Statement.{statement}
 use Rattle.proto.proofs.child.start_child.Tie as tie
 
-returns-2 : tie.Need-returns-2
-returns-2 c = (omega (arith, c .first-child .ensures .0), λ allowance h. c .first-child .ensures .1 allowance)
-
 pub start-child-spec : {M : Type 1} → statement M
 start-child-spec = tie.close (tie.spec
     (λ c. search needs) (λ c. search needs)  -- returns, first-child-requires
-    returns-2)
+    (λ c. (omega (arith, c .first-child .ensures .0), λ allowance h. c .first-child .ensures .1 allowance)))  -- returns-2

@@ -7,12 +7,6 @@ use Rattle.proto.proofs.Stores.{held-no, store-passed, store-held}
 use Rattle.proto.proofs.formed.check_store.Statement.{statement}
 use Rattle.proto.proofs.formed.check_store.Tie as tie
 
-returns-4 : tie.Need-returns-4
-returns-4 c = held-no _ _ (λ f h. c .if4 .left (store-passed (c .before .before .before .check-function .ensures) f h .1))
-
-returns-5 : tie.Need-returns-5
-returns-5 c = held-no _ _ (λ f h. never (store-passed (c .before .check-function .ensures) f h .0) (c .if3 .left))
-
 pub check-store-spec : {M : Type 1} → statement M
 check-store-spec = tie.close (tie.spec
     (λ c. held-no _ _ (λ f h. omega (arith, h .words-fit)))  -- returns
@@ -20,4 +14,5 @@ check-store-spec = tie.close (tie.spec
     (λ c. search needs)  -- is-ascii-requires
     (λ c κs e. sym (c .is-ascii .ensures) ∙ e)  -- check-function-requires
     (λ c. search store-held)  -- returns-3
-    returns-4 returns-5)
+    (λ c. held-no _ _ (λ f h. c .if4 .left (store-passed (c .before .before .before .check-function .ensures) f h .1)))  -- returns-4
+    (λ c. held-no _ _ (λ f h. never (store-passed (c .before .check-function .ensures) f h .0) (c .if3 .left))))  -- returns-5

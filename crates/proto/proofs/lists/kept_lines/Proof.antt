@@ -3,14 +3,9 @@ use borrow.Author.Needs.{needs}
 use Rattle.proto.proofs.lists.kept_lines.Statement.{statement}
 use Rattle.proto.proofs.lists.kept_lines.Tie as tie
 
--- What is kept there is of this function.
-
-returns-4 : tie.Need-returns-4
-returns-4 c = λ words w h. rw (c .before .if3 .left) at (w .kept (c .before .before .before .before .before .args .allowance) h)
-
 pub kept-lines-spec : {M : Type 1} → statement M
 kept-lines-spec = tie.close (tie.spec
     (λ c. search needs) (λ c. search needs) (λ c. search needs)  -- returns, returns-2, mul-if3
     (λ c. search needs) (λ c. search needs) (λ c. search needs)  -- shared-slice-read-if3, returns-3, mul-result
     (λ c. search needs)  -- shared-slice-read-result
-    returns-4)
+    (λ c words w h. rw (c .before .if3 .left) at (w .kept (c .before .before .before .before .before .args .allowance) h)))  -- returns-4

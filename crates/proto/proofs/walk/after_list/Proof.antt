@@ -6,14 +6,9 @@ use Rattle.proto.proofs.Walks.{skip-items}
 use Rattle.proto.proofs.walk.after_list.Statement.{statement}
 use Rattle.proto.proofs.walk.after_list.Tie as tie
 
-mul-skip : tie.Need-mul-skip
-mul-skip c = omega (arith, mul-le-mul-right (c .word-at .result) (c .before .before .pre))
-
-add-skip : tie.Need-add-skip
-add-skip c = omega (arith, mul-le-mul-right (c .word-at .result) (c .before .before .pre))
-
 pub after-list-spec : {M : Type 1} → statement M
 after-list-spec = tie.close (tie.spec
     (λ c. search needs) (λ c. search needs)  -- word-at-requires, cast-skip
-    mul-skip add-skip
+    (λ c. omega (arith, mul-le-mul-right (c .word-at .result) (c .before .before .pre)))  -- mul-skip
+    (λ c. omega (arith, mul-le-mul-right (c .word-at .result) (c .before .before .pre)))  -- add-skip
     (λ c. search needs) (λ c. search skip-items))  -- skip-requires, returns

@@ -4,10 +4,7 @@ use Rattle.proto.proofs.Walks.{past-then, past-ints}
 use Rattle.proto.proofs.walk.constants_at.Statement.{statement}
 use Rattle.proto.proofs.walk.constants_at.Tie as tie
 
-returns : tie.Need-returns
-returns c = λ p fs. past-then (c .before .code-at .ensures p fs) (past-ints (p .code) (c .after-list .ensures))
-
 pub constants-at-spec : {M : Type 1} → statement M
 constants-at-spec = tie.close (tie.spec
     (λ c. search needs) (λ c. search needs)  -- code-at-requires, after-list-requires
-    returns)
+    (λ c p fs. past-then (c .before .code-at .ensures p fs) (past-ints (p .code) (c .after-list .ensures))))  -- returns

@@ -1,10 +1,8 @@
+-- The count stands first, and the items behind it.
 use borrow.Author.Needs.{needs}
 use Rattle.proto.proofs.Items.{ints-here}
-use mathlib.Core.Path.{refl}
 use Rattle.proto.proofs.walk.ints_at.Statement.{statement}
 use Rattle.proto.proofs.walk.ints_at.Tie as tie
-
--- The count stands first, and the items behind it.
 
 pub ints-at-spec : {M : Type 1} → statement M
 ints-at-spec = tie.close (tie.spec

@@ -5,12 +5,8 @@ use native.Mathlib.Nat.{mul-le-mul}
 use Rattle.proto.proofs.walk.item_at.Statement.{statement}
 use Rattle.proto.proofs.walk.item_at.Tie as tie
 
-mul-skip : tie.Need-mul-skip
-mul-skip c = omega (arith, mul-le-mul {n₁ = c .before .args .size} {m₁ = c .before .args .i} {n₂ = 4294967295} {m₂ = 4294967295} (search needs) (search needs))
-
-add-skip : tie.Need-add-skip
-add-skip c = omega (arith, mul-le-mul {n₁ = c .before .args .size} {m₁ = c .before .args .i} {n₂ = 4294967295} {m₂ = 4294967295} (search needs) (search needs))
-
 pub item-at-spec : {M : Type 1} → statement M
-item-at-spec = tie.close (tie.spec mul-skip add-skip
+item-at-spec = tie.close (tie.spec
+    (λ c. omega (arith, mul-le-mul {n₁ = c .before .args .size} {m₁ = c .before .args .i} {n₂ = 4294967295} {m₂ = 4294967295} (search needs) (search needs)))  -- mul-skip
+    (λ c. omega (arith, mul-le-mul {n₁ = c .before .args .size} {m₁ = c .before .args .i} {n₂ = 4294967295} {m₂ = 4294967295} (search needs) (search needs)))  -- add-skip
     (λ c. search needs) (λ c. search needs))  -- skip-requires, returns

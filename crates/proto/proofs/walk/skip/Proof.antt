@@ -5,13 +5,8 @@ use Rattle.proto.proofs.Sublists.{here-length}
 use Rattle.proto.proofs.walk.skip.Statement.{statement}
 use Rattle.proto.proofs.walk.skip.Tie as tie
 
-returns-2 : tie.Need-returns-2
-returns-2 c = record { skips = λ l e h. omega (arith, here-length l h) }
-
-returns-3 : tie.Need-returns-3
-returns-3 c = record { skips = λ l e h. omega (arith, here-length l h) }
-
 pub skip-spec : {M : Type 1} → statement M
 skip-spec = tie.close (tie.spec
     (λ c. search needs) (λ c. search needs) (λ c. search needs)  -- sub-if2, add-result, returns
-    returns-2 returns-3)
+    (λ c. record { skips = λ l e h. omega (arith, here-length l h) })  -- returns-2
+    (λ c. record { skips = λ l e h. omega (arith, here-length l h) }))  -- returns-3

@@ -5,10 +5,7 @@ use lib.ListN.{List·getD-eq-default}
 use Rattle.proto.proofs.walk.word_at.Statement.{statement}
 use Rattle.proto.proofs.walk.word_at.Tie as tie
 
-returns-2 : tie.Need-returns-2
-returns-2 c = sym (List·getD-eq-default (c .before .args .words .now) 0 (c .if1 .left))
-
 pub word-at-spec : {M : Type 1} → statement M
 word-at-spec = tie.close (tie.spec
     (λ c. search needs) (λ c. search needs) (λ c. search needs)  -- mul-result, shared-slice-read-result, returns
-    returns-2)
+    (λ c. sym (List·getD-eq-default (c .before .args .words .now) 0 (c .if1 .left))))  -- returns-2
