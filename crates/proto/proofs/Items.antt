@@ -188,35 +188,36 @@ skips-on = record { skips = λ l e h. refl }
 abbrev constantFrom : ℕ → ℕ → ℕ → Constant
 constantFrom kind a b = cond (eqb kind 0) Nil (cond (eqb kind 1) (Truth (not (eqb a 0))) (cond (eqb kind 3) (Num a b) (String a b)))
 
-module _ {words : List ℕ} {at x a y b z : ℕ} (e : x ≡ getD words at 0) (f : Skips words 1 at a) (g : y ≡ getD words a 0) (f′ : Skips words 2 at b) (g′ : z ≡ getD words b 0) where
-  three-words : {u v w : ℕ} → Here words at (u ∷ v ∷ w ∷ []) → (x ≡ u) × (y ≡ v) × (z ≡ w)
-  three-words {u} {v} {w} i = (
-    e ∙ here-get u _ i,
-    g ∙ rw (f .skips (u ∷ []) refl (here-left (u ∷ []) _ i)) (here-get v _ (here-right (u ∷ []) (v ∷ w ∷ []) i)),
-    g′ ∙ rw (f′ .skips (u ∷ v ∷ []) refl (here-left (u ∷ v ∷ []) _ i)) (here-get w _ (here-right (u ∷ v ∷ []) (w ∷ []) i)),
-  )
+module _ {words : List ℕ} {at : ℕ} where
+  constant-from : (k : Value) (text : List ℕ) (to : ℕ) → Stands words text at to (constantPiece k) → let r = constantFrom (getD words at 0) (getD words (at + 1) 0) (getD words (at + 2) 0) in
+      (valueOf text r ≡ k) × Here words at (constantWords r)
+  constant-from k text to h = by k (h .in-words) (h .in-text)
+    where
+      here : {u v w : ℕ} → Here words at (u ∷ v ∷ w ∷ []) → (getD words at 0 ≡ u) × (getD words (at + 1) 0 ≡ v) × (getD words (at + 2) 0 ≡ w)
+      here {u} {v} {w} i = (here-get u _ i, here-item (u ∷ v ∷ w ∷ []) 1 (omega arith) i, here-item (u ∷ v ∷ w ∷ []) 2 (omega arith) i)
 
-  constant-from : (k : Value) (text : List ℕ) (to : ℕ) → Stands words text at to (constantPiece k) → (valueOf text (constantFrom x y z) ≡ k) × Here words at (constantWords (constantFrom x y z))
-  constant-from Value.nil text to h = let t = three-words (h .in-words) in rw (t .0) (refl, h .in-words)
-  constant-from (Value.bool true) text to h = let t = three-words (h .in-words) in rw (t .0, t .1) (refl, h .in-words)
-  constant-from (Value.bool false) text to h = let t = three-words (h .in-words) in rw (t .0, t .1) (refl, h .in-words)
-  constant-from (Value.num high low) text to h = let t = three-words (h .in-words) in rw (t .0, t .1, t .2) (refl, h .in-words)
-  constant-from (Value.str s) text to h = let t = three-words (h .in-words) in rw (t .0, t .1, t .2) (rw (add-zero to) (ap Value.str (here-part s (h .in-text))), h .in-words)
+      by : (k : Value) → Here words at (constantPiece k .words to) → Here text to (constantPiece k .text) → let r = constantFrom (getD words at 0) (getD words (at + 1) 0) (getD words (at + 2) 0) in
+          (valueOf text r ≡ k) × Here words at (constantWords r)
+      by Value.nil i j = rw (here i .0) (refl, i)
+      by (Value.bool true) i j = rw (here i .0, here i .1) (refl, i)
+      by (Value.bool false) i j = rw (here i .0, here i .1) (refl, i)
+      by (Value.num high low) i j = rw (here i .0, here i .1, here i .2) (refl, i)
+      by (Value.str s) i j = rw (here i .0, here i .1, here i .2) (rw (add-zero to) (ap Value.str (here-part s j)), i)
 
-  constant-is : {r : Constant} → constantFrom x y z ≡ r → ConstantAt words at r
+  constant-is : {r : Constant} → constantFrom (getD words at 0) (getD words (at + 1) 0) (getD words (at + 2) 0) ≡ r → ConstantAt words at r
   constant-is q = record { value = λ k text to h. rw q at (constant-from k text to h .0); numbered = λ k text to h. rw q at (constant-from k text to h .1) }
 
-  pub constant-nil : x ≡ 0 → ConstantAt words at Nil
+  pub constant-nil : getD words at 0 ≡ 0 → ConstantAt words at Nil
   constant-nil n = constant-is (rw n)
 
-  pub constant-bool : x ≡ 1 → ConstantAt words at (Truth (not (eqb y 0)))
+  pub constant-bool : getD words at 0 ≡ 1 → ConstantAt words at (Truth (not (eqb (getD words (at + 1) 0) 0)))
   constant-bool n = constant-is (rw n)
 
-  pub constant-num : x ≡ 3 → ConstantAt words at (Num y z)
+  pub constant-num : getD words at 0 ≡ 3 → ConstantAt words at (Num (getD words (at + 1) 0) (getD words (at + 2) 0))
   constant-num n = constant-is (rw n)
 
-  pub constant-str : (x ≡ 0 → ⊥) → (x ≡ 1 → ⊥) → (x ≡ 3 → ⊥) → ConstantAt words at (String y z)
-  constant-str n₀ n₁ n₃ = constant-is (rw (ne-eqb x 0 n₀, ne-eqb x 1 n₁, ne-eqb x 3 n₃))
+  pub constant-str : (getD words at 0 ≡ 0 → ⊥) → (getD words at 0 ≡ 1 → ⊥) → (getD words at 0 ≡ 3 → ⊥) → ConstantAt words at (String (getD words (at + 1) 0) (getD words (at + 2) 0))
+  constant-str n₀ n₁ n₃ = constant-is (rw (ne-eqb _ 0 n₀, ne-eqb _ 1 n₁, ne-eqb _ 3 n₃))
 
 -- ---- the head of a function
 

@@ -1,6 +1,6 @@
 -- What the check of each part of a function finds, and of a whole store: it holds where, and only where, the store holds a tree.
 use Prim.Native.Nat.{ℕ, zero, suc, zero-le, _+_, _-_, _*_, _/_, _%_, _≤_, _<_}
-use mathlib.Core.Path.{_≡_, refl, ap, _∙_}
+use mathlib.Core.Path.{_≡_, refl, sym, ap, _∙_}
 use mathlib.Core.List.{List, [], _∷_}
 use mathlib.Core.Bool.{Bool, true, false, cond}
 use mathlib.Core.Option.{Option, none, some}
@@ -33,6 +33,10 @@ bit : (n : ℕ) → n ≤ 1 → _≡_ {A = ℕ} (cond (eqb n 1) 1 0) n
 bit zero h = refl
 bit (suc zero) h = refl
 bit (suc (suc n)) h = absurd (omega arith)
+
+bit-small : (b : Bool) → cond b 1 0 ≤ 1
+bit-small true = omega arith
+bit-small false = omega arith
 
 module _ {words text : List ℕ} where
   -- ---- sources
@@ -67,47 +71,23 @@ module _ {words text : List ℕ} where
   kind-here (Constant.str s) h = here-get 4 _ (h .in-words)
 
   module _ {x : ℕ} {s r : Checked} (e : x ≡ getD words (s .at) 0) where
-    constant-nil : x ≡ 0 → Check words text (Three 0 0 0) three s r → Check words text ValidConstant constantPiece s r
-    constant-nil z c = check-as to from c
-      where
-        to : (w : Words) → Three 0 0 0 w → As ValidConstant constantPiece (three w)
-        to w k =
-            let e₂ : w .second ≡ 0 = omega (arith, k .second) in
-            let e₃ : w .third ≡ 0 = omega (arith, k .third) in
-            record { value = Constant.nil; valid = tt; same = rw (k .is, e₂, e₃) same-refl }
-
-        from : (v : Constant) → ValidConstant v → Stands words text (s .at) (s .to) (constantPiece v) → As (Three 0 0 0) three (constantPiece v)
-        from Constant.nil k h = record { value = record { first = 0; second = 0; third = 0 }; valid = record { is = refl; second = zero-le; third = zero-le }; same = same-refl }
-        from (Constant.bool b) k h = absurd (omega (arith, kind-here (Constant.bool b) h))
-        from (Constant.num high low) k h = absurd (omega (arith, kind-here (Constant.num high low) h))
-        from (Constant.str l) k h = absurd (omega (arith, kind-here (Constant.str l) h))
-
-    constant-bool : x ≡ 1 → Check words text (Three 1 1 0) three s r → Check words text ValidConstant constantPiece s r
-    constant-bool z c = check-as to from c
-      where
-        to : (w : Words) → Three 1 1 0 w → As ValidConstant constantPiece (three w)
-        to w k =
-            let e₃ : w .third ≡ 0 = omega (arith, k .third) in
-            record { value = Constant.bool (eqb (w .second) 1); valid = tt; same = rw (k .is, e₃, bit (w .second) (k .second)) same-refl }
-
-        is-bool : (b : Bool) → As (Three 1 1 0) three (constantPiece (Constant.bool b))
-        is-bool true = record { value = record { first = 1; second = 1; third = 0 }; valid = record { is = refl; second = omega arith; third = zero-le }; same = same-refl }
-        is-bool false = record { value = record { first = 1; second = 0; third = 0 }; valid = record { is = refl; second = zero-le; third = zero-le }; same = same-refl }
-
-        from : (v : Constant) → ValidConstant v → Stands words text (s .at) (s .to) (constantPiece v) → As (Three 1 1 0) three (constantPiece v)
-        from Constant.nil k h = absurd (omega (arith, kind-here Constant.nil h))
-        from (Constant.bool b) k h = is-bool b
-        from (Constant.num high low) k h = absurd (omega (arith, kind-here (Constant.num high low) h))
-        from (Constant.str l) k h = absurd (omega (arith, kind-here (Constant.str l) h))
-
     -- nil and false take no second word but 0, and true takes 1
     pub constant-plain : x ≤ 1 → ((t : List ℕ) → Check words t (Three x x 0) three s r) → Check words text ValidConstant constantPiece s r
-    constant-plain h c = by x refl h (c text)
+    constant-plain h c = check-as (λ w k. let z : w .third ≡ 0 = omega (arith, k .third) in rw z (to (w .first) (w .second) (omega (arith, k .is)) (omega (arith, k .is, k .second)))) from (c text)
       where
-        by : (k : ℕ) → x ≡ k → k ≤ 1 → Check words text (Three k k 0) three s r → Check words text ValidConstant constantPiece s r
-        by zero z h c = constant-nil z c
-        by (suc zero) z h c = constant-bool z c
-        by (suc (suc k)) z h c = absurd (omega arith)
+        to : (u v : ℕ) → u ≤ 1 → v ≤ u → As ValidConstant constantPiece (three (record { first = u; second = v; third = 0 }))
+        to zero v h l = let z : v ≡ 0 = omega arith in rw z (record { value = Constant.nil; valid = tt; same = same-refl })
+        to (suc zero) v h l = record { value = Constant.bool (eqb v 1); valid = tt; same = rw (bit v l) same-refl }
+        to (suc (suc u)) v h l = absurd (omega arith)
+
+        from : (v : Constant) → ValidConstant v → Stands words text (s .at) (s .to) (constantPiece v) → As (Three x x 0) three (constantPiece v)
+        from Constant.nil k t =
+            record { value = record { first = 0; second = 0; third = 0 }; valid = record { is = sym (e ∙ kind-here Constant.nil t); second = zero-le; third = zero-le }; same = same-refl }
+        from (Constant.bool b) k t =
+            let z = kind-here (Constant.bool b) t in
+            record { value = record { first = 1; second = cond b 1 0; third = 0 }; valid = record { is = sym (e ∙ z); second = omega (arith, bit-small b); third = zero-le }; same = same-refl }
+        from (Constant.num high low) k t = absurd (omega (arith, kind-here (Constant.num high low) t))
+        from (Constant.str l) k t = absurd (omega (arith, kind-here (Constant.str l) t))
 
     pub constant-num : x ≡ 3 → ((t : List ℕ) → Check words t (Three 3 4294967295 4294967295) three s r) → Check words text ValidConstant constantPiece s r
     constant-num z c =
@@ -202,34 +182,20 @@ module _ {words text : List ℕ} where
       (λ v k h. record { value = (v .lines, (v .locals, v .upvalues)); valid = (k .lines, (k .locals, k .upvalues)); same = same-refl })
       (check-then c (check-then d f))
 
--- all that a function holds, in its order
-abbrev Held : Type 0
-Held = Source × (ℕ × (ℕ × (ℕ × (List ℕ × (List Constant × (Functions × Debug))))))
-
-abbrev HeldOk : ℕ → Held → Type 0
-HeldOk n v =
-    ValidSource (v .0) × (Word (v .1 .0) × (Word (v .1 .1 .0) × (Word (v .1 .1 .1 .0) × (ValidList Word (v .1 .1 .1 .1 .0)
-    × (ValidList ValidConstant (v .1 .1 .1 .1 .1 .0) × (ValidChildren n (v .1 .1 .1 .1 .1 .1 .0) × ValidDebug (v .1 .1 .1 .1 .1 .1 .1)))))))
-
-abbrev heldPiece : Held → Piece
-heldPiece v =
-    sourcePiece (v .0) ⊕ word (v .1 .0) ⊕ word (v .1 .1 .0) ⊕ word (v .1 .1 .1 .0) ⊕ ints (v .1 .1 .1 .1 .0)
-    ⊕ list constantPiece (v .1 .1 .1 .1 .1 .0) ⊕ childrenPiece (v .1 .1 .1 .1 .1 .1 .0) ⊕ debugPiece (v .1 .1 .1 .1 .1 .1 .1)
-
-abbrev partsOf : Held → Parts
-partsOf v =
-    let w = v .1 .1 .1 .0 in
+-- a function, with the four bytes of its packed word
+abbrev partsFrom : Source → ℕ → ℕ → ℕ → List ℕ → List Constant → Debug → Parts
+partsFrom source first last w code constants debug =
     record {
-      source = v .0;
-      lineDefined = v .1 .0;
-      lastLineDefined = v .1 .1 .0;
+      source = source;
+      lineDefined = first;
+      lastLineDefined = last;
       numUpvalues = w / 16777216;
       numParams = w / 65536 % 256;
       isVararg = w / 256 % 256;
       maxStackSize = w % 256;
-      code = v .1 .1 .1 .1 .0;
-      constants = v .1 .1 .1 .1 .1 .0;
-      debug = v .1 .1 .1 .1 .1 .1 .1;
+      code = code;
+      constants = constants;
+      debug = debug;
     }
 
 packed-word : (w : ℕ) → Word w → ((w / 16777216 * 256 + w / 65536 % 256) * 256 + w / 256 % 256) * 256 + w % 256 ≡ w
@@ -238,54 +204,49 @@ packed-word w h = omega arith
 word-packed : (p : Parts) → ValidParts p → Word (packed p)
 word-packed p v = omega arith
 
-parts-valid : (n : ℕ) (v : Held) → HeldOk n v → ValidParts (partsOf v)
-parts-valid n v k =
-    record {
-      source = k .0;
-      lineDefined = k .1 .0;
-      lastLineDefined = k .1 .1 .0;
-      numUpvalues = omega (arith, k .1 .1 .1 .0);
-      numParams = omega arith;
-      isVararg = omega arith;
-      maxStackSize = omega arith;
-      code = k .1 .1 .1 .1 .0;
-      constants = k .1 .1 .1 .1 .1 .0;
-      debug = k .1 .1 .1 .1 .1 .1 .1;
-    }
-
 module _ {words text : List ℕ} where
+  -- its parts, one behind the other
   pub function-checked : {allowance : ℕ} {s a b c d e f g h i r : Checked} → (allowance ≡ 0 → ⊥) → Check words text ValidSource sourcePiece s a
       → ((t : List ℕ) → Check words t (Within 0 4294967295) word a b) → ((t : List ℕ) → Check words t (Within 0 4294967295) word b c) → ((t : List ℕ) → Check words t (Within 0 4294967295) word c d)
       → ((t : List ℕ) → Check words t (ValidList Word) ints d e) → Check words text (ValidList ValidConstant) (list constantPiece) e f → Check words text (ValidChildren (allowance - 1)) childrenPiece f g
       → ((t : List ℕ) → Check words t (ValidList Word) ints g h) → Check words text (ValidList ValidLocal) (list localPiece) h i → Check words text (ValidList (λ n. Name n)) (list string) i r
       → Check words text (λ k. Valid k allowance) functionPiece s r
   unfolding Valid functionPiece
-  function-checked {allowance} {s = s} {r = r} z c₁ c₂ c₃ c₄ c₅ c₆ c₇ c₈ c₉ c₁₀ =
-      let n = allowance - 1 in
-      let y : allowance ≡ suc n = omega arith in
-      let all : Check {A = Held} words text (HeldOk n) heldPiece s r =
-      check-then c₁ (check-then (any-word (c₂ text)) (check-then (any-word (c₃ text)) (check-then (any-word (c₄ text)) (check-then (c₅ text) (check-then c₆ (check-then c₇ (debug-checked (c₈ text) c₉ c₁₀))))))) in
-      rw y (check-as (to n) (from n) all)
-    where
-      to : (n : ℕ) (v : Held) → HeldOk n v → As (λ k. Valid k (suc n)) functionPiece (heldPiece v)
-      to n v k =
-          let e : packed (partsOf v) ≡ v .1 .1 .1 .0 = packed-word (v .1 .1 .1 .0) (k .1 .1 .1 .0) in
+  function-checked {allowance} z c₁ c₂ c₃ c₄ c₅ c₆ c₇ c₈ c₉ c₁₀ =
+      let y : allowance ≡ suc (allowance - 1) = omega arith in
+      rw y
+      (check-as
+      (λ v k. record {
+        value = Function.function (partsFrom (v .0) (v .1 .0) (v .1 .1 .0) (v .1 .1 .1 .0) (v .1 .1 .1 .1 .0) (v .1 .1 .1 .1 .1 .0) (v .1 .1 .1 .1 .1 .1 .1)) (v .1 .1 .1 .1 .1 .1 .0);
+        valid = (
           record {
-            value = Function.function (partsOf v) (v .1 .1 .1 .1 .1 .1 .0);
-            valid = (parts-valid n v k, k .1 .1 .1 .1 .1 .1 .0 .short, k .1 .1 .1 .1 .1 .1 .0 .all);
-            same = rw e same-refl;
-          }
-
-      from : (n : ℕ) (f : Function) → Valid f (suc n) → Stands words text (s .at) (s .to) (functionPiece f) → As (HeldOk n) heldPiece (functionPiece f)
-      from n (Function.function p fs) k h =
-          record {
-            value = (p .source, (p .lineDefined, (p .lastLineDefined, (packed p, (p .code, (p .constants, (fs, p .debug)))))));
-            valid = (
-              k .0 .source,
-              (k .0 .lineDefined, (k .0 .lastLineDefined, (word-packed p (k .0), (k .0 .code, (k .0 .constants, (record { short = k .1; all = k .2 }, k .0 .debug)))))),
-            );
-            same = same-refl;
-          }
+            source = k .0;
+            lineDefined = k .1 .0;
+            lastLineDefined = k .1 .1 .0;
+            numUpvalues = omega (arith, k .1 .1 .1 .0);
+            numParams = omega arith;
+            isVararg = omega arith;
+            maxStackSize = omega arith;
+            code = k .1 .1 .1 .1 .0;
+            constants = k .1 .1 .1 .1 .1 .0;
+            debug = k .1 .1 .1 .1 .1 .1 .1;
+          },
+          k .1 .1 .1 .1 .1 .1 .0 .short,
+          k .1 .1 .1 .1 .1 .1 .0 .all,
+        );
+        same = rw (packed-word (v .1 .1 .1 .0) (k .1 .1 .1 .0)) same-refl;
+      })
+      (elim [
+        | Function.function p fs ↦ λ k h. record {
+          value = (p .source, (p .lineDefined, (p .lastLineDefined, (packed p, (p .code, (p .constants, (fs, p .debug)))))));
+          valid = (
+            k .0 .source,
+            (k .0 .lineDefined, (k .0 .lastLineDefined, (word-packed p (k .0), (k .0 .code, (k .0 .constants, (record { short = k .1; all = k .2 }, k .0 .debug)))))),
+          );
+          same = same-refl;
+        }
+      ])
+      (check-then c₁ (check-then (any-word (c₂ text)) (check-then (any-word (c₃ text)) (check-then (any-word (c₄ text)) (check-then (c₅ text) (check-then c₆ (check-then c₇ (debug-checked (c₈ text) c₉ c₁₀)))))))))
 
   pub function-deep : {n : ℕ} {s r : Checked} → n ≡ 0 → r .ok ≡ false → Check words text (λ f. Valid f n) functionPiece s r
   function-deep e o = check-wrong o (λ h f k t. none-deep e f k)

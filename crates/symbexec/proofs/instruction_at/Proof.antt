@@ -5,10 +5,10 @@ use Rattle.symbexec.proofs.instruction_at.Statement.{statement}
 use Rattle.symbexec.proofs.instruction_at.Tie as tie
 
 returns : tie.Need-returns
-returns c = λ text l h. code-past l h (c .before .word-at .ensures) (c .if1 .taken)
+returns c = search code-past
 
 returns-2 : tie.Need-returns-2
-returns-2 c = λ text l h. code-item l h (c .before .before .before .word-at .ensures) (c .before .before .if1 .left) (c .before .item-at .ensures) (c .word-at2 .ensures)
+returns-2 c = search code-item
 
 pub instruction-at-spec : {M : Type 1} → statement M
 instruction-at-spec = tie.close (tie.spec

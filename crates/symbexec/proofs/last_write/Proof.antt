@@ -17,12 +17,10 @@ loop-holds : tie.Need-loop-holds Inv-loop μ-loop
 loop-holds c = (omega arith, trace-start (c .before .last-pc .ensures) (c .first-child .ensures .1 _))
 
 loop-less : tie.Need-loop-less Inv-loop μ-loop
-loop-less c = omega (arith, c .next-pc .ensures .1)
+loop-less c = search needs
 
 loop-again : tie.Need-loop-again Inv-loop μ-loop
-loop-again c =
-    let c₁ = c .before .before in let c₂ = c₁ .before in let c₃ = c₂ .before in let c₄ = c₃ .before .before in
-    (c₄ .loop .inv .0, trace-turn (omega arith) (c₃ .instruction-at .ensures) (c₂ .latest .ensures) (c₁ .operands .ensures) (c .next-pc .ensures) (c₄ .loop .inv .1))
+loop-again c = search trace-turn
 
 returns : tie.Need-returns Inv-loop μ-loop
 returns c = λ text p fs h v. trace-end (omega arith) (c .before .loop .inv .1) text (p .code) fs (h .code) (h .functions) v

@@ -2,9 +2,8 @@
 use borrow.Author.Needs.{needs, scaled-fits}
 use native.Mathlib.Omega.{arith}
 use Prim.Native.Nat.{_+_}
-use mathlib.Core.Path.{refl}
 use Rattle.proto.proofs.Checks.{room-first, room-at, room-fits}
-use Rattle.proto.proofs.Items.{skips-on, constant-none, constant-nil, constant-bool, constant-num, constant-str}
+use Rattle.proto.proofs.Items.{constant-none, constant-nil, constant-bool, constant-num, constant-str}
 use Rattle.proto.proofs.constant.constant_at.Statement.{statement}
 use Rattle.proto.proofs.constant.constant_at.Tie as tie
 
@@ -16,8 +15,5 @@ constant-at-spec = tie.close (tie.spec
     (λ c. search room-fits) (λ c. search (scaled-fits, room-at)) (λ c. search room-at)  -- add-b, mul-b, shared-slice-read-b
     (λ c. omega (arith, c .before .shared-slice-known4 .given (c .before .before .before .before .before .before .before .args .at + 1)))  -- cast-t16
     (λ c. omega (arith, c .before .shared-slice-known4 .given (c .before .before .before .before .before .before .before .args .at + 2)))  -- cast-t17
-    (λ c. constant-nil refl skips-on refl skips-on refl (c .match .keys1))  -- returns-2
-    (λ c. constant-bool refl skips-on refl skips-on refl (c .match .keys2))  -- returns-3
-    (λ c. constant-num refl skips-on refl skips-on refl (c .match .keys3))  -- returns-4
-    -- returns-5
-    (λ c. constant-str refl skips-on refl skips-on refl (c .match .rest .0 .0 .1) (c .match .rest .0 .1) (c .match .rest .1)))
+    (λ c. search constant-nil) (λ c. search constant-bool) (λ c. search constant-num)  -- returns-2, returns-3, returns-4
+    (λ c. constant-str (c .match .rest .0 .0 .1) (c .match .rest .0 .1) (c .match .rest .1)))  -- returns-5

@@ -6,11 +6,11 @@ use Rattle.symbexec.proofs.step.writes.Tie as tie
 
 returns : tie.Need-returns
 unfolding writes
-returns c = rw (← c .before .sets-a .ensures, c .if1 .taken)
+returns c = cc
 
 returns-2 : tie.Need-returns-2
 unfolding writes
-returns-2 c = rw (← c .before .before .sets-a .ensures, c .before .if1 .left) (c .also-writes .ensures)
+returns-2 c = cc
 
 pub writes-spec : {M : Type 1} → statement M
 writes-spec = tie.close (tie.spec
