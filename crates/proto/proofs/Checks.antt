@@ -72,6 +72,10 @@ module _ {words text : List ℕ} where
     pub check-room : {b : Bool} {n : ℕ} {s r : Checked} → r .ok ≡ false → Room b (length words) (s .at) n → not b ≡ true → ((a : A) → length (piece a .words (s .to)) ≡ n) → Check words text ok piece s r
     check-room {b} e h z k = check-wrong e (λ o a v t. h .not (not-true b z) (omega (arith, here-length _ (t .in-words), k a)))
 
+    -- a value stands there, and any that does is passed
+    check-good : {s r : Checked} (a : A) → s .ok ≡ true → ok a → Stands words text (s .at) (s .to) (piece a) → ((b : A) → Stands words text (s .at) (s .to) (piece b) → Passed (piece b) s r) → Check words text ok piece s r
+    check-good a e v t pass = record { sound = λ h. (e, record { value = a; valid = v; stands = t }); complete = λ h b w u. pass b u }
+
     -- past what was found
     pub check-passed : {s r : Checked} (c : Check words text ok piece s r) → (e : r .ok ≡ true) → Passed (piece (c .sound e .1 .value)) s r
     check-passed c e = let x = c .sound e in c .complete (x .0) (x .1 .value) (x .1 .valid) (x .1 .stands)
@@ -128,11 +132,7 @@ module _ {words text : List ℕ} where
   module _ {s : Checked} {low high : ℕ} where
     pub word-good : s .ok ≡ true → s .at < length words → low ≤ getD words (s .at) 0 → getD words (s .at) 0 ≤ high
         → Check words text (Within low high) word s (record { ok = true; at = s .at + 1; to = s .to })
-    word-good e h l k =
-        record {
-          sound = λ z. (e, record { value = getD words (s .at) 0; valid = record { above = l; below = k }; stands = record { in-words = here-one h; in-text = here-none } });
-          complete = λ z v y t. record { ok = refl; at = refl; to = sym (add-zero _) };
-        }
+    word-good e h l k = check-good _ e (record { above = l; below = k }) (record { in-words = here-one h; in-text = here-none }) (λ v t. record { ok = refl; at = refl; to = sym (add-zero _) })
 
     pub word-bad : {r : Checked} → r .ok ≡ false → (s .at < length words → low ≤ getD words (s .at) 0 → getD words (s .at) 0 ≤ high → ⊥) → Check words text (Within low high) word s r
     word-bad e f =
@@ -151,10 +151,8 @@ module _ {words text : List ℕ} where
     pub pair-good : ((i : ℕ) → getD words i 0 < 2 ^ 32) → s .ok ≡ true → s .at + 2 ≤ length words
         → Check {A = ℕ × ℕ} words text (λ v. Word (v .0) × Word (v .1)) (λ v. word (v .0) ⊕ word (v .1)) s (record { ok = true; at = s .at + 2; to = s .to })
     pair-good w e h =
-        record {
-          sound = λ z. (e, record { value = (getD words (s .at) 0, getD words (s .at + 1) 0); valid = (w (s .at), w (s .at + 1)); stands = record { in-words = here-two h; in-text = here-none } });
-          complete = λ z v k t. record { ok = refl; at = refl; to = sym (add-zero _) };
-        }
+        check-good (getD words (s .at) 0, getD words (s .at + 1) 0) e (w (s .at), w (s .at + 1)) (record { in-words = here-two h; in-text = here-none })
+        (λ v t. record { ok = refl; at = refl; to = sym (add-zero _) })
 
   -- ---- three words
 
@@ -162,17 +160,8 @@ module _ {words text : List ℕ} where
     pub three-good : s .ok ≡ true → s .at + 3 ≤ length words → getD words (s .at) 0 ≡ kind → getD words (s .at + 1) 0 ≤ x → getD words (s .at + 2) 0 ≤ y
         → Check words text (Three kind x y) three s (record { ok = true; at = s .at + 3; to = s .to })
     three-good e h i j k =
-        record {
-          sound = λ z. (
-            e,
-            record {
-              value = record { first = getD words (s .at) 0; second = getD words (s .at + 1) 0; third = getD words (s .at + 2) 0 };
-              valid = record { is = i; second = j; third = k };
-              stands = record { in-words = here-three h; in-text = here-none };
-            },
-          );
-          complete = λ z v u t. record { ok = refl; at = refl; to = sym (add-zero _) };
-        }
+        check-good (record { first = getD words (s .at) 0; second = getD words (s .at + 1) 0; third = getD words (s .at + 2) 0 }) e (record { is = i; second = j; third = k })
+        (record { in-words = here-three h; in-text = here-none }) (λ v t. record { ok = refl; at = refl; to = sym (add-zero _) })
 
     pub three-bad : {r : Checked} → r .ok ≡ false → (s .ok ≡ true → s .at + 3 ≤ length words → getD words (s .at) 0 ≡ kind → getD words (s .at + 1) 0 ≤ x → getD words (s .at + 2) 0 ≤ y → ⊥)
         → Check words text (Three kind x y) three s r
@@ -280,13 +269,8 @@ module _ {words : List ℕ} (text : List ℕ) {s m : Checked} {n : ℕ} (e : n �
       let l = part words (s .at + 1) n in
       let g : length l ≡ n = length-take-le n (drop (s .at + 1) words) (rw length-drop (omega arith)) in
       let u : Here words (s .at) (length l ∷ l) = rw g (rw (← e) at (here-join (getD words (s .at) 0 ∷ []) l (here-one (k .2)) (here-take n))) in
-      record {
-        sound = λ z. (
-          c text .sound o .0,
-          record { value = l; valid = record { items = part-below (2 ^ 32) words (s .at + 1) n w; short = omega arith }; stands = record { in-words = u; in-text = here-none } },
-        );
-        complete = λ z x v t. let q = here-get (length x) x (t .in-words) in record { ok = refl; at = omega arith; to = omega arith };
-      }
+      check-good l (c text .sound o .0) (record { items = part-below (2 ^ 32) words (s .at + 1) n w; short = omega arith }) (record { in-words = u; in-text = here-none })
+      (λ x t. let q = here-get (length x) x (t .in-words) in record { ok = refl; at = omega arith; to = omega arith })
 
   pub ints-bad : {r : Checked} → r .ok ≡ false → (m .ok ≡ true → n ≤ length words - m .at → ⊥) → Check words text (ValidList Word) ints s r
   ints-bad o f =
@@ -305,13 +289,8 @@ module _ {words text : List ℕ} {s : Checked} where
       let n = getD words (s .at + 1) 0 in
       let l = part text (s .to) n in
       let g : length l ≡ n = length-take-le n (drop (s .to) text) (rw length-drop q) in
-      record {
-        sound = λ z. (
-          o,
-          record { value = l; valid = part-below 256 text (s .to) n y; stands = record { in-words = rw g (rw p at (here-two {xs = words} {at = s .at} h)); in-text = here-take n } },
-        );
-        complete = λ z x v t. let i = here-item (s .to ∷ length x ∷ []) 1 (omega arith) (t .in-words) in record { ok = refl; at = refl; to = omega (arith, i) };
-      }
+      check-good l o (part-below 256 text (s .to) n y) (record { in-words = rw g (rw p at (here-two {xs = words} {at = s .at} h)); in-text = here-take n })
+      (λ x t. let i = here-item (s .to ∷ length x ∷ []) 1 (omega arith) (t .in-words) in record { ok = refl; at = refl; to = omega (arith, i) })
 
   pub string-bad : {r : Checked} → r .ok ≡ false → (s .ok ≡ true → s .at + 2 ≤ length words → getD words (s .at) 0 ≡ s .to → getD words (s .at + 1) 0 ≤ length text - s .to → ⊥) → Check words text Bytes string s r
   string-bad e f =
@@ -326,19 +305,20 @@ module _ {words text : List ℕ} {s r : Checked} (c : Check words text Bytes str
   pub string-within : r .ok ≡ true → s .to ≤ r .to
   string-within o = omega (arith, check-passed c o .to)
 
+  -- a string that is a name
+  named : ((l : List ℕ) → Stands words text (s .at) (s .to) (string l) → Passed (string l) s r → Name l) → Check words text (λ n. Name n) string s r
+  named f =
+      record {
+        sound = λ h. let x = c .sound h in (x .0, record { value = x .1 .value; valid = f (x .1 .value) (x .1 .stands) (check-passed c h); stands = x .1 .stands });
+        complete = λ h l v t. c .complete h l (utf8-bytes l v) t;
+      }
+
   module _ {b : List ℕ} {u : Bool} (e : u ≡ isUtf8 b) (f : b ≡ part text (s .to) (r .to - s .to)) where
     string-is : (l : List ℕ) → Stands words text (s .at) (s .to) (string l) → Passed (string l) s r → b ≡ l
     string-is l t p = let n : r .to - s .to ≡ length l = omega (arith, p .to) in f ∙ rw n (here-part l (t .in-text))
 
     pub name-good : u ≡ true → Check words text (λ n. Name n) string s r
-    name-good k =
-        record {
-          sound = λ h.
-              let x = c .sound h in
-              let i : b ≡ x .1 .value = string-is (x .1 .value) (x .1 .stands) (check-passed c h) in
-              (x .0, record { value = x .1 .value; valid = rw i at (sym e ∙ k); stands = x .1 .stands });
-          complete = λ h l v t. c .complete h l (utf8-bytes l v) t;
-        }
+    name-good k = named (λ l t p. rw (string-is l t p) at (sym e ∙ k))
 
     pub name-bad : {q : Checked} → q .ok ≡ false → u ≡ false → Check words text (λ n. Name n) string s q
     name-bad k z = check-wrong k (λ h l v t. never (e ∙ rw (string-is l t (c .complete h l (utf8-bytes l v) t)) v) z)
@@ -348,11 +328,4 @@ module _ {words text : List ℕ} {s r : Checked} (c : Check words text Bytes str
 
   -- each name is text where all of the text is ASCII
   pub ascii-name : isAscii text ≡ true → Check words text (λ n. Name n) string s r
-  ascii-name h =
-      record {
-        sound = λ z.
-            let x = c .sound z in
-            let l = x .1 .value in
-            (x .0, record { value = l; valid = utf8-ascii l (rw (here-part l (x .1 .stands .in-text)) at (part-below 0x80 text (s .to) (length l) (ascii-at text h))); stands = x .1 .stands });
-        complete = λ z l v t. c .complete z l (utf8-bytes l v) t;
-      }
+  ascii-name h = named (λ l t p. utf8-ascii l (rw (here-part l (t .in-text)) at (part-below 0x80 text (s .to) (length l) (ascii-at text h))))

@@ -1,12 +1,12 @@
 -- What stands at the places that walking finds: the lists of a function, their counts, their items, strings and constants.
 use Prim.Native.Nat.{ℕ, zero, suc, _+_, _-_, _*_, _/_, _%_, _≤_, _<_, min}
 use mathlib.Core.Path.{_≡_, refl, sym, ap, _∙_}
-use mathlib.Core.List.{List, [], _∷_}
+use mathlib.Core.List.{List, [], _∷_, _++_}
 use mathlib.Core.Bool.{Bool, true, false, cond, not}
 use mathlib.Core.Option.{none, some}
 use native.Mathlib.Omega.{arith}
 use native.Mathlib.Nat.{add-zero, mul-suc, mul-zero}
-use lib.ListN.{length, take, drop, getD, length-append}
+use lib.ListN.{length, take, drop, getD}
 use lib.Seq.{length-take-le}
 use lib.Dec.{eqb}
 use borrow.Author.Tests.{ne-eqb, not-true}
@@ -22,8 +22,8 @@ use Rattle.proto.specs.Walk.{Stands, StandsAt, item, Skips, Past, toCode
 use Rattle.proto.specs.Constants.{ConstantAt}
 use Rattle.proto.specs.Head.{headOf}
 use Rattle.proto.specs.Formed.{Room}
-use Rattle.proto.proofs.Sublists.{here-length, here-get, here-item, here-front, part-clamped}
-use Rattle.proto.proofs.Pieces.{Same, same-sym, same-assoc, function-debug, stands-same, stands-left, stands-right, source-words, constant-words, pieces-words}
+use Rattle.proto.proofs.Sublists.{here-length, here-get, here-item, here-front, skip-item, part-clamped}
+use Rattle.proto.proofs.Pieces.{Same, same-sym, same-assoc, function-debug, stands-same, stands-left, stands-right, constant-words, pieces-words}
 use Rattle.proto.proofs.Walks.{past-stands}
 
 -- ---- the lists of a function
@@ -157,7 +157,7 @@ module _ {words text : List ℕ} where
   string-here {to = to} {y = y} {z = z} s h e f g q =
       let w = h .in-words in
       let u : y ≡ to = e ∙ here-get to _ w in
-      let v : z ≡ length s = g ∙ rw (f .skips (to ∷ []) refl (here-left (to ∷ []) _ w)) (here-get (length s) [] (here-right (to ∷ []) (length s ∷ []) w)) in
+      let v : z ≡ length s = skip-item (to ∷ length s ∷ []) (omega arith) w f g in
       q ∙ rw (u, v) (here-part s (h .in-text))
 
   pub source-inherited : {at to x : ℕ} (around : List ℕ) (s : Source) → Stands words text at to (sourcePiece s) → x ≡ getD words at 0 → x ≡ 0 → around ≡ filled around s
@@ -222,23 +222,18 @@ module _ {words : List ℕ} {at : ℕ} where
 -- ---- the head of a function
 
 -- behind the source stand three words
-head-words : {words : List ℕ} {at : ℕ} (p : Parts) (fs : Functions) (to : ℕ) → Here words at (toCode p fs .words to) → Here words (at + 3) (p .lineDefined ∷ p .lastLineDefined ∷ packed p ∷ [])
-head-words p fs to h = rw (source-words (p .source) to) at (here-right (sourcePiece (p .source) .words to) (p .lineDefined ∷ p .lastLineDefined ∷ packed p ∷ []) h)
+head-items : (s : Source) (to a b c : ℕ) → let l = sourcePiece s .words to ++ (a ∷ b ∷ c ∷ []) in (length l ≡ 6) × (getD l 3 0 ≡ a) × (getD l 4 0 ≡ b) × (getD l 5 0 ≡ c)
+head-items Source.inherited to a b c = (refl, refl, refl, refl)
+head-items (Source.own s) to a b c = (refl, refl, refl, refl)
 
 pub head-here : {words : List ℕ} {at a b c x y z : ℕ} → Skips words 3 at a → x ≡ getD words a 0 → Skips words 4 at b → y ≡ getD words b 0 → Skips words 5 at c → z ≡ getD words c 0
     → (p : Parts) (fs : Functions) (t : List ℕ) → ValidParts p → StandsAt words t at (functionPiece (Function.function p fs))
     → record { «line_defined» = x; «last_line_defined» = y; «num_upvalues» = z / 16777216; «num_params» = z / 65536 % 256; «is_vararg» = z / 256 % 256; «max_stack_size» = z % 256 } ≡ headOf p
-head-here {words} {at} {a} {b} {c} {x} {y} {z} f i g j k l p fs t v stands =
-    let to = stands .to in
+head-here {x = x} {y = y} {z = z} f i g j k l p fs t v stands =
     let h = head-stands p fs (stands .stands) .in-words in
-    let w = toCode p fs .words to in
-    let n : length w ≡ 6 = length-append (sourcePiece (p .source) .words to) _ ∙ rw (source-words (p .source) to) in
-    let t = head-words p fs to h in
-    let skipped : (m r : ℕ) → m ≤ 6 → Skips words m at r → r ≡ at + m = λ m r q s. s .skips (take m w) (length-take-le m w (omega arith)) (here-front m w h) in
-    let e : x ≡ p .lineDefined = i ∙ rw (skipped 3 a (omega arith) f) (here-get _ _ t) in
-    let d : b ≡ at + 3 + 1 = omega (arith, skipped 4 b (omega arith) g) in
-    let d′ : c ≡ at + 3 + 2 = omega (arith, skipped 5 c (omega arith) k) in
-    let e′ : y ≡ p .lastLineDefined = j ∙ rw d (here-item (p .lineDefined ∷ p .lastLineDefined ∷ packed p ∷ []) 1 (omega arith) t) in
-    let o : z ≡ packed p = l ∙ rw d′ (here-item (p .lineDefined ∷ p .lastLineDefined ∷ packed p ∷ []) 2 (omega arith) t) in
+    let w = head-items (p .source) (stands .to) (p .lineDefined) (p .lastLineDefined) (packed p) in
+    let e : x ≡ p .lineDefined = skip-item _ (omega (arith, w .0)) h f i ∙ w .1 in
+    let e′ : y ≡ p .lastLineDefined = skip-item _ (omega (arith, w .0)) h g j ∙ w .2 in
+    let o : z ≡ packed p = skip-item _ (omega (arith, w .0)) h k l ∙ w .3 in
     let u = unpacked p v in
     rw (e, e′, o, u .0, u .1, u .2, u .3)

@@ -15,7 +15,7 @@ use Rattle.proto.specs.declared.walk.Next.{Next}
 use Rattle.proto.specs.declared.lists.Lists.{Lists}
 use Rattle.proto.specs.Walk.{StandsAt, Skips, Past, Passes, PassesAll, toCode, toConstants, toFunctions, toLines, toLocals, totalAll}
 use Rattle.proto.specs.Lists.{ListsAt, ListsFound, LinesAt, LinesKept, WalksToLines}
-use Rattle.proto.proofs.Walks.{past-then, past-ints, past-locals, skip-items, all-none, all-more, passes-past, none-deep, pass-inside}
+use Rattle.proto.proofs.Walks.{past-then, past-ints, past-list, skip-items, all-none, all-more, passes-past, none-deep, pass-inside}
 use Rattle.proto.proofs.Items.{somewhere, code-stands, constants-stand, functions-stand, lines-stand, locals-stand, upvalues-stand}
 
 -- ---- the lists of a function
@@ -33,7 +33,7 @@ lists-found allowance li e lo f up co ks fu p fs v =
       functions = fu p fs;
       lines = li p fs v;
       locals = to-locals;
-      upvalues = past-then {p = toLocals p fs} {q = list localPiece (p .debug .locals)} to-locals (past-locals (p .debug .locals) (skip-items 4 f up));
+      upvalues = past-then {p = toLocals p fs} {q = list localPiece (p .debug .locals)} to-locals (past-list localPiece 4 (λ a to. refl) (p .debug .locals) (skip-items 4 f up));
     }
 
 -- where the function stands, so do its lists

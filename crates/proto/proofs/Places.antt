@@ -19,31 +19,24 @@ use Rattle.proto.specs.declared.place.Span.{Span}
 use Rattle.proto.specs.declared.place.Sought.{Sought}
 use Rattle.proto.specs.Walk.{Skips, Past, toFunctions, toLines}
 use Rattle.proto.specs.Places.{spanOf, Placed, placed, placedAll, beginsAt, Seeks, Search}
-use Rattle.proto.proofs.Sublists.{here-get}
+use Rattle.proto.proofs.Sublists.{here-get, skip-item}
 use Rattle.proto.proofs.Pieces.{function-debug}
 use Rattle.proto.proofs.Walks.{valid-inside}
 use Rattle.proto.proofs.Checks.{never}
 
 -- ---- the source of a function
 
-module _ {words : List ℕ} {at x : ℕ} (around : Span) (s : Source) (to : ℕ) (h : Here words at (sourcePiece s .words to)) (e : x ≡ getD words at 0) where
-  pub span-inherited : x ≡ 0 → around ≡ spanOf around to s
-  span-inherited z = go s h
-    where
-      go : (s : Source) → Here words at (sourcePiece s .words to) → around ≡ spanOf around to s
-      go Source.inherited h = refl
-      go (Source.own l) h = absurd (omega (arith, here-get 1 _ h))
+pub span-inherited : {words : List ℕ} {at x : ℕ} (around : Span) (s : Source) (to : ℕ) → Here words at (sourcePiece s .words to) → x ≡ getD words at 0 → x ≡ 0 → around ≡ spanOf around to s
+span-inherited around Source.inherited to h e z = refl
+span-inherited around (Source.own l) to h e z = absurd (omega (arith, here-get 1 _ h))
 
-  pub span-own : {a b y z : ℕ} → (x ≡ 0 → ⊥) → Skips words 1 at a → y ≡ getD words a 0 → Skips words 2 at b → z ≡ getD words b 0 → record { «in_text» = 1; start = y; end = y + z } ≡ spanOf around to s
-  span-own {a} {b} {y} {z} n k f l g = go s h
-    where
-      go : (s : Source) → Here words at (sourcePiece s .words to) → record { «in_text» = 1; start = y; end = y + z } ≡ spanOf around to s
-      go Source.inherited h = absurd (n (e ∙ here-get 0 _ h))
-      go (Source.own s) h =
-          let i : Here words at (1 ∷ to ∷ length s ∷ []) = rw (add-zero to) at h in
-          let u : y ≡ to = f ∙ rw (k .skips (1 ∷ []) refl (here-left (1 ∷ []) _ i)) (here-get to _ (here-right (1 ∷ []) (to ∷ length s ∷ []) i)) in
-          let v : z ≡ length s = g ∙ rw (l .skips (1 ∷ to ∷ []) refl (here-left (1 ∷ to ∷ []) _ i)) (here-get (length s) [] (here-right (1 ∷ to ∷ []) (length s ∷ []) i)) in
-          rw (u, v)
+pub span-own : {words : List ℕ} {at x a b y z : ℕ} (around : Span) (s : Source) (to : ℕ) → Here words at (sourcePiece s .words to) → x ≡ getD words at 0 → (x ≡ 0 → ⊥)
+    → Skips words 1 at a → y ≡ getD words a 0 → Skips words 2 at b → z ≡ getD words b 0 → record { «in_text» = 1; start = y; end = y + z } ≡ spanOf around to s
+span-own around Source.inherited to h e n k f l g = absurd (n (e ∙ here-get 0 _ h))
+span-own {y = y} {z} around (Source.own s) to h e n k f l g =
+    let u : y ≡ to + 0 = skip-item (1 ∷ (to + 0) ∷ length s ∷ []) (omega arith) h k f in
+    let v : z ≡ length s = skip-item (1 ∷ (to + 0) ∷ length s ∷ []) (omega arith) h l g in
+    rw (u, v, add-zero to)
 
 -- ---- one function after the other
 

@@ -10,7 +10,7 @@ use lib.Dec.{eqb}
 use borrow.Author.Tests.{eq-eqb, eqb-true}
 use Rattle.lent.specs.Memory.{Every, Word, Bytes}
 use Rattle.format.specs.Tree.{Constant, Source, Debug, Parts, Function, Functions, count}
-use Rattle.format.specs.Store.{Piece, word, _⊕_, string, pieces, list, ints, sourcePiece, constantPiece, localPiece, debugPiece, packed, functionPiece, functionPieces, wordsOf, textOf, childrenPiece}
+use Rattle.format.specs.Store.{word, _⊕_, string, pieces, list, ints, sourcePiece, constantPiece, localPiece, debugPiece, packed, functionPiece, functionPieces, wordsOf, textOf, childrenPiece}
 use Rattle.format.specs.Stored.{treeOf}
 use Rattle.format.specs.Valid.{depth, most, Name, ValidSource, ValidConstant, ValidLocal, ValidList, ValidDebug, ValidParts, Valid, ValidAll, Holds}
 use Rattle.format.proofs.Stored.{holds-tree, tree-holds}

@@ -4,11 +4,12 @@ use mathlib.Core.Path.{_≡_, refl, sym, ap, _∙_}
 use mathlib.Core.List.{List, [], _∷_, _++_, append-assoc, append-nil}
 use native.Mathlib.Omega.{arith}
 use lib.ListN.{length, take, drop, getD, length-append, length-drop, take-append-drop, drop-of-length-le, List·getD-append}
-use lib.Seq.{drop-at, drop-drop, getD-drop, take-all, take-length, drop-length}
+use lib.Seq.{drop-at, drop-drop, getD-drop, take-all, take-length, length-take-le, drop-length}
 use native.Mathlib.Decide.{decLe}
 use Rattle.format.specs.Stored.{part, Here}
 use Rattle.lent.proofs.Lists.{drop-more}
 use Rattle.format.proofs.Stored.{here-left}
+use Rattle.proto.specs.Walk.{Skips}
 
 module _ {xs : List ℕ} {at : ℕ} where
   pub here-length : (l : List ℕ) → (h : Here xs at l) → length xs - at ≡ length l + length (h .more)
@@ -33,6 +34,10 @@ module _ {xs : List ℕ} {at : ℕ} where
 
   pub here-front : (n : ℕ) (l : List ℕ) → Here xs at l → Here xs at (take n l)
   here-front n l h = here-left (take n l) (drop n l) (rw (take-append-drop n l) h)
+
+  -- the word behind n of those that stand there
+  pub skip-item : {n a x : ℕ} (l : List ℕ) → n < length l → Here xs at l → Skips xs n at a → x ≡ getD xs a 0 → x ≡ getD l n 0
+  skip-item {n} l k h s e = e ∙ rw (s .skips (take n l) (length-take-le n l (omega arith)) (here-front n l h)) (here-item l n k h)
 
   -- what stands there is a part of the list
   pub here-take : (n : ℕ) → Here xs at (take n (drop at xs))

@@ -6,8 +6,8 @@ use native.Mathlib.Omega.{arith}
 use native.Mathlib.Nat.{add-zero, add-assoc}
 use lib.ListN.{length, getD, length-append}
 use Rattle.lent.specs.Memory.{far}
-use Rattle.format.specs.Tree.{Constant, Local, Debug, Parts, Function, Functions, count}
-use Rattle.format.specs.Store.{Piece, plain, word, _⊕_, string, pieces, list, ints, sourcePiece, constantPiece, localPiece, debugPiece, functionPiece, functionPieces, childrenPiece}
+use Rattle.format.specs.Tree.{Debug, Parts, Function, Functions, count}
+use Rattle.format.specs.Store.{Piece, plain, word, _⊕_, string, pieces, list, ints, sourcePiece, localPiece, debugPiece, functionPiece, functionPieces, childrenPiece}
 use Rattle.format.specs.Valid.{Valid, ValidAll}
 use Rattle.format.specs.Stored.{Here}
 use Rattle.format.proofs.Stored.{here-left, here-right}
@@ -15,7 +15,7 @@ use Rattle.proto.specs.Walk.{Stands, Skips, SkipsItems, Past, total, tot
 use Rattle.proto.specs.Lists.{WalksToLines}
 use Rattle.proto.specs.declared.walk.Next.{Next}
 use Rattle.proto.proofs.Sublists.{here-get}
-use Rattle.proto.proofs.Pieces.{Same, same-sym, same-assoc, function-debug, stands-left, stands-right, source-words, constant-words, pieces-words}
+use Rattle.proto.proofs.Pieces.{Same, same-sym, same-assoc, function-debug, stands-left, stands-right, source-words, pieces-words}
 
 module _ {words : List ℕ} where
   pub past-none : {at : ℕ} → Past words (plain []) at at
@@ -65,15 +65,6 @@ module _ {words : List ℕ} where
 
   pub past-head : {at r : ℕ} (p : Parts) (fs : Functions) → Skips words 6 at r → Past words (toCode p fs) at r
   past-head p fs s = past-words 6 (toCode p fs) (λ to. length-append (sourcePiece (p .source) .words to) _ ∙ rw (source-words (p .source) to)) s
-
-  pub past-constants : {at r : ℕ} (l : List Constant) → SkipsItems words 3 at r → Past words (list constantPiece l) at r
-  past-constants l s = past-list constantPiece 3 constant-words l s
-
-  pub past-locals : {at r : ℕ} (l : List Local) → SkipsItems words 4 at r → Past words (list localPiece l) at r
-  past-locals l s = past-list localPiece 4 (λ a to. refl) l s
-
-  pub past-names : {at r : ℕ} (l : List (List ℕ)) → SkipsItems words 2 at r → Past words (list string l) at r
-  past-names l s = past-list string 2 (λ a to. refl) l s
 
   -- ---- functions
 
@@ -127,7 +118,7 @@ module _ {words : List ℕ} where
       }
 
   pub past-debug : {at a b r : ℕ} (d : Debug) → SkipsItems words 1 at a → SkipsItems words 4 a b → SkipsItems words 2 b r → Past words (debugPiece d) at r
-  past-debug d s t u = past-then (past-ints (d .lines) s) (past-then (past-locals (d .locals) t) (past-names (d .upvalues) u))
+  past-debug d s t u = past-then (past-ints (d .lines) s) (past-then (past-list localPiece 4 (λ a to. refl) (d .locals) t) (past-list string 2 (λ a to. refl) (d .upvalues) u))
 
   pub passes-function : (n : ℕ) {s m r : Next} → WalksToLines words n s m → ((d : Debug) → Past words (debugPiece d) (m .at) (r .at)) → r .number ≡ m .number
       → (f : Function) → Valid f (suc n) → Passes words (functionPiece f) (total f) s r
