@@ -4,8 +4,7 @@ use mathlib.Core.Path.{_≡_, refl, sym, ap, _∙_}
 use mathlib.Core.List.{List, _∷_}
 use mathlib.Core.Bool.{Bool, true, false, cond, not, _&&_}
 use native.Mathlib.Omega.{arith}
-use lib.ListN.{length, getD, take, List·getD-eq-default}
-use lib.Seq.{length-take-le}
+use lib.ListN.{length, getD, List·getD-eq-default}
 use lib.Dec.{eqb, leb, ltb}
 use borrow.Author.Tests.{lt-ltb, le-ltb, ltb-true}
 use Rattle.format.specs.Tree.{Function, Functions}
@@ -15,8 +14,8 @@ use Rattle.instructions.specs.Fields.{MAXARG-sBx, GETARG-C, GETARG-Bx, NO-REG}
 use Rattle.instructions.specs.OpCodes.{isJump, opcode}
 use Rattle.proto.specs.Walk.{Skips, StandsAt, children}
 use Rattle.proto.specs.Children.{ChildAt}
-use Rattle.proto.proofs.Items.{ints-count, ints-item}
-use Rattle.proto.proofs.Sublists.{here-front}
+use Rattle.proto.proofs.Items.{ints-count}
+use Rattle.proto.proofs.Sublists.{skip-item}
 use Rattle.proto.specs.declared.child.Child.{Child}
 use Rattle.symbexec.specs.declared.operands.Skipped.{Skipped}
 use Rattle.symbexec.specs.Operands.{Behind}
@@ -55,10 +54,7 @@ module _ {words text : List ℕ} {code x : ℕ} (l : List ℕ) (h : StandsAt wor
   code-past k = sym (List·getD-eq-default l 0 (omega (arith, code-count)))
 
   pub code-item : {pc r y : ℕ} → pc < x → Skips words (1 + 1 * pc) code r → y ≡ getD words r 0 → y ≡ getD l pc 0
-  code-item {pc} {r} k s g =
-      let n : 1 + 1 * pc ≤ suc (length l) = omega (arith, code-count) in
-      let f : r ≡ code + suc pc = s .skips (take (1 + 1 * pc) (length l ∷ l)) (length-take-le (1 + 1 * pc) (length l ∷ l) n) (here-front (1 + 1 * pc) (length l ∷ l) (h .stands .in-words)) ∙ omega arith in
-      g ∙ rw f (ints-item l pc (omega (arith, code-count)) (h .stands))
+  code-item {pc} k s g = let n : 1 + 1 * pc ≡ suc pc = omega arith in rw n at (skip-item (length l ∷ l) (omega (arith, code-count)) (h .stands .in-words) s g)
 
 -- ---- the walk
 

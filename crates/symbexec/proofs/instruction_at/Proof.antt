@@ -4,15 +4,7 @@ use Rattle.symbexec.proofs.Steps.{code-past, code-item}
 use Rattle.symbexec.proofs.instruction_at.Statement.{statement}
 use Rattle.symbexec.proofs.instruction_at.Tie as tie
 
-returns : tie.Need-returns
-returns c = search code-past
-
-returns-2 : tie.Need-returns-2
-returns-2 c = search code-item
-
 pub instruction-at-spec : {M : Type 1} → statement M
 instruction-at-spec = tie.close (tie.spec
-    (λ c. search needs)  -- word-at-requires
-    returns
-    (λ c. search needs) (λ c. search needs)  -- item-at-requires, word-at-requires-2
-    returns-2)
+    (λ c. search needs) (λ c. search code-past) (λ c. search needs)  -- word-at-requires, returns, item-at-requires
+    (λ c. search needs) (λ c. search code-item))  -- word-at-requires-2, returns-2

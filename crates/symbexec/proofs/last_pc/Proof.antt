@@ -5,13 +5,8 @@ use Rattle.symbexec.proofs.Steps.{code-count}
 use Rattle.symbexec.proofs.last_pc.Statement.{statement}
 use Rattle.symbexec.proofs.last_pc.Tie as tie
 
-returns : tie.Need-returns
-returns c = λ text l h. omega (arith, code-count l h (c .before .word-at .ensures))
-
-returns-2 : tie.Need-returns-2
-returns-2 c = λ text l h. omega (arith, code-count l h (c .before .word-at .ensures))
-
 pub last-pc-spec : {M : Type 1} → statement M
 last-pc-spec = tie.close (tie.spec
     (λ c. search needs) (λ c. search needs)  -- word-at-requires, sub-result
-    returns returns-2)
+    (λ c text l h. omega (arith, code-count l h (c .before .word-at .ensures)))  -- returns
+    (λ c text l h. omega (arith, code-count l h (c .before .word-at .ensures))))  -- returns-2

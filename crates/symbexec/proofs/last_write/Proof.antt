@@ -7,28 +7,14 @@ use Rattle.symbexec.proofs.Steps.{Traced, trace-start, trace-turn, trac
 use Rattle.symbexec.proofs.last_write.Statement.{statement}
 use Rattle.symbexec.proofs.last_write.Tie as tie
 
-abbrev Inv-loop : tie.InvT-loop
-Inv-loop words lastpc reg code functions end last₀ child₀ pc₀ last child pc = (end ≡ lastpc) × Traced words code functions lastpc reg last child pc
-
-abbrev μ-loop : tie.MeasureT-loop
-μ-loop words lastpc reg code functions end last₀ child₀ pc₀ last child pc = end - pc
-
-loop-holds : tie.Need-loop-holds Inv-loop μ-loop
-loop-holds c = (omega arith, trace-start (c .before .last-pc .ensures) (c .first-child .ensures .1 _))
-
-loop-less : tie.Need-loop-less Inv-loop μ-loop
-loop-less c = search needs
-
-loop-again : tie.Need-loop-again Inv-loop μ-loop
-loop-again c = search trace-turn
-
-returns : tie.Need-returns Inv-loop μ-loop
-returns c = λ text p fs h v. trace-end (omega arith) (c .before .loop .inv .1) text (p .code) fs (h .code) (h .functions) v
-
 pub last-write-spec : {M : Type 1} → statement M
-last-write-spec = tie.close (tie.spec Inv-loop μ-loop
+last-write-spec = tie.close (tie.spec
+    (λ words lastpc reg code functions end last₀ child₀ pc₀ last child pc. (end ≡ lastpc) × Traced words code functions lastpc reg last child pc)
+    (λ words lastpc reg code functions end last₀ child₀ pc₀ last child pc. end - pc)
     (λ c. search needs) (λ c. search needs)  -- last-pc-requires, first-child-requires
-    loop-holds
+    (λ c. (omega arith, trace-start (c .before .last-pc .ensures) (c .first-child .ensures .1 _)))  -- loop-holds
     (λ c. omega arith) (λ c. search needs) (λ c. search needs)  -- cast-here, instruction-at-requires, latest-requires
-    (λ c. search needs) (λ c. search needs)  -- operands-requires, next-pc-requires
-    loop-less loop-again returns)
+    (λ c. search needs) (λ c. search needs) (λ c. search needs)  -- operands-requires, next-pc-requires, loop-less
+    (λ c. search trace-turn)  -- loop-again
+    -- returns
+    (λ c text p fs h v. trace-end (omega arith) (c .before .loop .inv .1) text (p .code) fs (h .code) (h .functions) v))

@@ -20,10 +20,6 @@ use Rattle.symbexec.proofs.symbexec_at.Reads as symbexec-at-reads
 use Rattle.debug_info.proofs.object.+getobjname.{statement}
 use Rattle.debug_info.proofs.object.+getobjname.Tie.{close}
 
--- Each call marks a register, so that fewer are left to search; that number is the measure, and bounds the definition's search.
-
--- Each call marks a register, so that fewer are left to search; that number is the measure, and bounds the definition's search.
-
 abbrev μ-getobjname : Measures 1 getobjname-kinds.ps ℕ
 μ-getobjname κs a = unsearched (a .1 .1 .1 .1 .0)
 

@@ -1,10 +1,9 @@
+-- By the tests, in their order.
 use borrow.Author.Needs.{needs}
 use native.Mathlib.Omega.{arith}
 use Rattle.local_records.proofs.Records.{look-late, look-over, look-found, look-more}
 use Rattle.local_records.proofs.record.look.Statement.{statement}
 use Rattle.local_records.proofs.record.look.Tie as tie
-
--- By the tests, in their order.
 
 returns : tie.Need-returns
 returns c = look-late (c .before .before .args .r) (c .before .before .args .remaining) (c .before .before .args .pc) (c .if1 .taken)

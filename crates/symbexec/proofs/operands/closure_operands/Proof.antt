@@ -4,15 +4,10 @@ use Rattle.symbexec.proofs.Upvalues.{behind-none, behind-child}
 use Rattle.symbexec.proofs.operands.closure_operands.Statement.{statement}
 use Rattle.symbexec.proofs.operands.closure_operands.Tie as tie
 
-returns : tie.Need-returns
-returns c = behind-none (c .before .word-at .ensures) (c .if1 .taken)
-
-returns-2 : tie.Need-returns-2
-returns-2 c = behind-child (c .before .before .before .word-at .ensures) (c .before .before .if1 .left) (c .before .child-at .ensures) (c .head-at .ensures)
-
 pub closure-operands-spec : {M : Type 1} → statement M
 closure-operands-spec = tie.close (tie.spec
     (λ c. search needs)  -- word-at-requires
-    returns
+    (λ c. behind-none (c .before .word-at .ensures) (c .if1 .taken))  -- returns
     (λ c. search needs) (λ c. search needs)  -- child-at-requires, head-at-requires
-    returns-2)
+    -- returns-2
+    (λ c. behind-child (c .before .before .before .word-at .ensures) (c .before .before .if1 .left) (c .before .child-at .ensures) (c .head-at .ensures)))

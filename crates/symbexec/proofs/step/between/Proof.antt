@@ -3,11 +3,7 @@ use borrow.Author.Tests.{le-leb, lt-leb}
 use Rattle.symbexec.proofs.step.between.Statement.{statement}
 use Rattle.symbexec.proofs.step.between.Tie as tie
 
-returns : tie.Need-returns
-returns c = rw (lt-leb _ _ (c .if1 .taken))
-
-returns-2 : tie.Need-returns-2
-returns-2 c = rw (le-leb _ _ (c .if1 .left))
-
 pub between-spec : {M : Type 1} → statement M
-between-spec = tie.close (tie.spec returns returns-2)
+between-spec = tie.close (tie.spec
+    (λ c. rw (lt-leb _ _ (c .if1 .taken)))  -- returns
+    (λ c. rw (le-leb _ _ (c .if1 .left))))  -- returns-2

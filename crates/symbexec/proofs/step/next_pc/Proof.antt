@@ -6,19 +6,13 @@ use Rattle.symbexec.proofs.Steps.{goes-forward, next-jump, next-on}
 use Rattle.symbexec.proofs.step.next_pc.Statement.{statement}
 use Rattle.symbexec.proofs.step.next_pc.Tie as tie
 
-sub-result : tie.Need-sub-result
-sub-result c = omega (arith, goes-forward _ _ _ _ _ (sym (c .before .before .followed .ensures) ∙ c .before .if1 .taken), c .bx .ensures)
-
-returns : tie.Need-returns
-returns c = next-jump _ _ _ _ _ _ (sym (c .before .before .followed .ensures) ∙ c .before .if1 .taken) (rw (c .bx .ensures))
-
-returns-2 : tie.Need-returns-2
-returns-2 c = next-on _ _ _ _ _ _ (sym (c .before .followed .ensures) ∙ c .if1 .left) (omega arith)
-
 pub next-pc-spec : {M : Type 1} → statement M
 next-pc-spec = tie.close (tie.spec
     (λ c. search needs) (λ c. search needs) (λ c. search needs)  -- followed-requires, add-result, bx-requires
     (λ c. search needs) (λ c. search needs)  -- cast-result, add-result-2
-    sub-result returns
+    -- sub-result
+    (λ c. omega (arith, goes-forward _ _ _ _ _ (sym (c .before .before .followed .ensures) ∙ c .before .if1 .taken), c .bx .ensures))
+    -- returns
+    (λ c. next-jump _ _ _ _ _ _ (sym (c .before .before .followed .ensures) ∙ c .before .if1 .taken) (rw (c .bx .ensures)))
     (λ c. search needs) (λ c. search needs)  -- add-result-3, add-result-4
-    returns-2)
+    (λ c. next-on _ _ _ _ _ _ (sym (c .before .followed .ensures) ∙ c .if1 .left) (omega arith)))  -- returns-2
