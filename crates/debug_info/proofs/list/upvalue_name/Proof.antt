@@ -6,17 +6,12 @@ use Rattle.debug_info.proofs.Lists.{looked-past, looked-up}
 use Rattle.debug_info.proofs.list.upvalue_name.Statement.{statement}
 use Rattle.debug_info.proofs.list.upvalue_name.Tie as tie
 
-returns : tie.Need-returns
-returns c = λ text l h. rw (looked-past string l h (c .before .word-at .ensures) (c .if1 .taken))
-
-returns-2 : tie.Need-returns-2
-returns-2 c = λ text l h.
-    let x = looked-up string l h (c .before .before .before .word-at .ensures) 2 (λ a to. refl) (c .before .before .if1 .left) (c .before .item-at .ensures) in
-    rw (x .is) (c .name-at .ensures text (x .value) (x .stands))
-
 pub upvalue-name-spec : {M : Type 1} → statement M
 upvalue-name-spec = tie.close (tie.spec
     (λ c. search needs)  -- word-at-requires
-    returns
+    (λ c text l h. rw (looked-past string l h (c .before .word-at .ensures) (c .if1 .taken)))  -- returns
     (λ c. search needs) (λ c. search needs)  -- item-at-requires, name-at-requires
-    returns-2)
+    -- returns-2
+    (λ c. λ text l h.
+    let x = looked-up string l h (c .before .before .before .word-at .ensures) 2 (λ a to. refl) (c .before .before .if1 .left) (c .before .item-at .ensures) in
+    rw (x .is) (c .name-at .ensures text (x .value) (x .stands))))

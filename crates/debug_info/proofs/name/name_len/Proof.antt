@@ -4,10 +4,7 @@ use Rattle.debug_info.proofs.Calls.{counts-nowhere}
 use Rattle.debug_info.proofs.name.name_len.Statement.{statement}
 use Rattle.debug_info.proofs.name.name_len.Tie as tie
 
-returns : tie.Need-returns
-returns c = counts-nowhere (c .before .put-name .ensures)
-
 pub name-len-spec : {M : Type 1} → statement M
 name-len-spec = tie.close (tie.spec
     (λ c. search needs) (λ c. search needs)  -- slice-aggregate-put-name, put-name-requires
-    returns)
+    (λ c. search counts-nowhere))  -- returns
