@@ -5,15 +5,15 @@ use mathlib.Core.List.{List, [], _∷_}
 use mathlib.Core.Bool.{Bool, true, false, cond, _&&_}
 use mathlib.Core.Option.{none, some}
 use native.Mathlib.Omega.{arith}
-use lib.ListN.{length, getD, take}
-use lib.Seq.{length-take-le}
+use lib.ListN.{length, getD}
 use lib.Dec.{eqb, ltb}
 use borrow.Author.Tests.{lt-ltb, le-ltb}
 use Rattle.format.specs.Tree.{Local}
 use Rattle.format.specs.Store.{Piece, word, _⊕_, string, pieces, list, localPiece}
 use Rattle.format.proofs.Stored.{here-left}
+use Rattle.format.proofs.Loops.{Loop, loop-turn, loop-end, loop-stop}
 use Rattle.proto.specs.Walk.{item, Skips, StandsAt}
-use Rattle.proto.proofs.Sublists.{here-item, here-front}
+use Rattle.proto.proofs.Sublists.{skip-item}
 use Rattle.proto.proofs.Pieces.{stands-left, stands-right}
 use Rattle.proto.proofs.Items.{somewhere, item-past, item-there, list-count, list-item}
 use Rattle.debug_info.specs.declared.name.Name.{Name}
@@ -42,33 +42,21 @@ module _ {A : Type 0} {words text : List ℕ} (piece : A → Piece) {at x i : �
 
 -- ---- locals
 
-local-words : {words text : List ℕ} {at : ℕ} (v : Local) → StandsAt words text at (localPiece v) → (getD words (at + 2) 0 ≡ v .start) × (getD words (at + 3) 0 ≡ v .end)
-local-words v h =
+pub local-is : {words : List ℕ} {at a b x y : ℕ} (name : Name) → ((text s : List ℕ) → StandsAt words text at (string s) → nameOf text name ≡ s) → Skips words 2 at a → x ≡ getD words a 0 → Skips words 3 at b → y ≡ getD words b 0
+    → (text : List ℕ) (v : Local) → StandsAt words text at (localPiece v) → localOf text (record { name = name; start = x; end = y }) ≡ v
+local-is {x = x} {y = y} name n s e s′ e′ text v h =
     let l = h .to ∷ length (v .name) ∷ v .start ∷ v .end ∷ [] in
-    (here-item l 2 (omega arith) (h .stands .in-words), here-item l 3 (omega arith) (h .stands .in-words))
-
-module _ {words : List ℕ} {at : ℕ} where
-  -- behind the first words of a local
-  local-skip : {text : List ℕ} {n r : ℕ} (v : Local) → n ≤ 4 → Skips words n at r → StandsAt words text at (localPiece v) → r ≡ at + n
-  local-skip {n = n} v k s h =
-      let l = h .to ∷ length (v .name) ∷ v .start ∷ v .end ∷ [] in
-      s .skips (take n l) (length-take-le n l (omega arith)) (here-front n l (h .stands .in-words))
-
-  pub local-is : {a b x y : ℕ} (name : Name) → ((text s : List ℕ) → StandsAt words text at (string s) → nameOf text name ≡ s) → Skips words 2 at a → x ≡ getD words a 0 → Skips words 3 at b → y ≡ getD words b 0
-      → (text : List ℕ) (v : Local) → StandsAt words text at (localPiece v) → localOf text (record { name = name; start = x; end = y }) ≡ v
-  local-is {x = x} {y = y} name n s e s′ e′ text v h =
-      let w = local-words v h in
-      let p = n text (v .name) (somewhere (stands-left (string (v .name)) (word (v .start) ⊕ word (v .end)) (h .stands))) in
-      let q : x ≡ v .start = e ∙ rw (local-skip v (omega arith) s h) (w .0) in
-      let r : y ≡ v .end = e′ ∙ rw (local-skip v (omega arith) s′ h) (w .1) in
-      rw (p, q, r)
+    let p = n text (v .name) (somewhere (stands-left (string (v .name)) (word (v .start) ⊕ word (v .end)) (h .stands))) in
+    let q : x ≡ v .start = skip-item l (omega arith) (h .stands .in-words) s e in
+    let r : y ≡ v .end = skip-item l (omega arith) (h .stands .in-words) s′ e′ in
+    rw (p, q, r)
 
 -- from a place and a number on, n locals lead to this answer
 pub record Active (words : List ℕ) (pc n : ℕ) (s : ℕ × ℕ) (r : Known) : Type 0 where
   pub active : (text : List ℕ) (l : List Local) → length l ≡ n → StandsAt words text (s .0) (pieces localPiece l) → objectOf text r ≡ activeLocal l (s .1) pc
 
 module _ {words : List ℕ} {pc : ℕ} where
-  pub active-none : {s : ℕ × ℕ} (r : Known) → ((text : List ℕ) → objectOf text r ≡ nothing) → Active words pc 0 s r
+  active-none : {s : ℕ × ℕ} (r : Known) → ((text : List ℕ) → objectOf text r ≡ nothing) → Active words pc 0 s r
   unfolding activeLocal
   active-none {s} r z = record { active = go }
     where
@@ -90,13 +78,13 @@ module _ {words : List ℕ} {pc : ℕ} where
             subst (λ (u : Local). StandsAt words text at (pieces localPiece (u ∷ l)) → objectOf text r ≡ activeLocal (u ∷ l) n pc) g (f text l (omega arith)) h
 
     -- it starts beyond pc
-    pub active-late : (r : Known) → pc < x .start → ((text : List ℕ) → objectOf text r ≡ nothing) → (k : ℕ) → Active words pc (suc k) (at, n) r
+    active-late : (r : Known) → pc < x .start → ((text : List ℕ) → objectOf text r ≡ nothing) → (k : ℕ) → Active words pc (suc k) (at, n) r
     unfolding activeLocal
     active-late r h z k = active-by r (λ text l e s. rw (lt-ltb pc (x .start) h) (z text))
 
     module _ (h : x .start ≤ pc) where
       -- it is the one
-      pub active-found : (ltb pc (x .end) && eqb n 1) ≡ true → (k : ℕ) → Active words pc (suc k) (at, n) (record { kind = 1; name = x .name })
+      active-found : (ltb pc (x .end) && eqb n 1) ≡ true → (k : ℕ) → Active words pc (suc k) (at, n) (record { kind = 1; name = x .name })
       unfolding activeLocal
       active-found t k = active-by (record { kind = 1; name = x .name }) (λ text l e s. rw (le-ltb pc (x .start) h) (by text l (ltb pc (x .end)) (eqb n 1) t))
         where
@@ -106,7 +94,7 @@ module _ {words : List ℕ} {pc : ℕ} where
           by text l false b e = let z : _≡_ {A = ℕ} 0 1 = cc in absurd (omega arith)
 
       -- it is not, and those behind it decide
-      pub active-more : {at′ m : ℕ} → (ltb pc (x .end) && eqb n 1) ≡ false → m ≡ cond (ltb pc (x .end)) (n - 1) n → Skips words 4 at at′ → (k : ℕ) (r : Known) → Active words pc k (at′, m) r → Active words pc (suc k) (at, n) r
+      active-more : {at′ m : ℕ} → (ltb pc (x .end) && eqb n 1) ≡ false → m ≡ cond (ltb pc (x .end)) (n - 1) n → Skips words 4 at at′ → (k : ℕ) (r : Known) → Active words pc k (at′, m) r → Active words pc (suc k) (at, n) r
       unfolding activeLocal pieces
       active-more {at′} {m} t g s k r a = active-by r go
         where
@@ -119,14 +107,30 @@ module _ {words : List ℕ} {pc : ℕ} where
           go text l e h′ =
               let v = localOf text x in
               let y = somewhere (stands-left (localPiece v) (pieces localPiece l) (h′ .stands)) in
-              let q : at′ ≡ at + 4 = local-skip v (omega arith) s y in
+              let q : at′ ≡ at + 4 = s .skips _ refl (y .stands .in-words) in
               let z : StandsAt words text at′ (pieces localPiece l) = rw q (somewhere (stands-right (localPiece v) (pieces localPiece l) (h′ .stands))) in
               rw (le-ltb pc (x .start) h) (a .active text l e z ∙ rw g (by l (ltb pc (x .end)) (eqb n 1) (v .name) t))
 
-  -- the list behind its count
-  pub active-all : {locals at n c : ℕ} (r : Known) → c ≡ getD words locals 0 → Skips words 1 locals at → Active words pc c (at, n) r
+  -- what the list behind its count leads to
+  active-all : {locals at n c : ℕ} (r : Known) → c ≡ getD words locals 0 → Skips words 1 locals at → Active words pc c (at, n) r
       → (text : List ℕ) (l : List Local) → StandsAt words text locals (list localPiece l) → objectOf text r ≡ activeLocal l n pc
   active-all {locals} {at} r e s a text l h =
       let x = h .stands in
       let q : at ≡ locals + 1 = s .skips (length l ∷ []) refl (here-left (length l ∷ []) _ (x .in-words)) in
       a .active text l (sym (list-count localPiece l x) ∙ sym e) (rw q (somewhere (stands-right (word (length l)) (pieces localPiece l) x)))
+
+  -- the loop over it: it is over, or stops at a local, or goes on
+  module _ {locals at₀ n₀ c i at n : ℕ} (e : c ≡ getD words locals 0) (s : Skips words 1 locals at₀) (l : Loop (Active words pc) c (at₀, n₀) i (at, n)) where
+    pub ends-over : (r : Known) → c ≤ i → ((text : List ℕ) → objectOf text r ≡ nothing) → (text : List ℕ) (l : List Local) → StandsAt words text locals (list localPiece l) → objectOf text r ≡ activeLocal l n₀ pc
+    ends-over r h z = active-all r e s (loop-end h l (active-none r z))
+
+    module _ (x : LocalVar) (h : i < c) (w : (text : List ℕ) (v : Local) → StandsAt words text at (localPiece v) → localOf text x ≡ v) where
+      pub ends-late : (r : Known) → pc < x .start → ((text : List ℕ) → objectOf text r ≡ nothing) → (text : List ℕ) (l : List Local) → StandsAt words text locals (list localPiece l) → objectOf text r ≡ activeLocal l n₀ pc
+      ends-late r k z = active-all r e s (loop-stop h l (active-late x w r k z))
+
+      module _ {b : Bool} (k : x .start ≤ pc) (f : b ≡ (ltb pc (x .end) && eqb n 1)) where
+        pub ends-found : b ≡ true → (text : List ℕ) (l : List Local) → StandsAt words text locals (list localPiece l) → objectOf text (record { kind = 1; name = x .name }) ≡ activeLocal l n₀ pc
+        ends-found t = active-all _ e s (loop-stop h l (active-found x w k (sym f ∙ t)))
+
+        pub goes-on : {at′ m : ℕ} → b ≡ false → m ≡ cond (ltb pc (x .end)) (n - 1) n → Skips words 4 at at′ → Loop (Active words pc) c (at₀, n₀) (i + 1) (at′, m)
+        goes-on t g j = loop-turn h l (active-more x w k (sym f ∙ t) g j)
