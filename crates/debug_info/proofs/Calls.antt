@@ -7,6 +7,8 @@ use native.Mathlib.Omega.{arith}
 use native.Mathlib.Decide.{ℕ-discrete}
 use lib.ListN.{length, getD}
 use lib.Dec.{leb}
+use mir.Val.{Fits}
+use mir.Syntax.{w32}
 use borrow.Author.Tests.{eq-eqb, ne-eqb, le-leb, lt-leb, leb-true}
 use Rattle.lent.specs.Memory.{Puts}
 use Rattle.lent.proofs.Writes.{sets-past}
@@ -134,12 +136,12 @@ module _ {A : Type 0} (refuse : ℕ → A) (answer : Function → A) (words text
         of-function (o .on) (λ f. r ≡ answer f) (λ p fs u v s. g p fs v s) ∙ sym (registered-answer words text place pc reg refuse answer o)
 
 -- a pc and a register that are not refused
-pub register-bounds : (words text : List ℕ) (place pc reg : ℕ) {n : ℕ} → n ≡ registerRefusal words text place pc reg → n ≤ 0 → (pc < 2 ^ 32) × (reg < 256)
-register-bounds words text place pc reg e h =
-    let o = register-on words text place pc reg (omega arith) in
-    let k = o .pc-within in
-    let l = code-short (o .on) in
-    (omega arith, omega (arith, o .reg-within))
+module _ (words text : List ℕ) (place pc reg : ℕ) {n : ℕ} (e : n ≡ registerRefusal words text place pc reg) (h : n ≤ 0) where
+  pub pc-fits : Fits w32 pc
+  pc-fits = let o = register-on words text place pc reg (omega arith) in let l = code-short (o .on) in record { fits = omega (arith, o .pc-within) }
+
+  pub reg-small : reg < 256
+  reg-small = omega (arith, register-on words text place pc reg (omega arith) .reg-within)
 
 -- ---- an answer with a name
 
