@@ -108,9 +108,9 @@ module _ (words text : List ℕ) (place n pc records space : ℕ) {z : ℕ} (e :
       (cond (leb (length (activeLocal (localsOf f) n pc .name)) space) (record { refusal = 0; at = localsAt place f; count = length (localsOf f) }) (noLocals 11)) (noLocals 8)
 
   -- the place is refused
-  pub for-refused : 0 < z → noLocals z ≡ localsFor words text place n pc records space
+  pub for-refused : {a : Locals} → 0 < z → a ≡ noLocals z → a ≡ localsFor words text place n pc records space
   unfolding localsFor
-  for-refused h = place-refused noLocals choose words text place e h
+  for-refused h q = q ∙ place-refused noLocals choose words text place e h
 
   module _ (h : z ≤ 0) (lists : Lists) {m : ℕ} (w : (p : Parts) (fs : Functions) → ValidAll fs depth → ListsFound words place p fs lists) (c : m ≡ getD words (lists .locals) 0) where
     abbrev o : On words text place
@@ -127,8 +127,8 @@ module _ (words text : List ℕ) (place n pc records space : ℕ) {z : ℕ} (e :
     chosen = on-answer noLocals (λ x. choose (x .function)) o
 
     -- there are too few records
-    pub for-8 : records < m → noLocals 8 ≡ localsFor words text place n pc records space
-    for-8 k = sym (chosen ∙ rw (lt-leb (length (localsOf (o .function .function))) records (omega (arith, counted))))
+    pub for-8 : {a : Locals} → records < m → a ≡ noLocals 8 → a ≡ localsFor words text place n pc records space
+    for-8 k q = q ∙ sym (chosen ∙ rw (lt-leb (length (localsOf (o .function .function))) records (omega (arith, counted))))
 
     module _ (k : m ≤ records) (s : space < far) (v : Known) (a : (text : List ℕ) (l : List Local) → StandsAt words text (lists .locals) (list localPiece l) → objectOf text v ≡ activeLocal l n pc) {x : ℕ} (p : Puts (nameOf text (v .name)) 0 [] x []) where
       name-len : x ≡ min (length (activeLocal (localsOf (o .function .function)) n pc .name)) far
@@ -137,10 +137,10 @@ module _ (words text : List ℕ) (place n pc records space : ℕ) {z : ℕ} (e :
           p .puts (omega arith) (omega arith) .0 ∙ rw i (omega arith)
 
       -- there is too little space
-      pub for-11 : space < x → noLocals 11 ≡ localsFor words text place n pc records space
-      for-11 l =
+      pub for-11 : {a : Locals} → space < x → a ≡ noLocals 11 → a ≡ localsFor words text place n pc records space
+      for-11 l g =
           let q = lt-leb (length (activeLocal (localsOf (o .function .function)) n pc .name)) space (omega (arith, name-len)) in
-          sym (chosen ∙ rw (le-leb (length (localsOf (o .function .function))) records (omega (arith, counted)), q))
+          g ∙ sym (chosen ∙ rw (le-leb (length (localsOf (o .function .function))) records (omega (arith, counted)), q))
 
       pub for-0 : {at : ℕ} → x ≤ space → Skips words 1 (lists .locals) at → record { refusal = 0; at = at; count = m } ≡ localsFor words text place n pc records space
       for-0 {at} l j =
@@ -173,7 +173,7 @@ module _ (rs : List LocalRecord) (words text : List ℕ) (place n pc : ℕ) (out
     unfolding localsFor
     chosen-by o = e ∙ on-answer noLocals (λ x. choose words text place n (pc % 2 ^ 32) (length rs) (length out) refl (x .function)) o
 
-    pub ready : v .refusal ≤ 0 → Ready
+    ready : v .refusal ≤ 0 → Ready
     unfolding localsFor getLocalName
     ready h = elim (ℕ-discrete (placeRefusal words text place) 0) [
       | yes z ↦
@@ -215,12 +215,15 @@ module _ (rs : List LocalRecord) (words text : List ℕ) (place n pc : ℕ) (out
         by f true false d = ap (λ (x : Locals). lookupLeft (record { refusal = x .refusal; kind = 0; len = 0 }) rs out) d
         by f false b d = ap (λ (x : Locals). lookupLeft (record { refusal = x .refusal; kind = 0; len = 0 }) rs out) d
 
-    module _ (y : Ready) where
+    module _ (h : v .refusal ≤ 0) where
+      abbrev y : Ready
+      y = ready h
+
       abbrev f : Function
       f = y .on .function .function
 
-      pub count-enough : v .count ≤ length rs
-      count-enough = omega (arith, y .count-is, y .enough)
+      pub count-enough : (records : List LocalRecord) → length records ≡ length rs → v .count ≤ length records
+      count-enough records q = omega (arith, y .count-is, y .enough)
 
       pub words-enough : v .at + 4 * v .count ≤ length words
       words-enough =

@@ -8,9 +8,10 @@ use lib.ListN.{length, take, drop, getD, set, drop-of-length-le}
 use lib.Seq.{paste, paste-zero, paste-suc, drop-cons, getD-take, length-take-le, take-all}
 use borrow.Author.Tests.{eq-eqb, ne-eqb, lt-ltb, le-ltb}
 use Rattle.local_records.specs.declared.record.LocalRecord.{LocalRecord}
+use Rattle.debug_info.specs.declared.name.Known.{Known}
 use Rattle.local_records.specs.declared.record.Seen.{Seen}
 use Rattle.local_records.specs.declared.record.Seen.the-variants.{Nothing, Found, Left}
-use Rattle.local_records.specs.Records.{recordAt, recordsAt, recordsFilled, lookAt, after, activeIn, unnamed}
+use Rattle.local_records.specs.Records.{recordAt, recordsAt, recordsFilled, lookAt, after, activeIn, unnamed, textNamed}
 
 abbrev blank : LocalRecord
 blank = record { place = 0; len = 0; start = 0; end = 0 }
@@ -76,7 +77,7 @@ Searching records n pc number i remaining = activeIn (drop i (take n records)) r
 module _ (records : List LocalRecord) (n pc number : ℕ) where
   module _ (i remaining : ℕ) (s : Searching records n pc number i remaining) where
     -- by what is seen at i
-    pub searching-seen : (a : Seen) → n ≤ length records → i < n → a ≡ lookAt (getD records i blank) remaining pc
+    searching-seen : (a : Seen) → n ≤ length records → i < n → a ≡ lookAt (getD records i blank) remaining pc
         → after a (λ m. activeIn (drop (i + 1) (take n records)) m pc) ≡ activeIn (take n records) number pc
     unfolding activeIn
     searching-seen a h k e =
@@ -84,6 +85,16 @@ module _ (records : List LocalRecord) (n pc number : ℕ) where
         rw (add-one i, ← getD-take n records i blank k) (drop-cons (take n records) i blank (omega (arith, length-take-le n records h))) in
         sym (rw (d, ← e) at (sym s))
 
-    pub searching-over : n ≤ length records → n ≤ i → unnamed ≡ activeIn (take n records) number pc
+    module _ {a : Seen} (h : n ≤ length records) (k : i < n) (e : a ≡ lookAt (getD records i blank) remaining pc) where
+      pub seen-nothing : {r : Known} → a ≡ Nothing → r ≡ unnamed → r ≡ activeIn (take n records) number pc
+      seen-nothing f q = q ∙ searching-seen Nothing h k (sym f ∙ e)
+
+      pub seen-found : {r : Known} {place len : ℕ} → a ≡ Found place len → r ≡ textNamed place len → r ≡ activeIn (take n records) number pc
+      seen-found f q = q ∙ searching-seen _ h k (sym f ∙ e)
+
+      pub seen-left : {m : ℕ} → a ≡ Left m → Searching records n pc number (i + 1) m
+      seen-left f = searching-seen _ h k (sym f ∙ e)
+
+    pub searching-over : {r : Known} → n ≤ length records → n ≤ i → r ≡ unnamed → r ≡ activeIn (take n records) number pc
     unfolding activeIn
-    searching-over h k = rw (drop-of-length-le (take n records) {i = i} (omega (arith, length-take-le n records h))) at s
+    searching-over h k q = q ∙ rw (drop-of-length-le (take n records) {i = i} (omega (arith, length-take-le n records h))) at s
