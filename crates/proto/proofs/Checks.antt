@@ -183,28 +183,22 @@ pub record CheckAll {A : Type 0} (words text : List ℕ) (P : A → Type 0) (pie
 module _ {A : Type 0} {words text : List ℕ} {P : A → Type 0} {piece : A → Piece} where
   all-none : {s : Checked} → CheckAll words text P piece 0 s s
   unfolding pieces Every
-  all-none {s} =
+  all-none =
       record {
         all = record {
           sound = λ h. (h, record { value = []; valid = (refl, tt); stands = record { in-words = here-none; in-text = here-none } });
-          complete = λ h l k t. go l (k .0) h;
+          complete = λ h. elim [ [] ↦ λ k t. record { ok = h; at = sym (add-zero _); to = sym (add-zero _) } | a ∷ l ↦ λ k t. absurd (omega (arith, k .0)) ];
         };
       }
-    where
-      go : (l : List A) → length l ≡ 0 → s .ok ≡ true → Passed (pieces piece l) s s
-      go [] e h = record { ok = h; at = sym (add-zero _); to = sym (add-zero _) }
-      go (a ∷ l) e h = absurd (omega arith)
 
   all-more : {s m : Checked} → Check words text P piece s m → (n : ℕ) (r : Checked) → CheckAll words text P piece n m r → CheckAll words text P piece (suc n) s r
   unfolding pieces Every
-  all-more {s} c n r d =
+  all-more c n r d =
       record {
-        all = check-as (λ v k. record { value = v .0 ∷ v .1; valid = (ap suc (k .1 .0), (k .0, k .1 .1)); same = same-refl }) (λ l k t. go l (k .0) (k .1)) (check-then c (d .all));
+        all = check-as (λ v k. record { value = v .0 ∷ v .1; valid = (ap suc (k .1 .0), (k .0, k .1 .1)); same = same-refl })
+            (elim [ [] ↦ λ k t. absurd (omega (arith, k .0)) | a ∷ l ↦ λ k t. record { value = (a, l); valid = (k .1 .0, (omega (arith, k .0), k .1 .1)); same = same-refl } ])
+            (check-then c (d .all));
       }
-    where
-      go : (l : List A) → length l ≡ suc n → Every P l → As {A = A × List A} (λ v. P (v .0) × ((length (v .1) ≡ n) × Every P (v .1))) (λ v. piece (v .0) ⊕ pieces piece (v .1)) (pieces piece l)
-      go [] e k = absurd (omega arith)
-      go (a ∷ l) e k = record { value = (a, l); valid = (k .0, (omega arith, k .1)); same = same-refl }
 
   -- a count, and as many items
   counted : {n : ℕ} {s m r : Checked} → n ≡ getD words (s .at) 0 → Check words text (Within 0 limit) word s m → CheckAll words text P piece n m r → Check words text (ValidList P) (list piece) s r
@@ -243,13 +237,10 @@ every-below b (x ∷ l) f = (f 0, every-below b l (λ i. f (suc i)))
 
 -- a part of a slice has the slice's bound
 part-below : (b : ℕ) (xs : List ℕ) (place n : ℕ) → ((i : ℕ) → getD xs i 0 < b) → Every (λ x. x < b) (part xs place n)
-part-below b xs place n f = every-below b (part xs place n) go
-  where
-    go : (i : ℕ) → getD (part xs place n) i 0 < b
-    go i = elim (decLt i n) [
-      | yes h ↦ rw (getD-take n (drop place xs) i 0 h, getD-drop place xs i 0) (f (place + i))
-      | no h ↦ let e : length (part xs place n) ≤ i = rw length-take (omega arith) in rw (List·getD-eq-default (part xs place n) 0 e) (omega (arith, f 0))
-    ]
+part-below b xs place n f = every-below b (part xs place n) (λ i. elim (decLt i n) [
+  | yes h ↦ rw (getD-take n (drop place xs) i 0 h, getD-drop place xs i 0) (f (place + i))
+  | no h ↦ let e : length (part xs place n) ≤ i = rw length-take (omega arith) in rw (List·getD-eq-default (part xs place n) 0 e) (omega (arith, f 0))
+])
 
 -- words after their count
 module _ {words : List ℕ} (text : List ℕ) {s m : Checked} {n : ℕ} (e : n ≡ getD words (s .at) 0) (c : (t : List ℕ) → Check words t (Within 0 limit) word s m) where

@@ -9,11 +9,11 @@ use lib.Seq.{getD-set-same, getD-set-other}
 use lib.Dec.{eqb}
 use borrow.Author.Tests.{eqb-true, eqb-false}
 use Rattle.format.specs.Tree.{Parts, Function, Functions, Debug, count}
-use Rattle.format.specs.Store.{list, ints, localPiece, debugPiece, functionPiece, functionPieces}
+use Rattle.format.specs.Store.{list, ints, localPiece, debugPiece, functionPiece}
 use Rattle.format.specs.Valid.{ValidAll}
 use Rattle.proto.specs.declared.walk.Next.{Next}
 use Rattle.proto.specs.declared.lists.Lists.{Lists}
-use Rattle.proto.specs.Walk.{StandsAt, Skips, Past, Passes, PassesAll, toCode, toConstants, toFunctions, toLines, toLocals, totalAll}
+use Rattle.proto.specs.Walk.{StandsAt, Skips, Past, PassesAll, toCode, toConstants, toFunctions, toLines, toLocals}
 use Rattle.proto.specs.Lists.{ListsAt, ListsFound, LinesAt, LinesKept, WalksToLines}
 use Rattle.proto.proofs.Walks.{past-then, past-ints, past-list, skip-items, all-none, all-more, passes-past, none-deep, pass-inside}
 use Rattle.proto.proofs.Items.{somewhere, code-stands, constants-stand, functions-stand, lines-stand, locals-stand, upvalues-stand}
@@ -86,11 +86,7 @@ all-zero e = rw e all-none
 -- functions that may not be there
 pub all-deep : {words : List ℕ} {i n : ℕ} {s r : Next} → n ≡ 0 → (i ≡ 0 → ⊥) → PassesAll words n i s r
 unfolding count ValidAll
-all-deep {words} {i} {n} {s} {r} z h = record { all = go }
-  where
-    go : (fs : Functions) → ValidAll fs n → count fs ≡ i → Passes words (functionPieces fs) (totalAll fs) s r
-    go Functions.none v e = absurd (h (sym e))
-    go (Functions.more f fs) v e = absurd (none-deep z f (v .0))
+all-deep z h = record { all = elim [ Functions.none ↦ λ v e. absurd (h (sym e)) | Functions.more f fs ↦ λ v e. absurd (none-deep z f (v .0)) ] }
 
 -- the first function, then the others
 pub all-first : {words : List ℕ} {i n k : ℕ} {s l r : Next} → (n ≡ 0 → ⊥) → (i ≡ 0 → ⊥) → WalksToLines words (n - 1) s l → ((d : Debug) → Past words (debugPiece d) (l .at) k)

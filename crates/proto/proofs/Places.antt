@@ -61,12 +61,7 @@ pub record SearchAll (words : List ℕ) (place : ℕ) (around : Span) (allowance
 module _ {words : List ℕ} {place : ℕ} {around : Span} {allowance : ℕ} where
   search-none : {at : ℕ} {s : Span} → SearchAll words place around allowance 0 at (record { found = false; at = at; source = s })
   unfolding count functionPieces placedAll beginsAt
-  search-none {at} {s} = record { seeks = go }
-    where
-      go : (fs : Functions) (to : ℕ) (bytes : List ℕ) → ValidAll fs allowance → count fs ≡ 0 → Here words at (functionPieces fs .words to)
-          → Seeks (beginsAt place (placedAll fs at to (record { bytes = bytes; span = around }))) (at + length (functionPieces fs .words to)) (record { found = false; at = at; source = s })
-      go Functions.none to bytes v e h = (refl, sym (add-zero at))
-      go (Functions.more f fs) to bytes v e h = absurd (omega arith)
+  search-none {at} = record { seeks = elim [ Functions.none ↦ λ to bytes v e h. (refl, sym (add-zero at)) | Functions.more f fs ↦ λ to bytes v e h. absurd (omega arith) ] }
 
   module _ {at : ℕ} {r : Sought} (one : (f : Function) → Valid f allowance → Search words place around f at r) where
     -- it is in the first one, or may be behind it
@@ -137,12 +132,9 @@ module _ {words : List ℕ} {place at : ℕ} {around own : Span} (s : (s : Sourc
     pub search-outside : {x : Sought} → n ≤ i → x .found ≡ false → ((d : Debug) → Past words (debugPiece d) b (x .at)) → (f : Function) → Valid f allowance → Search words place around f at x
     search-outside {x} h t g (Function.function p fs) v =
         record {
-          seeks = λ to bytes h. by to h (beginsAt place (placed (Function.function p fs) at to (record { bytes = bytes; span = around }))) (inside (loop-end h′ l search-none) p fs to bytes (valid-inside o p fs v) h);
+          seeks = λ to bytes j. by to j (beginsAt place (placed (Function.function p fs) at to (record { bytes = bytes; span = around }))) (inside (loop-end h l search-none) p fs to bytes (valid-inside o p fs v) j);
         }
       where
-        h′ : n ≤ i
-        h′ = h
-
         by : (to : ℕ) → Here words at (functionPiece (Function.function p fs) .words to) → (y : Option Placed) → Seeks y (at + length (toLines p fs .words to)) (record { found = false; at = b; source = own })
             → Seeks y (at + length (functionPiece (Function.function p fs) .words to)) x
         by to h (some y) k = absurd (never (k .0) refl)

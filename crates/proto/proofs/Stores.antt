@@ -16,7 +16,7 @@ use Rattle.format.specs.Valid.{depth, most, Name, ValidSource, ValidConstant, V
 use Rattle.format.proofs.Stored.{holds-tree, tree-holds}
 use Rattle.proto.specs.declared.formed.Checked.{Checked}
 use Rattle.proto.specs.Walk.{Stands, children}
-use Rattle.proto.specs.Formed.{isHeld, Check, Within, Words, three, Three, ValidChildren}
+use Rattle.proto.specs.Formed.{isHeld, Check, Within, three, Three, ValidChildren}
 use Rattle.proto.proofs.Sublists.{here-get, here-whole, whole-here}
 use Rattle.proto.proofs.Pieces.{same-refl, same-is}
 use Rattle.proto.proofs.Walks.{none-deep}
@@ -42,25 +42,26 @@ module _ {words text : List ℕ} where
   -- ---- sources
 
   pub source-inherited : {x : ℕ} {s r : Checked} → x ≡ getD words (s .at) 0 → x ≡ 0 → ((t : List ℕ) → Check words t (Three 0 0 0) three s r) → Check words text ValidSource sourcePiece s r
-  source-inherited {s = s} e z c = check-as to from (c text)
-    where
-      to : (w : Words) → Three 0 0 0 w → As ValidSource sourcePiece (three w)
-      to w k =
-          let e₂ : w .second ≡ 0 = omega (arith, k .second) in
-          let e₃ : w .third ≡ 0 = omega (arith, k .third) in
-          record { value = Source.inherited; valid = tt; same = rw (k .is, e₂, e₃) same-refl }
-
-      from : (v : Source) → ValidSource v → Stands words text (s .at) (s .to) (sourcePiece v) → As (Three 0 0 0) three (sourcePiece v)
-      from Source.inherited k h = record { value = record { first = 0; second = 0; third = 0 }; valid = record { is = refl; second = zero-le; third = zero-le }; same = same-refl }
-      from (Source.own l) k h = absurd (omega (arith, here-get 1 _ (h .in-words)))
+  source-inherited e z c =
+      check-as
+      (λ w k.
+      let e₂ : w .second ≡ 0 = omega (arith, k .second) in
+      let e₃ : w .third ≡ 0 = omega (arith, k .third) in
+      record { value = Source.inherited; valid = tt; same = rw (k .is, e₂, e₃) same-refl })
+      (elim [
+        | Source.inherited ↦ λ k h. record { value = record { first = 0; second = 0; third = 0 }; valid = record { is = refl; second = zero-le; third = zero-le }; same = same-refl }
+        | Source.own l ↦ λ k h. absurd (omega (arith, here-get 1 _ (h .in-words)))
+      ])
+      (c text)
 
   pub source-own : {x : ℕ} {s a r : Checked} → x ≡ getD words (s .at) 0 → (x ≡ 0 → ⊥) → ((t : List ℕ) → Check words t (Within 1 1) word s a) → Check words text (λ n. Name n) string a r → Check words text ValidSource sourcePiece s r
-  source-own {s = s} e z c d =
-      check-as (λ v k. let g : v .0 ≡ 1 = omega (arith, k .0 .above, k .0 .below) in record { value = Source.own (v .1); valid = k .1; same = rw g same-refl }) from (check-then (c text) d)
-    where
-      from : (v : Source) → ValidSource v → Stands words text (s .at) (s .to) (sourcePiece v) → As {A = ℕ × List ℕ} (λ v. Within 1 1 (v .0) × Name (v .1)) (λ v. word (v .0) ⊕ string (v .1)) (sourcePiece v)
-      from Source.inherited k h = absurd (z (e ∙ here-get 0 _ (h .in-words)))
-      from (Source.own l) k h = record { value = (1, l); valid = (record { above = omega arith; below = omega arith }, k); same = same-refl }
+  source-own e z c d =
+      check-as (λ v k. let g : v .0 ≡ 1 = omega (arith, k .0 .above, k .0 .below) in record { value = Source.own (v .1); valid = k .1; same = rw g same-refl })
+      (elim [
+        | Source.inherited ↦ λ k h. absurd (z (e ∙ here-get 0 _ (h .in-words)))
+        | Source.own l ↦ λ k h. record { value = (1, l); valid = (record { above = omega arith; below = omega arith }, k); same = same-refl }
+      ])
+      (check-then (c text) d)
 
   -- ---- constants
 
@@ -91,26 +92,27 @@ module _ {words text : List ℕ} where
 
     pub constant-num : x ≡ 3 → ((t : List ℕ) → Check words t (Three 3 4294967295 4294967295) three s r) → Check words text ValidConstant constantPiece s r
     constant-num z c =
-        check-as (λ w k. record { value = Constant.num (w .second) (w .third); valid = (omega (arith, k .second), omega (arith, k .third)); same = rw (k .is) same-refl }) from (c text)
-      where
-        from : (v : Constant) → ValidConstant v → Stands words text (s .at) (s .to) (constantPiece v) → As (Three 3 4294967295 4294967295) three (constantPiece v)
-        from Constant.nil k h = absurd (omega (arith, kind-here Constant.nil h))
-        from (Constant.bool b) k h = absurd (omega (arith, kind-here (Constant.bool b) h))
-        from (Constant.num high low) k h =
-            record { value = record { first = 3; second = high; third = low }; valid = record { is = refl; second = omega (arith, k .0); third = omega (arith, k .1) }; same = same-refl }
-        from (Constant.str l) k h = absurd (omega (arith, kind-here (Constant.str l) h))
+        check-as (λ w k. record { value = Constant.num (w .second) (w .third); valid = (omega (arith, k .second), omega (arith, k .third)); same = rw (k .is) same-refl })
+        (elim [
+          | Constant.nil ↦ λ k h. absurd (omega (arith, kind-here Constant.nil h))
+          | Constant.bool b ↦ λ k h. absurd (omega (arith, kind-here (Constant.bool b) h))
+          | Constant.num high low ↦ λ k h. record { value = record { first = 3; second = high; third = low }; valid = record { is = refl; second = omega (arith, k .0); third = omega (arith, k .1) }; same = same-refl }
+          | Constant.str l ↦ λ k h. absurd (omega (arith, kind-here (Constant.str l) h))
+        ])
+        (c text)
 
   -- none of the kinds above
   pub constant-str : {x : ℕ} {s a r : Checked} → x ≡ getD words (s .at) 0 → 1 < x → (x ≡ 3 → ⊥) → ((t : List ℕ) → Check words t (Within 4 4) word s a) → Check words text Bytes string a r
       → Check words text ValidConstant constantPiece s r
-  constant-str {s = s} e h n₃ c d =
-      check-as (λ v k. let g : v .0 ≡ 4 = omega (arith, k .0 .above, k .0 .below) in record { value = Constant.str (v .1); valid = k .1; same = rw g same-refl }) from (check-then (c text) d)
-    where
-      from : (v : Constant) → ValidConstant v → Stands words text (s .at) (s .to) (constantPiece v) → As {A = ℕ × List ℕ} (λ v. Within 4 4 (v .0) × Bytes (v .1)) (λ v. word (v .0) ⊕ string (v .1)) (constantPiece v)
-      from Constant.nil k t = absurd (omega (arith, kind-here Constant.nil t))
-      from (Constant.bool b) k t = absurd (omega (arith, kind-here (Constant.bool b) t))
-      from (Constant.num high low) k h = absurd (n₃ (e ∙ kind-here (Constant.num high low) h))
-      from (Constant.str l) k h = record { value = (4, l); valid = (record { above = omega arith; below = omega arith }, k); same = same-refl }
+  constant-str e h n₃ c d =
+      check-as (λ v k. let g : v .0 ≡ 4 = omega (arith, k .0 .above, k .0 .below) in record { value = Constant.str (v .1); valid = k .1; same = rw g same-refl })
+      (elim [
+        | Constant.nil ↦ λ k t. absurd (omega (arith, kind-here Constant.nil t))
+        | Constant.bool b ↦ λ k t. absurd (omega (arith, kind-here (Constant.bool b) t))
+        | Constant.num high low ↦ λ k t. absurd (n₃ (e ∙ kind-here (Constant.num high low) t))
+        | Constant.str l ↦ λ k t. record { value = (4, l); valid = (record { above = omega arith; below = omega arith }, k); same = same-refl }
+      ])
+      (check-then (c text) d)
 
   -- ---- locals
 

@@ -90,19 +90,11 @@ module _ {words : List ℕ} where
 
   pub all-none : {allowance : ℕ} {s : Next} → PassesAll words allowance 0 s s
   unfolding functionPieces count totalAll
-  all-none {allowance} {s} = record { all = go }
-    where
-      go : (fs : Functions) → ValidAll fs allowance → count fs ≡ 0 → Passes words (functionPieces fs) (totalAll fs) s s
-      go Functions.none v e = past-passes past-none (λ k. omega arith)
-      go (Functions.more f fs) v e = absurd (omega arith)
+  all-none = record { all = elim [ Functions.none ↦ λ v e. past-passes past-none (λ k. omega arith) | Functions.more f fs ↦ λ v e. absurd (omega arith) ] }
 
   pub all-more : {allowance : ℕ} {s m : Next} → ((f : Function) → Valid f allowance → Passes words (functionPiece f) (total f) s m) → (k : ℕ) (r : Next) → PassesAll words allowance k m r → PassesAll words allowance (suc k) s r
   unfolding functionPieces count ValidAll totalAll
-  all-more {allowance} {s} w k r a = record { all = go }
-    where
-      go : (fs : Functions) → ValidAll fs allowance → count fs ≡ suc k → Passes words (functionPieces fs) (totalAll fs) s r
-      go Functions.none v e = absurd (omega arith)
-      go (Functions.more f fs) v e = passes-then (w f (v .0)) (a .all fs (v .1) (omega arith))
+  all-more w k r a = record { all = elim [ Functions.none ↦ λ v e. absurd (omega arith) | Functions.more f fs ↦ λ v e. passes-then (w f (v .0)) (a .all fs (v .1) (omega arith)) ] }
 
   -- past all functions in a function, as many as the count says
   pub passes-lines : {allowance i a : ℕ} {s m r : Next} → i ≡ getD words a 0 → ((p : Parts) (fs : Functions) → Past words (toFunctions p fs) (s .at) a) → Skips words 1 a (m .at)
