@@ -1,6 +1,6 @@
 -- Each function that functionAt finds stands in the store, well formed, and its source stands where its span says. So source_at and source answer as defined.
-use Prim.Native.Nat.{ℕ, zero, suc, _+_, _-_, _≤_}
-use mathlib.Core.Path.{_≡_, refl, sym, _∙_}
+use Prim.Native.Nat.{ℕ, zero, suc, _+_, _-_, _≤_, _<_}
+use mathlib.Core.Path.{_≡_, refl, sym, ap, _∙_}
 use mathlib.Core.List.{List, [], _∷_}
 use mathlib.Core.Bool.{Bool, true, false, cond, not}
 use mathlib.Core.Option.{Option, none, some}
@@ -117,13 +117,30 @@ function-stands name {f} place x h e =
 
 -- ---- the calls
 
--- what a call gives, from what is shown of the tree and of what the search finds in it
+-- a call on a function of a store
+abbrev called : {A : Type 0} → (ℕ → A) → (Placed → A) → List ℕ → List ℕ → List ℕ → ℕ → A
+called refuse answer words text name place = onTree refuse (λ f. onFunction refuse answer (functionAt f name place)) (treeOf words text)
+
+-- it is refused, whatever it gives then, or finds a function
+called-by : (words text name : List ℕ) (place : ℕ) {P : Type 0} → ((n : ℕ) → 0 < n → ((A : Type 0) (refuse : ℕ → A) (answer : Placed → A) → called refuse answer words text name place ≡ refuse n) → P)
+    → ((f : Function) (x : Placed) → Holds words text f → functionAt f name place ≡ some x → P) → P
+called-by words text name place {P} refused found = by (treeOf words text) refl
+  where
+    in-tree : (f : Function) → treeOf words text ≡ some f → (x : Option Placed) → functionAt f name place ≡ x → P
+    in-tree f t none e = refused 12 (omega arith) (λ A refuse answer. rw (t, e))
+    in-tree f t (some x) e = found f x (tree-holds words text f t) e
+
+    by : (t : Option Function) → treeOf words text ≡ t → P
+    by none e = refused 10 (omega arith) (λ A refuse answer. rw e)
+    by (some f) e = in-tree f e (functionAt f name place) refl
+
+-- what it gives, from what is shown of the tree and of what the search finds in it
 module _ {A : Type 0} (refuse : ℕ → A) (answer : Placed → A) (words text name : List ℕ) (place : ℕ) {b : Bool} (h : b ≡ isHeld (treeOf words text)) where
-  call-10 : not b ≡ true → refuse 10 ≡ onTree refuse (λ f. onFunction refuse answer (functionAt f name place)) (treeOf words text)
+  call-10 : not b ≡ true → refuse 10 ≡ called refuse answer words text name place
   call-10 e = no-tree words text (λ t. refuse 10 ≡ onTree refuse (λ f. onFunction refuse answer (functionAt f name place)) t) (sym h ∙ not-true b e) refl
 
   call-sought : {r : Sought} → not b ≡ false → ((f : Function) → Valid f depth → Search words place (chunkName name .span) f 0 r) → (x : A)
-      → (r .found ≡ false → x ≡ refuse 12) → (r .found ≡ true → (y : Placed) → r .source ≡ y .source .span → x ≡ answer y) → x ≡ onTree refuse (λ f. onFunction refuse answer (functionAt f name place)) (treeOf words text)
+      → (r .found ≡ false → x ≡ refuse 12) → (r .found ≡ true → (y : Placed) → r .source ≡ y .source .span → x ≡ answer y) → x ≡ called refuse answer words text name place
   call-sought {r} e s x none-found found =
       held-tree words text (λ t. x ≡ onTree refuse (λ f. onFunction refuse answer (functionAt f name place)) t) (sym h ∙ not-false b e)
       (λ f t. by (functionAt f name place) _ (s f (t .valid) .seeks 0 name (root-stands t .in-words)))
@@ -155,15 +172,8 @@ pub record On (words text : List ℕ) (place : ℕ) : Type 0 where
 
 pub place-on : (words text : List ℕ) (place : ℕ) → placeRefusal words text place ≡ 0 → On words text place
 unfolding placeRefusal
-place-on words text place e = by (treeOf words text) refl e
-  where
-    by-place : (f : Function) → Holds words text f → (x : Option Placed) → functionAt f [] place ≡ x → onFunction (λ n. n) (λ x. 0) x ≡ 0 → On words text place
-    by-place f h none e d = absurd (omega arith)
-    by-place f h (some x) e d = record { tree = f; function = x; holds = h; begins = e }
-
-    by : (t : Option Function) → treeOf words text ≡ t → onTree (λ n. n) (λ f. onFunction (λ n. n) (λ x. 0) (functionAt f [] place)) t ≡ 0 → On words text place
-    by none e d = absurd (omega arith)
-    by (some f) e d = by-place f (tree-holds words text f e) (functionAt f [] place) refl d
+place-on words text place e =
+    called-by words text [] place (λ n h k. absurd (omega (arith, k ℕ (λ n. n) (λ x. 0)))) (λ f x h b. record { tree = f; function = x; holds = h; begins = b })
 
 module _ {A : Type 0} (refuse : ℕ → A) (answer : Placed → A) where
   pub on-answer : {words text : List ℕ} {place : ℕ} (o : On words text place) → onPlace refuse answer words text place ≡ answer (o .function)
@@ -171,16 +181,8 @@ module _ {A : Type 0} (refuse : ℕ → A) (answer : Placed → A) where
 
   pub on-refused : (words text : List ℕ) (place : ℕ) → (placeRefusal words text place ≡ 0 → ⊥) → onPlace refuse answer words text place ≡ refuse (placeRefusal words text place)
   unfolding placeRefusal
-  on-refused words text place n = by (treeOf words text) n
-    where
-      by-place : (x : Option Placed) → (onFunction (λ n. n) (λ x. 0) x ≡ 0 → ⊥) → onFunction refuse answer x ≡ refuse (onFunction (λ n. n) (λ x. 0) x)
-      by-place none n = refl
-      by-place (some x) n = absurd (n refl)
-
-      by : (t : Option Function) → (onTree (λ n. n) (λ f. onFunction (λ n. n) (λ x. 0) (functionAt f [] place)) t ≡ 0 → ⊥)
-          → onTree refuse (λ f. onFunction refuse answer (functionAt f [] place)) t ≡ refuse (onTree (λ n. n) (λ f. onFunction (λ n. n) (λ x. 0) (functionAt f [] place)) t)
-      by none n = refl
-      by (some f) n = by-place (functionAt f [] place) n
+  on-refused words text place n =
+      called-by words text [] place (λ m h k. k A refuse answer ∙ ap refuse (sym (k ℕ (λ n. n) (λ x. 0)))) (λ f x h b. absurd (n (rw (holds-tree h, b))))
 
 module _ (words text name : List ℕ) (place : ℕ) where
   module _ {n : Bool} (k : n ≡ nameOk name) where
@@ -210,22 +212,13 @@ module _ (words text name : List ℕ) (place : ℕ) where
   unfolding sourceAnswer sourcePart
   source-part a e = rw e (by-name (nameOk name))
     where
-      by-place : (f : Function) → Holds words text f → (x : Option Placed) → functionAt f name place ≡ x
-          → let a = onFunction noSource (λ x. spanAnswer (x .source .span)) x in (a .start ≤ a .end) × (atSpan text name (a .«in_text») (a .start) (a .end) ≡ onFunction (λ n. []) (λ x. x .source .bytes) x)
-      by-place f h none e = (omega arith, refl)
-      by-place f h (some x) e = let k = function-stands name place x h e .0 .sourced in (k .ordered, k .is)
-
-      by-tree : (t : Option Function) → treeOf words text ≡ t
-          → let a = onTree noSource (λ f. onFunction noSource (λ x. spanAnswer (x .source .span)) (functionAt f name place)) t in
-          (a .start ≤ a .end) × (atSpan text name (a .«in_text») (a .start) (a .end) ≡ onTree (λ n. []) (λ f. onFunction (λ n. []) (λ x. x .source .bytes) (functionAt f name place)) t)
-      by-tree none e = (omega arith, refl)
-      by-tree (some f) e = by-place f (tree-holds words text f e) (functionAt f name place) refl
-
-      by-name : (b : Bool)
-          → let a = cond b (onTree noSource (λ f. onFunction noSource (λ x. spanAnswer (x .source .span)) (functionAt f name place)) (treeOf words text)) (noSource 1) in
-          (a .start ≤ a .end) × (atSpan text name (a .«in_text») (a .start) (a .end) ≡ cond b (onTree (λ n. []) (λ f. onFunction (λ n. []) (λ x. x .source .bytes) (functionAt f name place)) (treeOf words text)) [])
+      by-name : (b : Bool) → let a = cond b (called noSource (λ x. spanAnswer (x .source .span)) words text name place) (noSource 1) in
+          (a .start ≤ a .end) × (atSpan text name (a .«in_text») (a .start) (a .end) ≡ cond b (called (λ n. []) (λ x. x .source .bytes) words text name place) [])
       by-name false = (omega arith, refl)
-      by-name true = by-tree (treeOf words text) refl
+      by-name true =
+          called-by words text name place
+          (λ n h k. rw (k SourceAt noSource (λ x. spanAnswer (x .source .span)), k (List ℕ) (λ n. []) (λ x. x .source .bytes)) (omega arith, refl))
+          (λ f x h b. let s = function-stands name place x h b .0 .sourced in rw (holds-tree h, b) (s .ordered, s .is))
 
   module _ {a : SourceAt} (e : a ≡ sourceAnswer words text name place) where
     pub source-ordered : a .start ≤ a .end
