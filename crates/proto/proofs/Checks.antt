@@ -26,7 +26,7 @@ use Rattle.proto.specs.declared.formed.Checked.{Checked}
 use Rattle.proto.specs.Walk.{Stands}
 use Rattle.proto.specs.Formed.{Passed, Check, Room, Within, three, Three}
 use Rattle.proto.proofs.Sublists.{here-length, here-item, here-get, here-none, here-one, here-two, here-three, here-join, here-take}
-use Rattle.proto.proofs.Pieces.{Same, same-refl, stands-same, same-sym, stands-left, stands-right}
+use Rattle.proto.proofs.Pieces.{Same, same-refl, stands-same, same-sym, stands-left, stands-right, stands-join}
 
 pub never : {b : Bool} → b ≡ true → b ≡ false → ⊥
 never p q = let z : _≡_ {A = ℕ} 0 1 = cc in omega arith
@@ -101,21 +101,8 @@ module _ {words text : List ℕ} where
               let y = d .sound h in
               let x = c .sound (y .0) in
               let e = check-passed c (y .0) in
-              let a = x .1 .value in
-              let b = y .1 .value in
-              let t = y .1 .stands in
-              let w : Here words (s .at + length (p a .words (s .to))) (q b .words (s .to + length (p a .text))) = rw (e .at, e .to) at (t .in-words) in
-              let z : Here text (s .to + length (p a .text)) (q b .text) = rw (e .to) at (t .in-text) in (
-                x .0,
-                record {
-                  value = (a, b);
-                  valid = (x .1 .valid, y .1 .valid);
-                  stands = record {
-                    in-words = here-join (p a .words (s .to)) (q b .words (s .to + length (p a .text))) (x .1 .stands .in-words) w;
-                    in-text = here-join (p a .text) (q b .text) (x .1 .stands .in-text) z;
-                  };
-                },
-              );
+              let t = stands-join (p (x .1 .value)) (q (y .1 .value)) (x .1 .stands) (rw (e .at, e .to) at (y .1 .stands)) in
+              (x .0, record { value = (x .1 .value, y .1 .value); valid = (x .1 .valid, y .1 .valid); stands = t });
           complete = λ h v k t.
               let e = c .complete h (v .0) (k .0) (stands-left (p (v .0)) (q (v .1)) t) in
               let u : Stands words text (m .at) (m .to) (q (v .1)) = rw (e .at, e .to) (stands-right (p (v .0)) (q (v .1)) t) in
@@ -163,16 +150,14 @@ module _ {words text : List ℕ} where
         check-good (record { first = getD words (s .at) 0; second = getD words (s .at + 1) 0; third = getD words (s .at + 2) 0 }) e (record { is = i; second = j; third = k })
         (record { in-words = here-three h; in-text = here-none }) (λ v t. record { ok = refl; at = refl; to = sym (add-zero _) })
 
-    pub three-bad : {r : Checked} → r .ok ≡ false → (s .ok ≡ true → s .at + 3 ≤ length words → getD words (s .at) 0 ≡ kind → getD words (s .at + 1) 0 ≤ x → getD words (s .at + 2) 0 ≤ y → ⊥)
-        → Check words text (Three kind x y) three s r
+    pub three-bad : {r : Checked} → r .ok ≡ false → (getD words (s .at) 0 ≡ kind → getD words (s .at + 1) 0 ≤ x → getD words (s .at + 2) 0 ≤ y → ⊥) → Check words text (Three kind x y) three s r
     three-bad e f =
         check-wrong e
         (λ o v k t.
-        let w = t .in-words in
         let l = v .first ∷ v .second ∷ v .third ∷ [] in
-        let i : getD words (s .at + 1) 0 ≡ v .second = here-item l 1 (omega arith) w in
-        let j : getD words (s .at + 2) 0 ≡ v .third = here-item l 2 (omega arith) w in
-        f o (omega (arith, here-length l w)) (here-get (v .first) _ w ∙ k .is) (omega (arith, k .second)) (omega (arith, k .third)))
+        let i : getD words (s .at + 1) 0 ≡ v .second = here-item l 1 (omega arith) (t .in-words) in
+        let j : getD words (s .at + 2) 0 ≡ v .third = here-item l 2 (omega arith) (t .in-words) in
+        f (here-get (v .first) _ (t .in-words) ∙ k .is) (omega (arith, k .second)) (omega (arith, k .third)))
 
 -- ---- lists
 
@@ -283,14 +268,12 @@ module _ {words text : List ℕ} {s : Checked} where
       check-good l o (part-below 256 text (s .to) n y) (record { in-words = rw g (rw p at (here-two {xs = words} {at = s .at} h)); in-text = here-take n })
       (λ x t. let i = here-item (s .to ∷ length x ∷ []) 1 (omega arith) (t .in-words) in record { ok = refl; at = refl; to = omega (arith, i) })
 
-  pub string-bad : {r : Checked} → r .ok ≡ false → (s .ok ≡ true → s .at + 2 ≤ length words → getD words (s .at) 0 ≡ s .to → getD words (s .at + 1) 0 ≤ length text - s .to → ⊥) → Check words text Bytes string s r
+  pub string-bad : {r : Checked} → r .ok ≡ false → (getD words (s .at) 0 ≡ s .to → getD words (s .at + 1) 0 ≤ length text - s .to → ⊥) → Check words text Bytes string s r
   string-bad e f =
       check-wrong e
       (λ o x v t.
-      let w = t .in-words in
-      let l = s .to ∷ length x ∷ [] in
-      let i : getD words (s .at + 1) 0 ≡ length x = here-item l 1 (omega arith) w in
-      f o (omega (arith, here-length l w)) (here-get (s .to) _ w) (omega (arith, here-length x (t .in-text))))
+      let i : getD words (s .at + 1) 0 ≡ length x = here-item (s .to ∷ length x ∷ []) 1 (omega arith) (t .in-words) in
+      f (here-get (s .to) _ (t .in-words)) (omega (arith, here-length x (t .in-text))))
 
 module _ {words text : List ℕ} {s r : Checked} (c : Check words text Bytes string s r) where
   pub string-within : r .ok ≡ true → s .to ≤ r .to

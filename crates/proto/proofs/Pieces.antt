@@ -9,6 +9,7 @@ use Rattle.format.specs.Tree.{Constant, Source, Parts, Function, Functions}
 use Rattle.format.specs.Store.{Piece, word, _⊕_, pieces, list, ints, sourcePiece, constantPiece, debugPiece, packed, functionPiece, childrenPiece}
 use Rattle.format.proofs.Stored.{here-left, here-right}
 use Rattle.proto.specs.Walk.{Stands, toLines}
+use Rattle.proto.proofs.Sublists.{here-join}
 
 -- ---- two pieces that read the same
 
@@ -56,6 +57,9 @@ module _ {words text : List ℕ} {at to : ℕ} where
   pub stands-right : (p q : Piece) → Stands words text at to (p ⊕ q) → Stands words text (at + length (p .words to)) (to + length (p .text)) q
   stands-right p q h =
       record { in-words = here-right (p .words to) (q .words (to + length (p .text))) (h .in-words); in-text = here-right (p .text) (q .text) (h .in-text) }
+
+  pub stands-join : (p q : Piece) → Stands words text at to p → Stands words text (at + length (p .words to)) (to + length (p .text)) q → Stands words text at to (p ⊕ q)
+  stands-join p q h k = record { in-words = here-join (p .words to) _ (h .in-words) (k .in-words); in-text = here-join (p .text) _ (h .in-text) (k .in-text) }
 
 -- ---- how many words
 
