@@ -1,13 +1,11 @@
 -- Where the lists of a function stand: each behind the one before it, the lines behind the functions; and what is kept of lines.
 use Prim.Native.Nat.{ℕ, zero, suc, _+_, _*_, _-_, _<_}
 use mathlib.Core.Path.{_≡_, refl, sym, _∙_}
-use mathlib.Core.Bool.{Bool, true, false}
 use mathlib.Core.List.{List}
 use native.Mathlib.Omega.{arith}
+use native.Mathlib.Decide.{ℕ-discrete}
 use lib.ListN.{length, getD, set, replicate}
 use lib.Seq.{getD-set-same, getD-set-other}
-use lib.Dec.{eqb}
-use borrow.Author.Tests.{eqb-true, eqb-false}
 use Rattle.format.specs.Tree.{Parts, Function, Functions, Debug, count}
 use Rattle.format.specs.Store.{list, ints, localPiece, debugPiece, functionPiece}
 use Rattle.format.specs.Valid.{ValidAll}
@@ -60,15 +58,10 @@ pub kept-none : {words : List ℕ} (n m : ℕ) → LinesKept words (replicate n 
 kept-none n m = record { kept = λ k h. absurd (h (getD-zeros m k)) }
 
 pub kept-more : {words begins lines : List ℕ} {k at r : ℕ} → k < length begins → k < length lines → LinesKept words begins lines → LinesAt words k at r → LinesKept words (set begins k at) (set lines k r)
-kept-more {words} {begins} {lines} {k} {at} {r} hb hl w l = record { kept = λ j h. by j (eqb j k) refl h }
-  where
-    by : (j : ℕ) (b : Bool) → eqb j k ≡ b → (getD (set lines k r) j 0 ≡ 0 → ⊥) → LinesAt words j (getD (set begins k at) j 0) (getD (set lines k r) j 0)
-    by j true e h = rw (eqb-true j k e, getD-set-same begins k at 0 hb, getD-set-same lines k r 0 hl) l
-    by j false e h =
-        let n = eqb-false j k e in
-        let x = getD-set-other begins k j at 0 n in
-        let y = getD-set-other lines k j r 0 n in
-        rw (x, y) (w .kept j (λ z. h (y ∙ z)))
+kept-more {begins = begins} {lines = lines} {k = k} {at = at} {r = r} hb hl w l = record { kept = λ j h. elim (ℕ-discrete j k) [
+  | yes e ↦ rw (e, getD-set-same begins k at 0 hb, getD-set-same lines k r 0 hl) l
+  | no n ↦ let y = getD-set-other lines k j r 0 n in rw (getD-set-other begins k j at 0 n, y) (w .kept j (λ z. h (y ∙ z)))
+] }
 
 -- ---- the lines, behind the functions
 

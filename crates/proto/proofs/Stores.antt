@@ -5,9 +5,10 @@ use mathlib.Core.List.{List, [], _∷_}
 use mathlib.Core.Bool.{Bool, true, false, cond}
 use mathlib.Core.Option.{Option, none, some}
 use native.Mathlib.Omega.{arith}
+use native.Mathlib.Decide.{ℕ-discrete}
 use lib.ListN.{length, getD}
 use lib.Dec.{eqb}
-use borrow.Author.Tests.{eq-eqb, eqb-true}
+use borrow.Author.Tests.{eq-eqb, ne-eqb}
 use Rattle.lent.specs.Memory.{Every, Word, Bytes}
 use Rattle.format.specs.Tree.{Constant, Source, Debug, Parts, Function, Functions, count}
 use Rattle.format.specs.Store.{word, _⊕_, string, pieces, list, ints, sourcePiece, constantPiece, localPiece, debugPiece, packed, functionPiece, functionPieces, wordsOf, textOf, childrenPiece}
@@ -290,14 +291,12 @@ module _ {words text : List ℕ} {r : Checked} (c : Check words text (λ f. Vali
 
   -- what is passed to its end holds a tree
   pub store-held : r .ok ≡ true → r .at ≡ length words → length words ≤ most → length text ≤ most → eqb (r .to) (length text) ≡ isHeld (treeOf words text)
-  store-held o e k l = by (eqb (r .to) (length text)) refl
-    where
-      by : (b : Bool) → eqb (r .to) (length text) ≡ b → b ≡ isHeld (treeOf words text)
-      by true h =
-          let x = c .sound o .1 in
-          let f = x .value in
-          let p = check-passed c o in
-          let w : wordsOf f ≡ words = here-whole words (wordsOf f) (x .stands .in-words) (omega (arith, p .at)) in
-          let t : textOf f ≡ text = here-whole text (textOf f) (x .stands .in-text) (omega (arith, p .to, eqb-true (r .to) (length text) h)) in
-          held-yes (record { valid = x .valid; words-are = w; text-is = t; words-fit = k; text-fits = l })
-      by false h = held-no words text (λ f g. never (eq-eqb (r .to) (length text) (store-passed f g .2)) h)
+  store-held o e k l = elim (ℕ-discrete (r .to) (length text)) [
+    | yes h ↦
+        let x = c .sound o .1 in
+        let p = check-passed c o in
+        let w : wordsOf (x .value) ≡ words = here-whole words (wordsOf (x .value)) (x .stands .in-words) (omega (arith, p .at)) in
+        let t : textOf (x .value) ≡ text = here-whole text (textOf (x .value)) (x .stands .in-text) (omega (arith, p .to)) in
+        eq-eqb (r .to) (length text) h ∙ held-yes (record { valid = x .valid; words-are = w; text-is = t; words-fit = k; text-fits = l })
+    | no h ↦ ne-eqb (r .to) (length text) h ∙ held-no words text (λ f g. h (store-passed f g .2))
+  ]
