@@ -58,10 +58,12 @@ pub kept-none : {words : List ℕ} (n m : ℕ) → LinesKept words (replicate n 
 kept-none n m = record { kept = λ k h. absurd (h (getD-zeros m k)) }
 
 pub kept-more : {words begins lines : List ℕ} {k at r : ℕ} → k < length begins → k < length lines → LinesKept words begins lines → LinesAt words k at r → LinesKept words (set begins k at) (set lines k r)
-kept-more {begins = begins} {lines = lines} {k = k} {at = at} {r = r} hb hl w l = record { kept = λ j h. elim (ℕ-discrete j k) [
-  | yes e ↦ rw (e, getD-set-same begins k at 0 hb, getD-set-same lines k r 0 hl) l
-  | no n ↦ let y = getD-set-other lines k j r 0 n in rw (getD-set-other begins k j at 0 n, y) (w .kept j (λ z. h (y ∙ z)))
-] }
+kept-more {begins = begins} {lines = lines} {k = k} {at = at} {r = r} hb hl w l = record {
+  kept = λ j h. elim (ℕ-discrete j k) [
+    | yes e ↦ rw (e, getD-set-same begins k at 0 hb, getD-set-same lines k r 0 hl) l
+    | no n ↦ let y = getD-set-other lines k j r 0 n in rw (getD-set-other begins k j at 0 n, y) (w .kept j (λ z. h (y ∙ z)))
+  ];
+}
 
 -- ---- the lines, behind the functions
 

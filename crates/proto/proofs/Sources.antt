@@ -124,15 +124,13 @@ called refuse answer words text name place = onTree refuse (λ f. onFunction ref
 -- it is refused, whatever it gives then, or finds a function
 called-by : (words text name : List ℕ) (place : ℕ) {P : Type 0} → ((n : ℕ) → 0 < n → ((A : Type 0) (refuse : ℕ → A) (answer : Placed → A) → called refuse answer words text name place ≡ refuse n) → P)
     → ((f : Function) (x : Placed) → Holds words text f → functionAt f name place ≡ some x → P) → P
-called-by words text name place {P} refused found = by (treeOf words text) refl
-  where
-    in-tree : (f : Function) → treeOf words text ≡ some f → (x : Option Placed) → functionAt f name place ≡ x → P
-    in-tree f t none e = refused 12 (omega arith) (λ A refuse answer. rw (t, e))
-    in-tree f t (some x) e = found f x (tree-holds words text f t) e
-
-    by : (t : Option Function) → treeOf words text ≡ t → P
-    by none e = refused 10 (omega arith) (λ A refuse answer. rw e)
-    by (some f) e = in-tree f e (functionAt f name place) refl
+called-by words text name place {P} refused found = (elim (treeOf words text) as (λ t. treeOf words text ≡ t → P) [
+  | none ↦ λ t. refused 10 (omega arith) (λ A refuse answer. rw t)
+  | some f ↦ λ t. (elim (functionAt f name place) as (λ x. functionAt f name place ≡ x → P) [
+    | none ↦ λ e. refused 12 (omega arith) (λ A refuse answer. rw (t, e))
+    | some x ↦ λ e. found f x (tree-holds words text f t) e
+  ]) refl
+]) refl
 
 -- what it gives, from what is shown of the tree and of what the search finds in it
 module _ {A : Type 0} (refuse : ℕ → A) (answer : Placed → A) (words text name : List ℕ) (place : ℕ) {b : Bool} (h : b ≡ isHeld (treeOf words text)) where
@@ -143,11 +141,9 @@ module _ {A : Type 0} (refuse : ℕ → A) (answer : Placed → A) (words text n
       → (r .found ≡ false → x ≡ refuse 12) → (r .found ≡ true → (y : Placed) → r .source ≡ y .source .span → x ≡ answer y) → x ≡ called refuse answer words text name place
   call-sought {r} e s x none-found found =
       held-tree words text (λ t. x ≡ onTree refuse (λ f. onFunction refuse answer (functionAt f name place)) t) (sym h ∙ not-false b e)
-      (λ f t. by (functionAt f name place) _ (s f (t .valid) .seeks 0 name (root-stands t .in-words)))
-    where
-      by : (o : Option Placed) (end : ℕ) → Seeks o end r → x ≡ onFunction refuse answer o
-      by none end k = none-found (k .0)
-      by (some y) end k = found (k .0) y (k .1)
+      (λ f t.
+      (elim (functionAt f name place) as (λ o. Seeks o (0 + length (functionPiece f .words 0)) r → x ≡ onFunction refuse answer o) [ none ↦ λ k. none-found (k .0) | some y ↦ λ k. found (k .0) y (k .1) ])
+      (s f (t .valid) .seeks 0 name (root-stands t .in-words)))
 
 module _ (words text : List ℕ) (place : ℕ) {b : Bool} (h : b ≡ isHeld (treeOf words text)) where
   pub place-10 : not b ≡ true → 10 ≡ placeRefusal words text place

@@ -259,28 +259,15 @@ module _ {words text : List ℕ} where
 -- what is shown of every tree that the store holds, or of none, is shown of treeOf
 module _ (words text : List ℕ) where
   pub held-tree : (P : Option Function → Type 0) → isHeld (treeOf words text) ≡ true → ((f : Function) → Holds words text f → P (some f)) → P (treeOf words text)
-  held-tree P h k = by (treeOf words text) refl h
-    where
-      by : (x : Option Function) → treeOf words text ≡ x → isHeld x ≡ true → P x
-      by none e h = absurd (never h refl)
-      by (some f) e h = k f (tree-holds words text f e)
+  held-tree P h k =
+      (elim (treeOf words text) as (λ x. treeOf words text ≡ x → isHeld x ≡ true → P x) [ none ↦ λ e h. absurd (never h refl) | some f ↦ λ e h. k f (tree-holds words text f e) ]) refl h
 
   pub no-tree : (P : Option Function → Type 0) → isHeld (treeOf words text) ≡ false → P none → P (treeOf words text)
-  no-tree P h k = by (treeOf words text) h
-    where
-      by : (x : Option Function) → isHeld x ≡ false → P x
-      by none h = k
-      by (some f) h = absurd (never refl h)
-
-pub held-yes : {words text : List ℕ} {f : Function} → Holds words text f → true ≡ isHeld (treeOf words text)
-held-yes h = rw (holds-tree h)
+  no-tree P h k = (elim (treeOf words text) as (λ x. isHeld x ≡ false → P x) [ none ↦ λ h. k | some f ↦ λ h. absurd (never refl h) ]) h
 
 pub held-no : (words text : List ℕ) → ((f : Function) → Holds words text f → ⊥) → false ≡ isHeld (treeOf words text)
-held-no words text k = by (treeOf words text) refl
-  where
-    by : (x : Option Function) → treeOf words text ≡ x → false ≡ isHeld x
-    by none e = refl
-    by (some f) e = absurd (k f (tree-holds words text f e))
+held-no words text k =
+    (elim (treeOf words text) as (λ x. treeOf words text ≡ x → false ≡ isHeld x) [ none ↦ λ e. refl | some f ↦ λ e. absurd (k f (tree-holds words text f e)) ]) refl
 
 module _ {words text : List ℕ} {r : Checked} (c : Check words text (λ f. Valid f depth) functionPiece (record { ok = true; at = 0; to = 0 }) r) where
   -- what holds a tree is passed to its end
@@ -297,6 +284,6 @@ module _ {words text : List ℕ} {r : Checked} (c : Check words text (λ f. Vali
         let p = check-passed c o in
         let w : wordsOf (x .value) ≡ words = here-whole words (wordsOf (x .value)) (x .stands .in-words) (omega (arith, p .at)) in
         let t : textOf (x .value) ≡ text = here-whole text (textOf (x .value)) (x .stands .in-text) (omega (arith, p .to)) in
-        eq-eqb (r .to) (length text) h ∙ held-yes (record { valid = x .valid; words-are = w; text-is = t; words-fit = k; text-fits = l })
+        eq-eqb (r .to) (length text) h ∙ rw (holds-tree (record { valid = x .valid; words-are = w; text-is = t; words-fit = k; text-fits = l }))
     | no h ↦ ne-eqb (r .to) (length text) h ∙ held-no words text (λ f g. h (store-passed f g .2))
   ]
