@@ -58,24 +58,21 @@ pub record Active (words : List ℕ) (pc n : ℕ) (s : ℕ × ℕ) (r : Known) :
 module _ {words : List ℕ} {pc : ℕ} where
   active-none : {s : ℕ × ℕ} (r : Known) → ((text : List ℕ) → objectOf text r ≡ nothing) → Active words pc 0 s r
   unfolding activeLocal
-  active-none {s} r z = record { active = go }
-    where
-      go : (text : List ℕ) (l : List Local) → length l ≡ 0 → StandsAt words text (s .0) (pieces localPiece l) → objectOf text r ≡ activeLocal l (s .1) pc
-      go text [] e h = z text
-      go text (v ∷ l) e h = absurd (omega arith)
+  active-none r z = record { active = λ text. elim [ [] ↦ λ e h. z text | v ∷ l ↦ λ e h. absurd (omega arith) ] }
 
   module _ {at n : ℕ} (x : LocalVar) (w : (text : List ℕ) (v : Local) → StandsAt words text at (localPiece v) → localOf text x ≡ v) where
     -- what a first local decides
     active-by : {k : ℕ} (r : Known) → ((text : List ℕ) (l : List Local) → length l ≡ k → StandsAt words text at (pieces localPiece (localOf text x ∷ l)) → objectOf text r ≡ activeLocal (localOf text x ∷ l) n pc)
         → Active words pc (suc k) (at, n) r
     unfolding pieces
-    active-by {k} r f = record { active = go }
-      where
-        go : (text : List ℕ) (l : List Local) → length l ≡ suc k → StandsAt words text at (pieces localPiece l) → objectOf text r ≡ activeLocal l n pc
-        go text [] e h = absurd (omega arith)
-        go text (v ∷ l) e h =
+    active-by r f = record {
+      active = λ text. elim [
+        | [] ↦ λ e h. absurd (omega arith)
+        | v ∷ l ↦ λ e h.
             let g = w text v (somewhere (stands-left (localPiece v) (pieces localPiece l) (h .stands))) in
             subst (λ (u : Local). StandsAt words text at (pieces localPiece (u ∷ l)) → objectOf text r ≡ activeLocal (u ∷ l) n pc) g (f text l (omega arith)) h
+      ];
+    }
 
     -- it starts beyond pc
     active-late : (r : Known) → pc < x .start → ((text : List ℕ) → objectOf text r ≡ nothing) → (k : ℕ) → Active words pc (suc k) (at, n) r
