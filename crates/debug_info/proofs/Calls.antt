@@ -4,7 +4,6 @@ use mathlib.Core.Path.{_≡_, refl, sym, subst, _∙_}
 use mathlib.Core.List.{List, []}
 use mathlib.Core.Bool.{Bool, true, false, cond}
 use native.Mathlib.Omega.{arith}
-use native.Mathlib.Decide.{ℕ-discrete}
 use lib.ListN.{length, getD}
 use lib.Dec.{leb}
 use mir.Val.{Fits}
@@ -20,7 +19,7 @@ use Rattle.format.specs.declared.Written.{Written}
 use Rattle.proto.specs.Walk.{Stands, StandsAt, Past, toCode}
 use Rattle.proto.specs.Places.{Placed, onPlace, placeRefusal}
 use Rattle.proto.proofs.Items.{code-stands, ints-count}
-use Rattle.proto.proofs.Sources.{all-suc, function-stands, On, place-on, on-answer, on-refused}
+use Rattle.proto.proofs.Sources.{all-suc, function-stands, On, place-on, on-answer, on-related, on-refused}
 use Rattle.debug_info.specs.Calls.{onRegister, registerRefusal, nameLeft, nameRefused, namedBy}
 
 -- ---- the function that stands at a place
@@ -79,12 +78,9 @@ module _ (words text : List ℕ) (place pc reg : ℕ) where
   -- where it is not refused
   pub register-on : registerRefusal words text place pc reg ≡ 0 → OnRegister words text place pc reg
   unfolding registerRefusal
-  register-on e = elim (ℕ-discrete (placeRefusal words text place) 0) [
-    | yes z ↦
-        let o = place-on words text place z in
-        by o (leb pc (length (partsOf (o .function .function) .code))) (leb reg 255) refl refl (sym (on-answer (λ n. n) (within (λ n. n) (λ f. 0) pc reg) o) ∙ e)
-    | no z ↦ absurd (z (sym (on-refused (λ n. n) (within (λ n. n) (λ f. 0) pc reg) words text place z) ∙ e))
-  ]
+  register-on =
+      on-related {B = ℕ} (λ n m. n ≡ 0 → OnRegister words text place pc reg) (λ n. n) (λ n. n) (within (λ n. n) (λ f. 0) pc reg) (λ x. 0) words text place (λ n h e. absurd (omega arith))
+      (λ o. by o (leb pc (length (partsOf (o .function .function) .code))) (leb reg 255) refl refl)
     where
       by : (o : On words text place) (a b : Bool) → leb pc (length (partsOf (o .function .function) .code)) ≡ a → leb reg 255 ≡ b → _≡_ {A = ℕ} (cond a (cond b 0 14) 13) 0 → OnRegister words text place pc reg
       by o true true p q h = record { on = o; pc-within = leb-true _ _ p; reg-within = leb-true _ _ q }
@@ -94,16 +90,9 @@ module _ (words text : List ℕ) (place pc reg : ℕ) where
   module _ {A : Type 0} (refuse : ℕ → A) (answer : Function → A) where
     pub registered-refused : (registerRefusal words text place pc reg ≡ 0 → ⊥) → onRegister refuse answer words text place pc reg ≡ refuse (registerRefusal words text place pc reg)
     unfolding registerRefusal
-    registered-refused n = elim (ℕ-discrete (placeRefusal words text place) 0) [
-      | yes z ↦
-          let o = place-on words text place z in
-          let e = on-answer (λ n. n) (within (λ n. n) (λ f. 0) pc reg) o in
-          on-answer refuse (within refuse answer pc reg) o
-          ∙ rw e (by (o .function .function) (leb pc (length (partsOf (o .function .function) .code))) (leb reg 255) (λ h. n (e ∙ h)))
-      | no z ↦
-          on-refused refuse (within refuse answer pc reg) words text place z
-          ∙ rw (on-refused (λ n. n) (within (λ n. n) (λ f. 0) pc reg) words text place z)
-    ]
+    registered-refused =
+        on-related (λ a n. (n ≡ 0 → ⊥) → a ≡ refuse n) refuse (λ n. n) (within refuse answer pc reg) (within (λ n. n) (λ f. 0) pc reg) words text place (λ n h z. refl)
+        (λ o. by (o .function .function) (leb pc (length (partsOf (o .function .function) .code))) (leb reg 255))
       where
         by : (f : Function) (a b : Bool) → (_≡_ {A = ℕ} (cond a (cond b 0 14) 13) 0 → ⊥) → cond a (cond b (answer f) (refuse 14)) (refuse 13) ≡ refuse (cond a (cond b 0 14) 13)
         by f true true h = absurd (h refl)

@@ -4,11 +4,10 @@ use mathlib.Core.Path.{_≡_, refl, sym, ap, _∙_}
 use mathlib.Core.List.{List, [], _∷_}
 use mathlib.Core.Bool.{Bool, true, false, cond}
 use native.Mathlib.Omega.{arith}
-use native.Mathlib.Decide.{ℕ-discrete}
 use lib.ListN.{length, take, drop, getD}
 use lib.Seq.{take-at}
 use lib.Dec.{eqb, leb, ltb}
-use borrow.Author.Tests.{eq-eqb, le-leb, lt-leb, leb-true}
+use borrow.Author.Tests.{eq-eqb, ne-eqb, le-leb, lt-leb, leb-true}
 use Rattle.lent.specs.Memory.{far, Puts}
 use Rattle.format.specs.Tree.{Local, Parts, Function, Functions}
 use Rattle.format.specs.Store.{word, _⊕_, string, pieces, list, ints, localPiece, functionPiece}
@@ -25,7 +24,7 @@ use Rattle.proto.proofs.Sublists.{here-length, here-item, here-get}
 use Rattle.proto.proofs.Pieces.{same-sym, same-assoc, function-debug, stands-same, stands-left, stands-right, pieces-words}
 use Rattle.proto.proofs.Steady.{locals-steady}
 use Rattle.proto.proofs.Items.{somewhere, list-count, locals-stand}
-use Rattle.proto.proofs.Sources.{On, place-on, on-answer, on-refused}
+use Rattle.proto.proofs.Sources.{On, place-on, on-answer, on-related}
 use Rattle.debug_info.specs.declared.answer.Named.{Named}
 use Rattle.debug_info.specs.declared.name.Known.{Known}
 use Rattle.debug_info.specs.Names.{Object, nothing, local, activeLocal, getLocalName}
@@ -169,51 +168,34 @@ module _ (rs : List LocalRecord) (words text : List ℕ) (place n pc : ℕ) (out
       pub enough : length (localsOf (on .function .function)) ≤ length rs
       pub fits : length (getLocalName (localsOf (on .function .function)) n pc .name) ≤ length out
 
-    chosen-by : (o : On words text place) → v ≡ choose words text place n (pc % 2 ^ 32) (length rs) (length out) refl (o .function .function)
-    unfolding localsFor
-    chosen-by o = e ∙ on-answer noLocals (λ x. choose words text place n (pc % 2 ^ 32) (length rs) (length out) refl (x .function)) o
-
     ready : v .refusal ≤ 0 → Ready
     unfolding localsFor getLocalName
-    ready h = elim (ℕ-discrete (placeRefusal words text place) 0) [
-      | yes z ↦
-          let o = place-on words text place z in
-          by o (leb (length (localsOf (o .function .function))) (length rs)) (leb (length (getLocalName (localsOf (o .function .function)) n pc .name)) (length out)) refl refl (chosen-by o)
-      | no z ↦
-          let k : v .refusal ≡ placeRefusal words text place =
-          ap (λ (x : Locals). x .refusal) (e ∙ on-refused noLocals (λ x. choose words text place n (pc % 2 ^ 32) (length rs) (length out) refl (x .function)) words text place z) in
-          absurd (z (omega arith))
-    ]
+    ready h =
+        on-related {B = ℕ} (λ a n. v ≡ a → Ready) noLocals (λ n. n) (λ x. choose words text place n (pc % 2 ^ 32) (length rs) (length out) refl (x .function)) (λ x. 0) words text place
+        (λ m k d. absurd (omega (arith, ap (λ (x : Locals). x .refusal) d)))
+        (λ o. by o (leb (length (localsOf (o .function .function))) (length rs)) (leb (length (getLocalName (localsOf (o .function .function)) n pc .name)) (length out)) refl refl) e
       where
         by : (o : On words text place) (a b : Bool) → leb (length (localsOf (o .function .function))) (length rs) ≡ a → leb (length (getLocalName (localsOf (o .function .function)) n pc .name)) (length out) ≡ b
             → v ≡ cond a (cond b (record { refusal = 0; at = localsAt place (o .function .function); count = length (localsOf (o .function .function)) }) (noLocals 11)) (noLocals 8) → Ready
         by o true true p q d = record { on = o; at-is = ap (λ (x : Locals). x .at) d; count-is = ap (λ (x : Locals). x .count) d; enough = leb-true _ _ p; fits = leb-true _ _ q }
-        by o true false p q d = let k : v .refusal ≡ 11 = ap (λ (x : Locals). x .refusal) d in absurd (omega arith)
-        by o false b p q d = let k : v .refusal ≡ 8 = ap (λ (x : Locals). x .refusal) d in absurd (omega arith)
+        by o true false p q d = absurd (omega (arith, ap (λ (x : Locals). x .refusal) d))
+        by o false b p q d = absurd (omega (arith, ap (λ (x : Locals). x .refusal) d))
 
     pub in-refused : 0 < v .refusal → lookupLeft (record { refusal = v .refusal; kind = 0; len = 0 }) rs out ≡ localNamedIn rs words text place n pc out
     unfolding localsFor localNamedIn getLocalName
-    in-refused h = elim (ℕ-discrete (placeRefusal words text place) 0) [
-      | yes z ↦
-          let o = place-on words text place z in
-          by (o .function .function) (leb (length (localsOf (o .function .function))) (length rs)) (leb (length (getLocalName (localsOf (o .function .function)) n pc .name)) (length out)) (chosen-by o) ∙ sym (left-by o)
-      | no z ↦
-          let k : v .refusal ≡ placeRefusal words text place =
-          ap (λ (x : Locals). x .refusal) (e ∙ on-refused noLocals (λ x. choose words text place n (pc % 2 ^ 32) (length rs) (length out) refl (x .function)) words text place z) in
-          rw k (kept (placeRefusal words text place) (eqb (placeRefusal words text place) 0)) ∙ sym (on-refused (λ r. withRecords rs rs (nameRefused out r)) (λ x. leaves (x .function)) words text place z)
-    ]
+    in-refused = rw e
+        (on-related (λ a l. 0 < a .refusal → lookupLeft (record { refusal = a .refusal; kind = 0; len = 0 }) rs out ≡ l) noLocals (λ r. withRecords rs rs (nameRefused out r))
+        (λ x. choose words text place n (pc % 2 ^ 32) (length rs) (length out) refl (x .function)) (λ x. leaves (x .function)) words text place
+        (λ m k h. rw (ne-eqb m 0 (λ z. omega arith)))
+        (λ o. by (o .function .function) (leb (length (localsOf (o .function .function))) (length rs)) (leb (length (getLocalName (localsOf (o .function .function)) n pc .name)) (length out))))
       where
-        kept : (r : ℕ) (b : Bool) → lookupLeft (record { refusal = r; kind = 0; len = 0 }) rs out ≡ lookupLeft (record { refusal = r; kind = 0; len = 0 }) (cond b rs rs) out
-        kept r true = refl
-        kept r false = refl
-
-        by : (f : Function) (a b : Bool) → v ≡ cond a (cond b (record { refusal = 0; at = localsAt place f; count = length (localsOf f) }) (noLocals 11)) (noLocals 8)
-            → lookupLeft (record { refusal = v .refusal; kind = 0; len = 0 }) rs out
+        by : (f : Function) (a b : Bool) → let l = cond a (cond b (record { refusal = 0; at = localsAt place f; count = length (localsOf f) }) (noLocals 11)) (noLocals 8) in
+            0 < l .refusal → lookupLeft (record { refusal = l .refusal; kind = 0; len = 0 }) rs out
             ≡ cond a (withRecords rs (recordsFilled rs words (localsAt place f) (length (localsOf f))) (namedBy (getLocalName (localsOf f) n pc .kind) (cond b (record { answer = record { refusal = 0; len = length (getLocalName (localsOf f) n pc .name) }; out = over (getLocalName (localsOf f) n pc .name) out }) (writeRefused 11 out))))
             (withRecords rs rs (nameRefused out 8))
-        by f true true d = let k : v .refusal ≡ 0 = ap (λ (x : Locals). x .refusal) d in absurd (omega arith)
-        by f true false d = ap (λ (x : Locals). lookupLeft (record { refusal = x .refusal; kind = 0; len = 0 }) rs out) d
-        by f false b d = ap (λ (x : Locals). lookupLeft (record { refusal = x .refusal; kind = 0; len = 0 }) rs out) d
+        by f true true k = absurd (omega arith)
+        by f true false k = refl
+        by f false b k = refl
 
     module _ (h : v .refusal ≤ 0) where
       abbrev y : Ready
@@ -254,17 +236,9 @@ module _ (rs : List LocalRecord) (words text : List ℕ) (place n pc : ℕ) (out
   pub names-alike : (localNamedIn rs words text place n pc out .answer .refusal ≡ 8 → ⊥)
       → nameLeft (localNamedIn rs words text place n pc out .answer) (localNamedIn rs words text place n pc out .out) ≡ localNamed words text place n pc out
   unfolding localNamedIn localNamed
-  names-alike h = elim (ℕ-discrete (placeRefusal words text place) 0) [
-    | yes z ↦
-        let o = place-on words text place z in
-        let e = left-by rs words text place n pc out o in
-        ap (λ (x : LookupLeft). nameLeft (x .answer) (x .out)) e
-        ∙ by (o .function .function) (leb (length (localsOf (o .function .function))) (length rs)) (λ d. h (ap (λ (x : LookupLeft). x .answer .refusal) e ∙ d))
-        ∙ sym (on-answer (nameRefused out) (λ x. named (getLocalName (localsOf (x .function)) n pc) out) o)
-    | no z ↦
-        ap (λ (x : LookupLeft). nameLeft (x .answer) (x .out)) (on-refused (λ r. withRecords rs rs (nameRefused out r)) (λ x. leaves rs words text place n pc out (x .function)) words text place z)
-        ∙ sym (on-refused (nameRefused out) (λ x. named (getLocalName (localsOf (x .function)) n pc) out) words text place z)
-  ]
+  names-alike =
+      on-related (λ l w. (l .answer .refusal ≡ 8 → ⊥) → nameLeft (l .answer) (l .out) ≡ w) (λ r. withRecords rs rs (nameRefused out r)) (nameRefused out) (λ x. leaves rs words text place n pc out (x .function))
+      (λ x. named (getLocalName (localsOf (x .function)) n pc) out) words text place (λ m k h. refl) (λ o. by (o .function .function) (leb (length (localsOf (o .function .function))) (length rs)))
     where
       by : (f : Function) (a : Bool) → let x = cond a (withRecords rs (recordsFilled rs words (localsAt place f) (length (localsOf f))) (named (getLocalName (localsOf f) n pc) out)) (withRecords rs rs (nameRefused out 8)) in
           (x .answer .refusal ≡ 8 → ⊥) → nameLeft (x .answer) (x .out) ≡ named (getLocalName (localsOf f) n pc) out

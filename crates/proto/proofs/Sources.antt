@@ -1,9 +1,9 @@
 -- Each function that functionAt finds stands in the store, well formed, and its source stands where its span says. So source_at and source answer as defined.
 use Prim.Native.Nat.{ℕ, zero, suc, _+_, _-_, _≤_, _<_}
-use mathlib.Core.Path.{_≡_, refl, sym, ap, _∙_}
+use mathlib.Core.Path.{_≡_, refl, sym, _∙_}
 use mathlib.Core.List.{List, [], _∷_}
 use mathlib.Core.Bool.{Bool, true, false, cond, not}
-use mathlib.Core.Option.{Option, none, some}
+use mathlib.Core.Option.{none, some}
 use native.Mathlib.Omega.{arith}
 use native.Mathlib.Nat.{add-zero}
 use lib.ListN.{length}
@@ -171,14 +171,19 @@ unfolding placeRefusal
 place-on words text place e =
     called-by words text [] place (λ n h k. absurd (omega (arith, k ℕ (λ n. n) (λ x. 0)))) (λ f x h b. record { tree = f; function = x; holds = h; begins = b })
 
+-- what relates two calls where they are refused, and on the function found, relates what they give
+pub on-related : {A B : Type 0} (R : A → B → Type 0) (refuse : ℕ → A) (refuse′ : ℕ → B) (answer : Placed → A) (answer′ : Placed → B) (words text : List ℕ) (place : ℕ)
+    → ((n : ℕ) → 0 < n → R (refuse n) (refuse′ n)) → ((o : On words text place) → R (answer (o .function)) (answer′ (o .function))) → R (onPlace refuse answer words text place) (onPlace refuse′ answer′ words text place)
+on-related {A} {B} R refuse refuse′ answer answer′ words text place f g =
+    called-by words text [] place (λ n h k. rw (k A refuse answer, k B refuse′ answer′) (f n h)) (λ t x h b. rw (holds-tree h, b) (g (record { tree = t; function = x; holds = h; begins = b })))
+
 module _ {A : Type 0} (refuse : ℕ → A) (answer : Placed → A) where
   pub on-answer : {words text : List ℕ} {place : ℕ} (o : On words text place) → onPlace refuse answer words text place ≡ answer (o .function)
   on-answer o = rw (holds-tree (o .holds), o .begins)
 
   pub on-refused : (words text : List ℕ) (place : ℕ) → (placeRefusal words text place ≡ 0 → ⊥) → onPlace refuse answer words text place ≡ refuse (placeRefusal words text place)
   unfolding placeRefusal
-  on-refused words text place n =
-      called-by words text [] place (λ m h k. k A refuse answer ∙ ap refuse (sym (k ℕ (λ n. n) (λ x. 0)))) (λ f x h b. absurd (n (rw (holds-tree h, b))))
+  on-refused words text place = on-related (λ a n. (n ≡ 0 → ⊥) → a ≡ refuse n) refuse (λ n. n) answer (λ x. 0) words text place (λ n h z. refl) (λ o z. absurd (z refl))
 
 module _ (words text name : List ℕ) (place : ℕ) where
   module _ {n : Bool} (k : n ≡ nameOk name) where
