@@ -12,11 +12,9 @@ put-name-spec = tie.close (tie.spec
     (λ c. rw (c .before .before .before .before .before .enum-told .given .1) (c .before .before .put-bytes .ensures))  -- returns
     (λ c. search needs)  -- same-length-2
     -- returns-2
-    (λ c.
-    let c₁ = c .before .before in let c₂ = c₁ .before in let c₃ = c₂ .before .before .before in
+    (λ c. let c₁ = c .before .before in let c₂ = c₁ .before in let c₃ = c₂ .before .before .before in
     rw (c₃ .name .given .1, ← c₂ .part .ensures) (c₁ .put-bytes2 .ensures))
     (λ c. search needs)  -- same-length-3
     -- returns-3
-    (λ c.
-    let c₁ = c .before .before in let c₂ = c₁ .before .before in let c₃ = c₂ .before .before in
+    (λ c. let c₁ = c .before .before in let c₂ = c₁ .before .before in let c₃ = c₂ .before .before in
     rw (c₃ .name2 .given .1, ← c₂ .part2 .ensures) (c₁ .repair .ensures)))

@@ -23,6 +23,5 @@ wrote-spec = tie.close (tie.spec
     -- returns-4
     (λ c text p fs h. rw (sym (c .before .before .before .opcode .ensures) ∙ c .before .before .match .keys4, ← c .before .c2 .ensures, ← c .operand-name2 .ensures text (p .constants) (h .constants)))
     -- returns-5
-    (λ c. λ text p fs h.
-    let none = c .before .match .rest in
+    (λ c text p fs h. let none = c .before .match .rest in
     rw (← c .before .before .opcode .ensures, ne-eqb _ _ (none .0 .0 .0 .1), ne-eqb _ _ (none .0 .0 .1), ne-eqb _ _ (none .0 .1), ne-eqb _ _ (none .1)) (c .nothing .ensures text)))

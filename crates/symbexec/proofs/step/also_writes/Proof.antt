@@ -18,6 +18,5 @@ also-writes-spec = tie.close (tie.spec
     (λ c. rw (sym (c .before .opcode .ensures) ∙ c .match .keys4, ← c .before .before .a .ensures))  -- returns-4
     (λ c. rw (sym (c .before .opcode .ensures) ∙ c .match .keys5, ← c .before .before .a .ensures))  -- returns-5
     -- returns-6
-    (λ c.
-    let none = c .match .rest in
+    (λ c. let none = c .match .rest in
     rw (← c .before .opcode .ensures, ne-eqb _ _ (none .0 .0 .0 .0 .1), ne-eqb _ _ (none .0 .0 .0 .1), ne-eqb _ _ (none .0 .0 .1), ne-eqb _ _ (none .0 .1), ne-eqb _ _ (none .1))))

@@ -16,11 +16,9 @@ followed-spec = tie.close (tie.spec
     (λ c. search needs) (λ c. search needs) (λ c. search needs)  -- add-biased, bx-requires, cast-biased
     (λ c. search needs) (λ c. search needs)  -- add-biased-2, add-if3
     -- returns-3
-    (λ c.
-    let c₁ = c .before in let c₂ = c₁ .before in let c₃ = c₂ .before in let c₄ = c₃ .before in let c₅ = c₄ .before in
+    (λ c. let c₁ = c .before in let c₂ = c₁ .before in let c₃ = c₂ .before in let c₄ = c₃ .before in let c₅ = c₄ .before in
     rw (← c₅ .opcode .ensures, sym (c₄ .is-jump .ensures) ∙ not-false _ (c₃ .if1 .left), ne-eqb _ _ (c₂ .if2 .left), ← c₁ .bx .ensures, le-ltb _ _ (c .if3 .taken)))
     (λ c. search needs)  -- add-result
     -- returns-4
-    (λ c.
-    let c₁ = c .before in let c₂ = c₁ .before in let c₃ = c₂ .before in let c₄ = c₃ .before in let c₅ = c₄ .before in
+    (λ c. let c₁ = c .before in let c₂ = c₁ .before in let c₃ = c₂ .before in let c₄ = c₃ .before in let c₅ = c₄ .before in
     rw (← c₅ .opcode .ensures, sym (c₄ .is-jump .ensures) ∙ not-false _ (c₃ .if1 .left), ne-eqb _ _ (c₂ .if2 .left), ← c₁ .bx .ensures, lt-ltb _ _ (c .if3 .left))))
