@@ -9,9 +9,16 @@ use lib.Dec.{eqb, ltb}
 use borrow.Author.Tests.{eq-eqb, ne-eqb, ltb-true}
 use Rattle.instructions.specs.Fields.{GETARG-A, GETARG-B}
 use Rattle.instructions.specs.OpCodes.{OP-MOVE, opcode}
-use Rattle.format.specs.Tree.{Parts, Function, Functions}
+use Rattle.format.specs.Tree.{Local, Parts, Function, Functions}
+use Rattle.format.specs.Store.{list, localPiece}
+use Rattle.format.specs.Valid.{depth, ValidAll}
+use Rattle.proto.specs.Walk.{StandsAt}
+use Rattle.proto.specs.Lists.{ListsAt}
+use Rattle.proto.specs.declared.lists.Lists.{Lists}
+use Rattle.debug_info.specs.declared.name.Known.{Known}
+use Rattle.debug_info.specs.Known.{objectOf}
 use Rattle.symbexec.specs.SymbExec.{symbexec}
-use Rattle.debug_info.specs.Names.{Object, nothing, activeLocal, getLocalName, wrote, movesUp, orElse, searched}
+use Rattle.debug_info.specs.Names.{nothing, activeLocal, getLocalName, wrote, movesUp, orElse, searched}
 use Rattle.debug_info.specs.Searched.{unsearched}
 
 -- one register more is searched
@@ -33,28 +40,36 @@ moves-below i h = by (eqb (opcode i) OP-MOVE) (ltb (GETARG-B i) (GETARG-A i)) re
     by true false e h = let z : _≡_ {A = ℕ} 0 1 = cc in absurd (omega arith)
     by false false e h = let z : _≡_ {A = ℕ} 0 1 = cc in absurd (omega arith)
 
-module _ (o : Object) (p : Parts) (fs : Functions) (pc reg : ℕ) (before : List Bool) where
-  -- it was searched before
-  pub search-again : (n : ℕ) → getD before reg false ≡ true → o ≡ nothing → o ≡ searched (Function.function p fs) pc n reg before
-  unfolding searched
-  search-again zero e h = h
-  search-again (suc n) e h = rw e h
+-- what the search gives for a register of the function whose lists stand at s
+abbrev Gives : List ℕ → Lists → ℕ → ℕ → List Bool → Known → Type 0
+Gives words s pc reg before r =
+    (text : List ℕ) (p : Parts) (fs : Functions) → ListsAt words text s p fs → ValidAll fs depth → objectOf text r ≡ searched (Function.function p fs) pc (unsearched before) reg before
 
-  module _ (small : pc < 2 ^ 32) (within : reg < length before) (new : getD before reg false ≡ false) where
-    opened : (i : ℕ) → i ≡ symbexec (Function.function p fs) pc reg → searched (Function.function p fs) pc (unsearched before) reg before
-        ≡ orElse (activeLocal (p .debug .locals) (reg + 1) pc) (cond (movesUp i) (searched (Function.function p fs) pc (unsearched (set before reg true)) (GETARG-B i) (set before reg true)) (wrote p i))
+module _ {words : List ℕ} {s : Lists} (pc reg : ℕ) (before : List Bool) where
+  -- it was searched before
+  pub search-again : (r : Known) → getD before reg false ≡ true → ((text : List ℕ) → objectOf text r ≡ nothing) → Gives words s pc reg before r
+  unfolding searched
+  search-again r e z text p fs h v = by (unsearched before)
+    where
+      by : (n : ℕ) → objectOf text r ≡ searched (Function.function p fs) pc n reg before
+      by zero = z text
+      by (suc n) = rw e (z text)
+
+  module _ (small : pc < 2 ^ 32) (within : reg < 256) (all : length before ≡ 256) (new : getD before reg false ≡ false) (x : Known)
+      (active : (text : List ℕ) (l : List Local) → StandsAt words text (s .locals) (list localPiece l) → objectOf text x ≡ activeLocal l (reg + 1) pc) where
+    opened : (text : List ℕ) (p : Parts) (fs : Functions) → ListsAt words text s p fs → (i : ℕ) → i ≡ symbexec (Function.function p fs) pc reg → searched (Function.function p fs) pc (unsearched before) reg before
+        ≡ orElse (objectOf text x) (cond (movesUp i) (searched (Function.function p fs) pc (unsearched (set before reg true)) (GETARG-B i) (set before reg true)) (wrote p i))
     unfolding searched getLocalName
-    opened i e = let m : pc % 2 ^ 32 ≡ pc = omega arith in rw (marked before reg within new, new, m, e)
+    opened text p fs h i e = let m : pc % 2 ^ 32 ≡ pc = omega arith in rw (marked before reg (omega arith) new, new, m, e, active text (p .debug .locals) (h .locals))
 
     -- it is a local
-    pub search-local : o ≡ activeLocal (p .debug .locals) (reg + 1) pc → 0 < o .kind → o ≡ searched (Function.function p fs) pc (unsearched before) reg before
-    search-local e h = sym (opened _ refl ∙ rw (← e, ne-eqb (o .kind) 0 (λ z. omega arith)))
+    pub search-local : 0 < x .kind → Gives words s pc reg before x
+    search-local k text p fs h v = sym (opened text p fs h _ refl ∙ rw (ne-eqb (x .kind) 0 (λ z. omega arith)))
 
-    module _ {v : Object} {i : ℕ} (e : v ≡ activeLocal (p .debug .locals) (reg + 1) pc) (h : v .kind ≤ 0) (s : i ≡ symbexec (Function.function p fs) pc reg) where
+    module _ (k : x .kind ≤ 0) {i : ℕ} (last : (text : List ℕ) (p : Parts) (fs : Functions) → ListsAt words text s p fs → ValidAll fs depth → i ≡ symbexec (Function.function p fs) pc reg) {m : Bool} (up : m ≡ movesUp i) where
       -- it was moved there
-      pub search-moved : movesUp i ≡ true → {b : ℕ} → b ≡ GETARG-B i → o ≡ searched (Function.function p fs) pc (unsearched (set before reg true)) b (set before reg true)
-          → o ≡ searched (Function.function p fs) pc (unsearched before) reg before
-      search-moved t g k = k ∙ rw g (sym (opened i s ∙ rw (← e, eq-eqb (v .kind) 0 (omega arith), t)))
+      pub search-moved : (r : Known) {b : ℕ} → m ≡ true → b ≡ GETARG-B i → Gives words s pc b (set before reg true) r → Gives words s pc reg before r
+      search-moved r t g f text p fs h v = f text p fs h v ∙ rw g (sym (opened text p fs h i (last text p fs h v) ∙ rw (eq-eqb (x .kind) 0 (omega arith), sym up ∙ t)))
 
-      pub search-wrote : movesUp i ≡ false → o ≡ wrote p i → o ≡ searched (Function.function p fs) pc (unsearched before) reg before
-      search-wrote t k = k ∙ sym (opened i s ∙ rw (← e, eq-eqb (v .kind) 0 (omega arith), t))
+      pub search-wrote : (r : Known) → m ≡ false → ((text : List ℕ) (p : Parts) (fs : Functions) → ListsAt words text s p fs → objectOf text r ≡ wrote p i) → Gives words s pc reg before r
+      search-wrote r t f text p fs h v = f text p fs h ∙ sym (opened text p fs h i (last text p fs h v) ∙ rw (eq-eqb (x .kind) 0 (omega arith), sym up ∙ t))
