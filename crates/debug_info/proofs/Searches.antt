@@ -2,17 +2,17 @@
 use Prim.Native.Nat.{ℕ, zero, suc, _+_, _%_, _^_, _≤_, _<_}
 use mathlib.Core.Path.{_≡_, refl, sym, ap, _∙_}
 use mathlib.Core.List.{List, [], _∷_}
-use mathlib.Core.Bool.{Bool, true, false, cond, _&&_, true≢false}
+use mathlib.Core.Bool.{Bool, true, false, cond, and-false, true≢false}
 use native.Mathlib.Omega.{arith}
+use native.Mathlib.Decide.{decLt}
 use lib.ListN.{length, getD, set}
-use lib.Dec.{eqb, ltb}
-use borrow.Author.Tests.{eq-eqb, ne-eqb, ltb-true}
+use borrow.Author.Tests.{eq-eqb, ne-eqb, le-ltb}
 use Rattle.instructions.specs.Fields.{GETARG-A, GETARG-B}
-use Rattle.instructions.specs.OpCodes.{OP-MOVE, opcode}
 use Rattle.format.specs.Tree.{Local, Parts, Function, Functions}
 use Rattle.format.specs.Store.{list, localPiece}
 use Rattle.format.specs.Valid.{depth, ValidAll}
 use Rattle.proto.specs.Walk.{StandsAt}
+use Rattle.proto.proofs.Checks.{never}
 use Rattle.proto.specs.Lists.{ListsAt}
 use Rattle.proto.specs.declared.lists.Lists.{Lists}
 use Rattle.debug_info.specs.declared.name.Known.{Known}
@@ -33,12 +33,10 @@ marked (true ∷ l) (suc r) h e = marked l r (omega arith) e
 -- MOVE takes from a register
 pub moves-below : (i : ℕ) → movesUp i ≡ true → GETARG-B i < 256
 unfolding movesUp
-moves-below i h = by (eqb (opcode i) OP-MOVE) (ltb (GETARG-B i) (GETARG-A i)) refl h
-  where
-    by : (a b : Bool) → ltb (GETARG-B i) (GETARG-A i) ≡ b → (a && b) ≡ true → GETARG-B i < 256
-    by a true e h = omega (arith, ltb-true (GETARG-B i) (GETARG-A i) e)
-    by true false e h = let z : _≡_ {A = ℕ} 0 1 = cc in absurd (omega arith)
-    by false false e h = let z : _≡_ {A = ℕ} 0 1 = cc in absurd (omega arith)
+moves-below i h = elim (decLt (GETARG-B i) (GETARG-A i)) [
+  | yes k ↦ omega arith
+  | no k ↦ absurd (never h (simp (le-ltb (GETARG-B i) (GETARG-A i) (omega arith), and-false)))
+]
 
 -- what the search gives for a register of the function whose lists stand at s
 abbrev Gives : List ℕ → Lists → ℕ → ℕ → List Bool → Known → Type 0

@@ -1,20 +1,21 @@
 -- The tests of one instruction, the code's items, and the walk from one instruction to the next.
 use Prim.Native.Nat.{ℕ, zero, suc, _+_, _*_, _-_, _≤_, _<_}
-use mathlib.Core.Path.{_≡_, refl, sym, ap, _∙_}
+use mathlib.Core.Path.{_≡_, sym, ap, _∙_}
 use mathlib.Core.List.{List, _∷_}
-use mathlib.Core.Bool.{Bool, true, false, cond, not, _&&_}
+use mathlib.Core.Bool.{true, false, cond, and-false}
 use native.Mathlib.Omega.{arith}
+use native.Mathlib.Decide.{decLt}
 use lib.ListN.{length, getD, List·getD-eq-default}
-use lib.Dec.{eqb, leb, ltb}
-use borrow.Author.Tests.{lt-ltb, le-ltb, ltb-true}
+use borrow.Author.Tests.{lt-ltb, le-ltb}
 use Rattle.format.specs.Tree.{Function, Functions}
 use Rattle.format.specs.Valid.{depth, ValidAll}
 use Rattle.format.specs.Store.{ints, childrenPiece}
-use Rattle.instructions.specs.Fields.{MAXARG-sBx, GETARG-C, GETARG-Bx, NO-REG}
-use Rattle.instructions.specs.OpCodes.{isJump, opcode}
+use Rattle.instructions.specs.Fields.{MAXARG-sBx, GETARG-C, GETARG-Bx}
+use Rattle.instructions.specs.OpCodes.{opcode}
 use Rattle.proto.specs.Walk.{Skips, StandsAt, children}
 use Rattle.proto.specs.Children.{ChildAt}
 use Rattle.proto.proofs.Items.{ints-count}
+use Rattle.proto.proofs.Checks.{never}
 use Rattle.proto.proofs.Sublists.{skip-item}
 use Rattle.proto.specs.declared.child.Child.{Child}
 use Rattle.symbexec.specs.declared.operands.Skipped.{Skipped}
@@ -27,13 +28,10 @@ module _ (op bx lastpc reg pc : ℕ) where
   -- a followed jump goes forward
   pub goes-forward : followed op bx lastpc reg pc ≡ true → pc + MAXARG-sBx < biased pc bx
   unfolding followed
-  goes-forward h = by (isJump op) (eqb reg NO-REG) (ltb (pc + MAXARG-sBx) (biased pc bx)) refl h
-    where
-      by : (a b t : Bool) → ltb (pc + MAXARG-sBx) (biased pc bx) ≡ t → (a && (not b && (t && leb (biased pc bx) (lastpc + MAXARG-sBx)))) ≡ true → pc + MAXARG-sBx < biased pc bx
-      by a b true e h = ltb-true _ _ e
-      by true true false e h = let z : _≡_ {A = ℕ} 0 1 = cc in absurd (omega arith)
-      by true false false e h = let z : _≡_ {A = ℕ} 0 1 = cc in absurd (omega arith)
-      by false b false e h = let z : _≡_ {A = ℕ} 0 1 = cc in absurd (omega arith)
+  goes-forward h = elim (decLt (pc + MAXARG-sBx) (biased pc bx)) [
+    | yes k ↦ k
+    | no k ↦ absurd (never h (simp (le-ltb (pc + MAXARG-sBx) (biased pc bx) (omega arith), and-false)))
+  ]
 
   module _ (skipped : ℕ) {r : ℕ} where
     pub next-jump : followed op bx lastpc reg pc ≡ true → r ≡ biased pc bx - MAXARG-sBx → (r ≡ nextPc op bx skipped lastpc reg pc) × (pc < r)
