@@ -30,10 +30,8 @@ module _ {words text : List ℕ} {place : ℕ} (o : On words text place) where
   unfolding Valid
   of-function P g =
       let x = function-stands [] place (o .function) (o .holds) (o .begins) in
-      go (o .function .function) (x .0 .to) (x .0 .valid) (subst (λ (at : ℕ). Stands words text at (x .0 .to) (functionPiece (o .function .function))) (x .1) (x .0 .stands))
-    where
-      go : (f : Function) (to : ℕ) → Valid f depth → Stands words text place to (functionPiece f) → P f
-      go (Function.function p fs) to v h = g p fs (v .0) (all-suc fs _ (v .2)) (record { to = to; stands = h })
+      (elim (o .function .function) as (λ f. Valid f depth → Stands words text place (x .0 .to) (functionPiece f) → P f) [ Function.function p fs ↦ λ v h. g p fs (v .0) (all-suc fs _ (v .2)) (record { to = x .0 .to; stands = h }) ])
+      (x .0 .valid) (subst (λ (at : ℕ). Stands words text at (x .0 .to) (functionPiece (o .function .function))) (x .1) (x .0 .stands))
 
   -- its code's length
   pub of-code : {a x : ℕ} → ((p : Parts) (fs : Functions) → Past words (toCode p fs) place a) → x ≡ getD words a 0 → x ≡ length (partsOf (o .function .function) .code)

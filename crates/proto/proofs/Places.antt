@@ -2,7 +2,7 @@
 use Prim.Native.Nat.{ℕ, suc, _+_, _-_, _≤_, _<_}
 use mathlib.Core.Path.{_≡_, refl, sym, _∙_}
 use mathlib.Core.List.{List, [], _∷_, _++_}
-use mathlib.Core.Bool.{Bool, true, false, cond}
+use mathlib.Core.Bool.{true, false, cond}
 use mathlib.Core.Option.{Option, none, some}
 use native.Mathlib.Omega.{arith}
 use native.Mathlib.Nat.{add-zero, add-assoc}
@@ -47,11 +47,8 @@ orElse (some x) y = some x
 begins-append : (place : ℕ) (a b : List Placed) → beginsAt place (a ++ b) ≡ orElse (beginsAt place a) (beginsAt place b)
 unfolding beginsAt
 begins-append place [] b = refl
-begins-append place (x ∷ a) b = by (begins-append place a b) (eqb place (x .place))
-  where
-    by : beginsAt place (a ++ b) ≡ orElse (beginsAt place a) (beginsAt place b) → (t : Bool) → cond t (some x) (beginsAt place (a ++ b)) ≡ orElse (cond t (some x) (beginsAt place a)) (beginsAt place b)
-    by i true = refl
-    by i false = i
+begins-append place (x ∷ a) b =
+    elim (eqb place (x .place)) as (λ t. cond t (some x) (beginsAt place (a ++ b)) ≡ orElse (cond t (some x) (beginsAt place a)) (beginsAt place b)) [ true ↦ refl | false ↦ begins-append place a b ]
 
 -- of n functions, whichever they are
 pub record SearchAll (words : List ℕ) (place : ℕ) (around : Span) (allowance n at : ℕ) (r : Sought) : Type 0 where

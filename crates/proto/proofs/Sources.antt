@@ -101,13 +101,11 @@ module _ {words text : List ℕ} (name : List ℕ) (allowance : ℕ) where
 begins-every : (P : Placed → Type 0) (place : ℕ) (l : List Placed) (x : Placed) → Every P l → beginsAt place l ≡ some x → P x × (x .place ≡ place)
 unfolding beginsAt Every
 begins-every P place [] x h e = let z : _≡_ {A = ℕ} 0 1 = cc in absurd (omega arith)
-begins-every P place (y ∷ l) x h e = by (λ d. begins-every P place l x (h .1) d) (eqb place (y .place)) refl e
-  where
-    by : (beginsAt place l ≡ some x → P x × (x .place ≡ place)) → (t : Bool) → eqb place (y .place) ≡ t → cond t (some y) (beginsAt place l) ≡ some x → P x × (x .place ≡ place)
-    by i true e d =
-        let s : y ≡ x = cc in
-        (rw s at (h .0), rw (← s) (sym (eqb-true place (y .place) e)))
-    by i false e d = i d
+begins-every P place (y ∷ l) x h e =
+    (elim (eqb place (y .place)) as (λ t. eqb place (y .place) ≡ t → cond t (some y) (beginsAt place l) ≡ some x → P x × (x .place ≡ place)) [
+      | true ↦ λ q d. let s : y ≡ x = cc in (rw s at (h .0), rw (← s) (sym (eqb-true place (y .place) q)))
+      | false ↦ λ q d. begins-every P place l x (h .1) d
+    ]) refl e
 
 -- ==== the statement: where functionAt finds a function, it stands there
 

@@ -65,19 +65,19 @@ pub record SearchLeft (l : List ℕ) (fs : List Function) (lastpc reg last pc : 
 module _ {l : List ℕ} {fs : List Function} {lastpc reg last pc : ℕ} where
   left-turn : pc < lastpc → {i last′ pc′ : ℕ} → i ≡ getD l pc 0 → last′ ≡ cond (writes i reg) pc last → pc′ ≡ after fs lastpc reg pc i → pc < pc′ → SearchLeft l fs lastpc reg last pc → SearchLeft l fs lastpc reg last′ pc′
   unfolding lastWrite
-  left-turn k {i} {last′} {pc′} e f g m x = by (x .left) (x .enough) (x .same)
-    where
-      by : (n : ℕ) → lastpc ≤ n + pc → lastWrite l fs lastpc reg n pc last ≡ lastWrite l fs lastpc reg lastpc 0 (length l - 1) → SearchLeft l fs lastpc reg last′ pc′
-      by zero h s = absurd (omega arith)
-      by (suc n) h s = record { left = n; enough = omega arith; same = rw (f, g, e) (rw (lt-ltb pc lastpc k) at s) }
+  left-turn k {i} {last′} {pc′} e f g m x =
+      (elim (x .left) as (λ n. lastpc ≤ n + pc → lastWrite l fs lastpc reg n pc last ≡ lastWrite l fs lastpc reg lastpc 0 (length l - 1) → SearchLeft l fs lastpc reg last′ pc′) [
+        | zero ↦ λ h s. absurd (omega arith)
+        | suc n ↦ λ h s. record { left = n; enough = omega arith; same = rw (f, g, e) (rw (lt-ltb pc lastpc k) at s) }
+      ]) (x .enough) (x .same)
 
   left-end : lastpc ≤ pc → SearchLeft l fs lastpc reg last pc → last ≡ lastWrite l fs lastpc reg lastpc 0 (length l - 1)
   unfolding lastWrite
-  left-end k x = by (x .left) (x .same)
-    where
-      by : (n : ℕ) → lastWrite l fs lastpc reg n pc last ≡ lastWrite l fs lastpc reg lastpc 0 (length l - 1) → last ≡ lastWrite l fs lastpc reg lastpc 0 (length l - 1)
-      by zero s = s
-      by (suc n) s = rw (le-ltb pc lastpc k) at s
+  left-end k x =
+      (elim (x .left) as (λ n. lastWrite l fs lastpc reg n pc last ≡ lastWrite l fs lastpc reg lastpc 0 (length l - 1) → last ≡ lastWrite l fs lastpc reg lastpc 0 (length l - 1)) [
+        | zero ↦ λ s. s
+        | suc n ↦ λ s. rw (le-ltb pc lastpc k) at s
+      ]) (x .same)
 
 -- so for each function whose code and functions stand there, the child kept being one of these
 pub record Traced (words : List ℕ) (code functions lastpc reg last : ℕ) (child : Child) (pc : ℕ) : Type 0 where

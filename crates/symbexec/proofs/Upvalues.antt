@@ -49,8 +49,6 @@ module _ {words : List ℕ} {functions x i : ℕ} {kept : Child} (e : x ≡ getD
             let n = counted fs e h in
             let y = item-there (children fs) i (omega arith) in
             let z = child-stands fs h v (omega (arith, c .0, children-count fs)) (c .1 k) (y .value) (rw (c .0) (y .is)) in
-            head-is text (y .value) (z .1) (z .0) ∙ ap upvaluesOf (sym (y .is));
+            (elim (y .value) as (λ f. Valid f depth → StandsAt words text (r .at) (functionPiece f) → head .«num_upvalues» ≡ upvaluesOf (some f)) [ Function.function p fs ↦ λ v h. rw (w p fs text (v .0) h) ]) (z .1) (z .0)
+            ∙ ap upvaluesOf (sym (y .is));
       }
-    where
-      head-is : (text : List ℕ) (f : Function) → Valid f depth → StandsAt words text (r .at) (functionPiece f) → head .«num_upvalues» ≡ upvaluesOf (some f)
-      head-is text (Function.function p fs) v h = rw (w p fs text (v .0) h)
