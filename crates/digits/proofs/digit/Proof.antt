@@ -5,10 +5,10 @@ use Rattle.digits.proofs.digit.Statement.{statement}
 use Rattle.digits.proofs.digit.Tie as tie
 
 returns : tie.Need-returns
-returns c = simp (lt-ltb _ _ (c .if1 .taken))
+returns c = search (needs, lt-ltb)
 
 returns-2 : tie.Need-returns-2
-returns-2 c = simp (le-ltb _ _ (c .if1 .left))
+returns-2 c = search (needs, le-ltb)
 
 pub digit-spec : {M : Type 1} → statement M
 digit-spec = tie.close (tie.spec

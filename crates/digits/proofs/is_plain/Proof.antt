@@ -6,16 +6,10 @@ use Rattle.digits.proofs.Strings.{escape-plain}
 use Rattle.digits.proofs.is_plain.Statement.{statement}
 use Rattle.digits.proofs.is_plain.Tie as tie
 
-returns : tie.Need-returns
-returns c e = absurd (false≢true e)
-
-returns-2 : tie.Need-returns-2
-returns-2 c e = absurd (false≢true e)
-
 returns-3 : tie.Need-returns-3
 returns-3 c e = escape-plain _ (c .before .before .if1 .left) (c .before .if2 .left) (sym (c .is-print .ensures) ∙ e)
 
 pub is-plain-spec : {M : Type 1} → statement M
-is-plain-spec = tie.close (tie.spec returns returns-2
-    (λ c. search needs)  -- is-print-requires
+is-plain-spec = tie.close (tie.spec
+    (λ c e. search needs) (λ c e. search needs) (λ c. search needs)  -- returns, returns-2, is-print-requires
     returns-3)

@@ -1,4 +1,5 @@
 -- The digits counted and those of what is left are those of n; each turn counts one and leaves the others.
+use borrow.Author.Needs.{needs}
 use Prim.Native.Nat.{_+_, _≤_}
 use mathlib.Core.Path.{_≡_, refl}
 use native.Mathlib.Omega.{arith}
@@ -13,9 +14,6 @@ Inv-loop n left₀ k₀ left k = (1 ≤ k) × (k + left ≤ 1 + n) × (k + place
 abbrev μ-loop : tie.MeasureT-loop
 μ-loop n left₀ k₀ left k = left
 
-loop-holds : tie.Need-loop-holds Inv-loop μ-loop
-loop-holds c = (omega arith, omega arith, refl)
-
 loop-again : tie.Need-loop-again Inv-loop μ-loop
 loop-again c = (omega arith, omega arith, omega (arith, places-more (c .before .loop .left) (omega arith) (omega arith)))
 
@@ -23,6 +21,6 @@ returns : tie.Need-returns Inv-loop μ-loop
 returns c = omega (arith, places-one (c .before .loop .left) (omega arith))
 
 pub places-long-spec : {M : Type 1} → statement M
-places-long-spec = tie.close (tie.spec Inv-loop μ-loop loop-holds
-    (λ c. omega arith) (λ c. omega arith)  -- add-k, loop-less
+places-long-spec = tie.close (tie.spec Inv-loop μ-loop
+    (λ c. search needs) (λ c. omega arith) (λ c. omega arith)  -- loop-holds, add-k, loop-less
     loop-again returns)

@@ -1,4 +1,5 @@
 -- The bytes passed are each written as itself, since `is_plain` said so.
+use borrow.Author.Needs.{needs}
 use Prim.Native.Nat.{_-_}
 use native.Mathlib.Omega.{arith}
 use lib.ListN.{length}
@@ -17,20 +18,14 @@ abbrev μ-loop : tie.MeasureT-loop
 loop-holds : tie.Need-loop-holds Inv-loop μ-loop
 loop-holds c = plain-none _ _ (omega arith)
 
-returns : tie.Need-returns Inv-loop μ-loop
-returns c = c .before .before .before .before .loop .inv
-
 loop-again : tie.Need-loop-again Inv-loop μ-loop
 loop-again c =
     let l = c .before .before .before .before .loop in
     plain-more _ _ _ (l .inv) (omega arith) (c .before .is-plain .ensures (not-false _ (c .if1 .left)))
 
-returns-2 : tie.Need-returns-2 Inv-loop μ-loop
-returns-2 c = c .before .loop .inv
-
 pub plain-end-spec : {M : Type 1} → statement M
 plain-end-spec = tie.close (tie.spec Inv-loop μ-loop loop-holds
-    (λ c. omega arith) (λ c. omega arith)  -- shared-slice-read-is-plain, is-plain-requires
-    returns
+    (λ c. omega arith) (λ c. omega arith) (λ c. search needs)  -- shared-slice-read-is-plain, is-plain-requires, returns
     (λ c. omega arith) (λ c. omega arith)  -- add-i, loop-less
-    loop-again returns-2)
+    loop-again
+    (λ c. search needs))  -- returns-2

@@ -9,7 +9,7 @@ use Rattle.digits.proofs.put_digits.Tie as tie
 -- All are past the end, some, or none.
 
 returns : tie.Need-returns
-returns c = put-lost (rw (← length-digits (c .before .before .before .args .base) (c .before .before .before .args .k) (c .before .before .before .args .n)) at (c .further .ensures)) (omega arith) refl
+returns c = search (needs, put-lost, length-digits)
 
 returns-3 : tie.Need-returns-3
 returns-3 c =

@@ -16,19 +16,8 @@ Inv-loop out₀ at s next₀ i₀ out next i = (i ≤ length s) × (length out �
 abbrev μ-loop : tie.MeasureT-loop
 μ-loop out₀ at s next₀ i₀ out next i = length s - i
 
-loop-holds : tie.Need-loop-holds Inv-loop μ-loop
-loop-holds c = (omega arith, refl, rest-start)
-
-same-length : tie.Need-same-length Inv-loop μ-loop
-same-length c =
-    let c₁ = c .before .before .before in let c₂ = c₁ .before .before .before .before .before in
-    c₁ .put-bytes .kept .0 ∙ c₂ .loop .inv .1
-
 returns : tie.Need-returns Inv-loop μ-loop
-returns c =
-    let c₁ = c .before .before .before in let c₂ = c₁ .before .before .before in let c₃ = c₂ .before .before in
-    let c₄ = c₃ .before .before .before in
-    rest-end (escaped-none (c₄ .args .s .now) (c₂ .plain-end .result) (omega arith)) (rest-put _ (c₂ .plain-end .ensures .same) (c₃ .loop .inv .2) (c₁ .put-bytes .ensures))
+returns c = search (needs, rest-end, escaped-none, rest-put)
 
 loop-again : tie.Need-loop-again Inv-loop μ-loop
 loop-again c =
@@ -42,17 +31,17 @@ loop-again c =
           (c₁ .put-escape .ensures),
     )
 
-same-length-2 : tie.Need-same-length-2 Inv-loop μ-loop
-same-length-2 c = c .before .loop .inv .1
-
 returns-2 : tie.Need-returns-2 Inv-loop μ-loop
-returns-2 c = rest-end (escaped-none (c .before .before .before .before .args .s .now) (c .before .loop .i) (omega arith)) (c .before .loop .inv .2)
+returns-2 c = search (needs, rest-end, escaped-none)
 
 pub put-escaped-spec : {M : Type 1} → statement M
-put-escaped-spec = tie.close (tie.spec Inv-loop μ-loop loop-holds
-    (λ c. omega arith) (λ c. omega arith) (λ c. omega arith)  -- plain-end-requires, sub-put-bytes, part-put-bytes-start
-    (λ c. omega arith) (λ c. search needs)  -- part-put-bytes-end, put-bytes-requires
-    same-length returns
+put-escaped-spec = tie.close (tie.spec Inv-loop μ-loop
+    (λ c. search needs) (λ c. omega arith) (λ c. omega arith)  -- loop-holds, plain-end-requires, sub-put-bytes
+    (λ c. omega arith) (λ c. omega arith)  -- part-put-bytes-start, part-put-bytes-end
+    (λ c. search needs) (λ c. search needs)  -- put-bytes-requires, same-length
+    returns
     (λ c. omega arith) (λ c. search needs)  -- shared-slice-read-put-escape, put-escape-requires
     (λ c. omega arith) (λ c. omega arith)  -- add-i, loop-less
-    loop-again same-length-2 returns-2)
+    loop-again
+    (λ c. search needs)  -- same-length-2
+    returns-2)

@@ -7,7 +7,7 @@ use Rattle.digits.proofs.store_decimal.Statement.{statement}
 use Rattle.digits.proofs.store_decimal.Tie as tie
 
 returns : tie.Need-returns
-returns c = rw (decimal-one (c .before .before .before .before .before .before .args .n) (omega arith)) (fit-within 10 (omega arith) (c .before .before .store-last .ensures))
+returns c = search (needs, decimal-one, fit-within)
 
 pub store-decimal-spec : {M : Type 1} → statement M
 store-decimal-spec = tie.close (tie.spec

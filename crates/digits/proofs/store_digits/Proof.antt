@@ -1,4 +1,5 @@
 -- What is left to store gives what all gives. Each turn stores the last digit of what is left.
+use borrow.Author.Needs.{needs}
 use native.Mathlib.Omega.{arith}
 use Prim.Native.Nat.{_≤_, _<_}
 use mathlib.Core.Path.{_≡_, refl}
@@ -16,9 +17,6 @@ Inv-loop out₀ at n k base left₀ i₀ out left i = (i ≤ k) × (length out �
 abbrev μ-loop : tie.MeasureT-loop
 μ-loop out₀ at n k base left₀ i₀ out left i = i
 
-loop-holds : tie.Need-loop-holds Inv-loop μ-loop
-loop-holds c = (omega arith, refl, refl)
-
 cast-digit : tie.Need-cast-digit Inv-loop μ-loop
 cast-digit c =
     let h : 0 < c .before .before .before .args .base = omega arith in
@@ -35,9 +33,6 @@ loop-again c =
     let a = c .before .before .before .before .args in
     (omega arith, simp length-set (l .inv .1), store-last (a .base) (l .left) (a .at) (l .i) (l .out) (omega arith) (rw (c .digit .ensures)) (l .inv .2))
 
-same-length : tie.Need-same-length Inv-loop μ-loop
-same-length c = c .before .loop .inv .1
-
 returns : tie.Need-returns Inv-loop μ-loop
 unfolding digits
 returns c =
@@ -45,9 +40,11 @@ returns c =
     rw e at (c .before .loop .inv .2)
 
 pub store-digits-spec : {M : Type 1} → statement M
-store-digits-spec = tie.close (tie.spec Inv-loop μ-loop loop-holds
-    (λ c. omega arith) (λ c. omega arith)  -- sub-i, rem-digit
+store-digits-spec = tie.close (tie.spec Inv-loop μ-loop
+    (λ c. search needs) (λ c. omega arith) (λ c. omega arith)  -- loop-holds, sub-i, rem-digit
     cast-digit digit-requires
     (λ c. omega arith) (λ c. omega arith) (λ c. omega arith)  -- add-out, slice-write-out, div-left
     (λ c. omega arith)  -- loop-less
-    loop-again same-length returns)
+    loop-again
+    (λ c. search needs)  -- same-length
+    returns)
