@@ -5,7 +5,7 @@ use Rattle.listing_comments.proofs.comment_items.Statement.{statement}
 use Rattle.listing_comments.proofs.comment_items.Tie as tie
 
 returns : tie.Need-returns
-returns c = put-then (c .before .before .before .before .before .before .put-comment .ensures) (c .before .before .put-decimal .ensures)
+returns c = search (needs, put-then)
 
 pub comment-items-spec : {M : Type 1} → statement M
 comment-items-spec = tie.close (tie.spec

@@ -13,7 +13,7 @@ use Rattle.listing_comments.proofs.comment_set_list.Statement.{statemen
 use Rattle.listing_comments.proofs.comment_set_list.Tie as tie
 
 returns : tie.Need-returns
-returns c = λ t. shows-is (shows-put (c .before .before .comment-items .ensures)) (λ l. rw (ne-eqb _ _ (c .before .before .before .before .if1 .taken)))
+returns c = search (needs, shows-is, shows-put, ne-eqb)
 
 returns-2 : tie.Need-returns-2
 returns-2 c = λ t. shows-is (shows-ints (shows-past word extraText {i = c .before .before .before .before .before .args .pc + 1} (c .before .word-at .ensures) (omega arith) put-none)) (λ l. rw (eq-eqb _ _ (c .before .before .if1 .left)))

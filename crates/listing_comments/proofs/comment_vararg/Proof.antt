@@ -5,7 +5,7 @@ use Rattle.listing_comments.proofs.comment_vararg.Statement.{statement}
 use Rattle.listing_comments.proofs.comment_vararg.Tie as tie
 
 returns : tie.Need-returns
-returns c = put-then (c .before .before .before .before .before .before .before .put-comment .ensures) (c .before .before .put-bytes .ensures)
+returns c = search (needs, put-then)
 
 pub comment-vararg-spec : {M : Type 1} → statement M
 comment-vararg-spec = tie.close (tie.spec

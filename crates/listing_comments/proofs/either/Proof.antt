@@ -1,14 +1,15 @@
 -- It is the first, or it is compared with the second.
+use borrow.Author.Needs.{needs}
 use borrow.Author.Tests.{eq-eqb, ne-eqb}
 use Rattle.listing_comments.proofs.Comments.{or-false}
 use Rattle.listing_comments.proofs.either.Statement.{statement}
 use Rattle.listing_comments.proofs.either.Tie as tie
 
 returns : tie.Need-returns
-returns c = rw (eq-eqb _ _ (c .if1 .taken))
+returns c = search (needs, eq-eqb)
 
 returns-2 : tie.Need-returns-2
-returns-2 c = rw (ne-eqb _ _ (c .if1 .left), or-false)
+returns-2 c = search (needs, ne-eqb, or-false)
 
 pub either-spec : {M : Type 1} → statement M
 either-spec = tie.close (tie.spec returns returns-2)

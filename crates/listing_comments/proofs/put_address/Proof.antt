@@ -5,7 +5,7 @@ use Rattle.listing_comments.proofs.put_address.Statement.{statement}
 use Rattle.listing_comments.proofs.put_address.Tie as tie
 
 returns : tie.Need-returns
-returns c = put-then (c .before .before .before .before .before .before .put-byte .ensures) (c .before .before .put-decimal .ensures)
+returns c = search (needs, put-then)
 
 pub put-address-spec : {M : Type 1} → statement M
 put-address-spec = tie.close (tie.spec
