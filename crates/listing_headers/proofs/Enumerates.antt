@@ -12,7 +12,7 @@ use Rattle.format.specs.Store.{Piece, list}
 use Rattle.proto.specs.Walk.{item, Skips, StandsAt}
 use Rattle.proto.proofs.Items.{list-count, list-item}
 use Rattle.listing_operands.specs.Shown.{Shows}
-use Rattle.listing_headers.specs.Tables.{enumerated}
+use Rattle.listing_headers.specs.Tables.{enumerated, title}
 
 -- the item at an index, and those behind it
 record ItemAt {A : Type 0} (l : List A) (i : ℕ) : Type 0 where
@@ -61,21 +61,30 @@ module _ {X A : Type 0} {ok : X → Type 0} {l : X → List A} {e : X → ℕ �
 
 -- ---- a list that stands in the words
 
-module _ {A : Type 0} (words text : List ℕ) (place : ℕ) (piece : A → Piece) (say : ℕ → A → List ℕ) where
-  -- before item i of whatever list stands there
-  abbrev pub EnumeratesList : ℕ → ℕ → List ℕ → ℕ → List ℕ → Type 0
-  EnumeratesList i at out start out₀ = Enumerates (λ (l : List A). StandsAt words text place (list piece l)) (λ l. l) (λ l. say) i at out start out₀
+-- before item i of whatever list stands there; the memory is as long as when the loop began
+pub record EnumeratesList {A : Type 0} (words text : List ℕ) (place : ℕ) (piece : A → Piece) (say : ℕ → A → List ℕ) (i at : ℕ) (out : List ℕ) (start : ℕ) (out₀ : List ℕ) : Type 0 where
+  pub kept : length out ≡ length out₀
+  pub left : Enumerates (λ (l : List A). StandsAt words text place (list piece l)) (λ l. l) (λ l. say) i at out start out₀
 
-  pub list-turn : {i n at start at′ r : ℕ} {out out₀ out′ : List ℕ} (k : ℕ) → ((a : A) (to : ℕ) → length (piece a .words to) ≡ k) → n ≡ getD words place 0 → i < n → EnumeratesList i at out start out₀
-      → Skips words (1 + k * i) place r → Shows words text r piece (say i) at out at′ out′ → EnumeratesList (i + 1) at′ out′ start out₀
-  list-turn {i} k w e h t s p = enumerates-turn (λ l x. e ∙ list-count piece l (x .stands)) h t (λ l x a q. p .shows a (list-item piece k w l i a q (x .stands) s))
+module _ {A : Type 0} {words text : List ℕ} {place : ℕ} {piece : A → Piece} {say : ℕ → A → List ℕ} where
+  pub list-start : {at : ℕ} {out : List ℕ} → EnumeratesList words text place piece say 0 at out at out
+  list-start = record { kept = refl; left = enumerates-start }
+
+  -- item i stands k words behind the one before it
+  pub list-turn : {i n k at start at′ r : ℕ} {out out₀ out′ : List ℕ} → EnumeratesList words text place piece say i at out start out₀ → Shows words text r piece (say i) at out at′ out′ → length out′ ≡ length out
+      → Skips words (1 + k * i) place r → ((a : A) (to : ℕ) → length (piece a .words to) ≡ k) → n ≡ getD words place 0 → i < n → EnumeratesList words text place piece say (i + 1) at′ out′ start out₀
+  list-turn {i} {k = k} t p same s w e h =
+      record {
+        kept = same ∙ t .kept;
+        left = enumerates-turn (λ l x. e ∙ list-count piece l (x .stands)) h (t .left) (λ l x a q. p .shows a (list-item piece k w l i a q (x .stands) s));
+      }
 
   -- behind a title
-  pub list-end : {i n at start mid : ℕ} {out out₀ out₁ : List ℕ} (title : ℕ → List ℕ) → n ≡ getD words place 0 → n ≤ i → Puts (title n) start out₀ mid out₁ → EnumeratesList i at out mid out₁
-      → Shows words text place (list piece) (λ l. title (length l) ++ enumerated say 0 l) start out₀ at out
-  list-end {n = n} title e h p t =
+  pub list-end : {i n at start mid : ℕ} {out out₀ out₁ : List ℕ} (what : List ℕ) (number : ℕ) → EnumeratesList words text place piece say i at out mid out₁ → Puts (title what n number) start out₀ mid out₁ → n ≡ getD words place 0 → n ≤ i
+      → Shows words text place (list piece) (λ l. title what (length l) number ++ enumerated say 0 l) start out₀ at out
+  list-end {n = n} what number t p e h =
       record {
         shows = λ l x.
             let q : n ≡ length l = e ∙ list-count piece l (x .stands) in
-            rw (← q) (put-then p (enumerates-end (λ l x. e ∙ list-count piece l (x .stands)) h t l x));
+            rw (← q) (put-then p (enumerates-end (λ l x. e ∙ list-count piece l (x .stands)) h (t .left) l x));
       }

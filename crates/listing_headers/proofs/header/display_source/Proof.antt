@@ -5,12 +5,6 @@ use Rattle.listing_headers.proofs.Headers.{display-cut, display-whole}
 use Rattle.listing_headers.proofs.header.display_source.Statement.{statement}
 use Rattle.listing_headers.proofs.header.display_source.Tie as tie
 
-returns : tie.Need-returns
-returns c = display-cut (c .before .before .before .before .args .source .now) (c .before .before .before .if1 .taken) (c .before .if2 .taken)
-
-returns-2 : tie.Need-returns-2
-returns-2 c = display-whole (c .before .before .before .args .source .now) (λ h e. c .if2 .left e)
-
 returns-3 : tie.Need-returns-3
 returns-3 c = display-whole (c .before .args .source .now) (λ h e. omega arith)
 
@@ -18,4 +12,6 @@ pub display-source-spec : {M : Type 1} → statement M
 display-source-spec = tie.close (tie.spec
     (λ c. search needs) (λ c. search needs) (λ c. search needs)  -- shared-slice-read-if2, sub-result, part-result-start
     (λ c. search needs)  -- part-result-end
-    returns returns-2 returns-3)
+    (λ c. search (needs, display-cut))  -- returns
+    (λ c. search (needs, display-whole))  -- returns-2
+    returns-3)

@@ -4,11 +4,8 @@ use Rattle.lent.proofs.Writes.{put-then}
 use Rattle.listing_headers.proofs.header.put_and_amount.Statement.{statement}
 use Rattle.listing_headers.proofs.header.put_and_amount.Tie as tie
 
-returns : tie.Need-returns
-returns c = put-then (c .before .before .before .before .before .before .put-bytes .ensures) (c .before .before .put-amount .ensures)
-
 pub put-and-amount-spec : {M : Type 1} → statement M
 put-and-amount-spec = tie.close (tie.spec
     (λ c. search needs) (λ c. search needs)  -- slice-aggregate-put-bytes, put-bytes-requires
     (λ c. search needs) (λ c. search needs)  -- put-amount-requires, same-length
-    returns)
+    (λ c. search (needs, put-then)))  -- returns
