@@ -24,17 +24,17 @@ or-false true = refl
 or-false false = refl
 
 -- an opcode is one of a list: of its first two, or of the others
-module _ (op : ℕ) {r : Bool} (a b : ℕ) (l : List ℕ) (e : r ≡ among op (a ∷ b ∷ [])) where
-  among-pair : (x y : Bool) → r ≡ (x || (y || false)) → (r ≡ true → (x || (y || among op l)) ≡ true) × (r ≡ false → (x || (y || among op l)) ≡ among op l)
+module _ (op a b : ℕ) (l : List ℕ) {r : Bool} where
+  among-pair : (x y : Bool) → r ≡ (x || (y || false)) → (r ≡ true → true ≡ (x || (y || among op l))) × (r ≡ false → among op l ≡ (x || (y || among op l)))
   among-pair true y q = (λ t. refl, λ f. absurd (true≢false (sym q ∙ f)))
   among-pair false true q = (λ t. refl, λ f. absurd (true≢false (sym q ∙ f)))
   among-pair false false q = (λ t. absurd (true≢false (sym t ∙ q)), λ f. refl)
 
-  pub among-one : r ≡ true → among op (a ∷ b ∷ l) ≡ true
-  among-one t = among-pair (eqb op a) (eqb op b) e .0 t
+  pub among-one : r ≡ among op (a ∷ b ∷ []) → r ≡ true → true ≡ among op (a ∷ b ∷ l)
+  among-one e t = among-pair (eqb op a) (eqb op b) e .0 t
 
-  pub among-rest : r ≡ false → among op (a ∷ b ∷ l) ≡ among op l
-  among-rest f = among-pair (eqb op a) (eqb op b) e .1 f
+  pub among-rest : {x : Bool} → r ≡ among op (a ∷ b ∷ []) → r ≡ false → x ≡ among op l → x ≡ among op (a ∷ b ∷ l)
+  among-rest e f h = h ∙ among-pair (eqb op a) (eqb op b) e .1 f
 
 -- ---- the number of the function that a CLOSURE makes
 

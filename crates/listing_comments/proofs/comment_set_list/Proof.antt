@@ -12,9 +12,6 @@ use Rattle.listing_operands.proofs.ShownLists.{shows-put, shows-is, shows-ints,
 use Rattle.listing_comments.proofs.comment_set_list.Statement.{statement}
 use Rattle.listing_comments.proofs.comment_set_list.Tie as tie
 
-returns : tie.Need-returns
-returns c = search (needs, shows-is, shows-put, ne-eqb)
-
 returns-2 : tie.Need-returns-2
 returns-2 c = λ t. shows-is (shows-ints (shows-past word extraText {i = c .before .before .before .before .before .args .pc + 1} (c .before .word-at .ensures) (omega arith) put-none)) (λ l. rw (eq-eqb _ _ (c .before .before .if1 .left)))
 
@@ -32,7 +29,7 @@ returns-4 c =
 pub comment-set-list-spec : {M : Type 1} → statement M
 comment-set-list-spec = tie.close (tie.spec
     (λ c. search needs) (λ c. search needs)  -- comment-items-requires, same-length
-    returns
+    (λ c. search (needs, shows-is, shows-put, ne-eqb))  -- returns
     (λ c. search needs)  -- word-at-requires
     returns-2
     (λ c. omega arith)  -- sub-if3

@@ -4,11 +4,8 @@ use Rattle.lent.proofs.Writes.{put-then}
 use Rattle.listing_comments.proofs.comment_vararg.Statement.{statement}
 use Rattle.listing_comments.proofs.comment_vararg.Tie as tie
 
-returns : tie.Need-returns
-returns c = search (needs, put-then)
-
 pub comment-vararg-spec : {M : Type 1} → statement M
 comment-vararg-spec = tie.close (tie.spec
     (λ c. search needs) (λ c. search needs)  -- put-comment-requires, slice-aggregate-put-bytes
     (λ c. search needs) (λ c. search needs)  -- put-bytes-requires, same-length
-    returns)
+    (λ c. search (needs, put-then)))  -- returns

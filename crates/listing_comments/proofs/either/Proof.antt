@@ -5,11 +5,7 @@ use Rattle.listing_comments.proofs.Comments.{or-false}
 use Rattle.listing_comments.proofs.either.Statement.{statement}
 use Rattle.listing_comments.proofs.either.Tie as tie
 
-returns : tie.Need-returns
-returns c = search (needs, eq-eqb)
-
-returns-2 : tie.Need-returns-2
-returns-2 c = search (needs, ne-eqb, or-false)
-
 pub either-spec : {M : Type 1} → statement M
-either-spec = tie.close (tie.spec returns returns-2)
+either-spec = tie.close (tie.spec
+    (λ c. search (needs, eq-eqb))  -- returns
+    (λ c. search (needs, ne-eqb, or-false)))  -- returns-2
