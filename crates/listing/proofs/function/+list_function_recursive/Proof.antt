@@ -11,9 +11,9 @@ use Rattle.listing.specs.Lister.{progress}
 use Rattle.listing.proofs.Listers.{ListsAll, lists-none, lists-more, lists-function}
 use borrow.Fn.PlainCycle.{Measures, is, falls, and}
 use borrow.Fn.Kinds.{In}
-use Rattle.listing.proofs.function.list_function_recursive.Reads as list-function-recursive
-use Rattle.listing.proofs.function.list_function_recursive.Kinds as list-function-recursive-kinds
-use Rattle.listing.proofs.function.+list_function_recursive.Lts-list_function_recursive as list-function-recursive-lts
+use Rattle.listing.proofs.function.list_function_recursive.Reads as reads
+use Rattle.listing.proofs.function.list_function_recursive.Kinds as kinds
+use Rattle.listing.proofs.function.+list_function_recursive.Lts-list_function_recursive as own-lts
 use Rattle.lent.proofs.further.Reads as further-reads
 use Rattle.lent.proofs.put_byte.Reads as put-byte-reads
 use Rattle.listing.proofs.function.format_function.Reads as format-function-reads
@@ -25,83 +25,57 @@ use Rattle.proto.proofs.walk.word_at.Reads as word-at-reads
 use Rattle.listing.proofs.function.+list_function_recursive.{statement}
 use Rattle.listing.proofs.function.+list_function_recursive.Tie.{close}
 
-abbrev μ-list-function-recursive : Measures 5 list-function-recursive-kinds.ps ℕ
-μ-list-function-recursive κs a = a .1 .1 .1 .1 .1 .1 .1 .1 .0
+abbrev μ-allowance : Measures 5 kinds.ps ℕ
+μ-allowance κs a = a .1 .1 .1 .1 .1 .1 .1 .1 .0
 
-abbrev list-function-recursive-at : ℕ → In 5 list-function-recursive-kinds.ps
-list-function-recursive-at t =
-    and
-    5
-    list-function-recursive-kinds.ps
-    (is 5 list-function-recursive-kinds.ps μ-list-function-recursive t)
-    list-function-recursive.Pre
+abbrev here : ℕ → In 5 kinds.ps
+here t = and 5 kinds.ps (is 5 kinds.ps μ-allowance t) reads.Pre
 
-abbrev list-function-recursive-below : ℕ → In 5 list-function-recursive-kinds.ps
-list-function-recursive-below t =
-    and
-    5
-    list-function-recursive-kinds.ps
-    (falls 5 list-function-recursive-kinds.ps _<_ μ-list-function-recursive t)
-    list-function-recursive.Pre
+abbrev below : ℕ → In 5 kinds.ps
+below t = and 5 kinds.ps (falls 5 kinds.ps _<_ μ-allowance t) reads.Pre
 
-abbrev list-function-recursive-calls : ℕ → list-function-recursive-lts.Claims
-list-function-recursive-calls t = (source-of-reads.Asked, source-of-reads.Learnt, format-function-reads.Asked, format-function-reads.Learnt, functions-at-reads.Asked, functions-at-reads.Learnt, word-at-reads.Asked, word-at-reads.Learnt, skip-reads.Asked, skip-reads.Learnt, further-reads.Asked, further-reads.Learnt, put-byte-reads.Asked, put-byte-reads.Learnt, list-function-recursive-below t, list-function-recursive.Post, after-debug-reads.Asked, after-debug-reads.Learnt)
+abbrev calls : ℕ → own-lts.Claims
+calls t = (source-of-reads.Asked, source-of-reads.Learnt, format-function-reads.Asked, format-function-reads.Learnt, functions-at-reads.Asked, functions-at-reads.Learnt, word-at-reads.Asked, word-at-reads.Learnt, skip-reads.Asked, skip-reads.Learnt, further-reads.Asked, further-reads.Learnt, put-byte-reads.Asked, put-byte-reads.Learnt, below t, reads.Post, after-debug-reads.Asked, after-debug-reads.Learnt)
 
-abbrev list-function-recursive-Inv-loop : list-function-recursive-lts.InvT-loop
-list-function-recursive-Inv-loop words text outer full out₀ begins₀ lines₀ allowance source own list n r₀ i₀ out begins lines r i =
+abbrev Inv-loop : own-lts.InvT-loop
+Inv-loop words text outer full out₀ begins₀ lines₀ allowance source own list n r₀ i₀ out begins lines r i =
     (length out ≡ length out₀)
     × (length begins ≡ length begins₀)
     × (length lines ≡ length lines₀)
     × LinesKept words begins lines
     × Loop (ListsAll words text full source (allowance - 1)) n (progress r₀ out₀) i (progress r out)
 
-abbrev list-function-recursive-μ-loop : list-function-recursive-lts.MeasureT-loop
-list-function-recursive-μ-loop words text outer full out₀ begins₀ lines₀ allowance source own list n r₀ i₀ out begins lines r i = n - i
+abbrev μ-loop : own-lts.MeasureT-loop
+μ-loop words text outer full out₀ begins₀ lines₀ allowance source own list n r₀ i₀ out begins lines r i = n - i
 
-list-function-recursive-returns : (t : ℕ) → list-function-recursive-lts.Need-returns (list-function-recursive-calls t) (list-function-recursive-at t) list-function-recursive.Post list-function-recursive-Inv-loop list-function-recursive-μ-loop
-list-function-recursive-returns t c = (c .before .before .before .before .before .before .before .pre .1, λ f v. absurd (none-deep (c .if1 .taken) f v))
+returns : (t : ℕ) → own-lts.Need-returns (calls t) (here t) reads.Post Inv-loop μ-loop
+returns t c = (c .before .before .before .before .before .before .before .pre .1, λ f v. absurd (none-deep (c .if1 .taken) f v))
 
-list-function-recursive-sub-format-function :
-    (t : ℕ) → list-function-recursive-lts.Need-sub-format-function (list-function-recursive-calls t) (list-function-recursive-at t)
-    list-function-recursive.Post
-    list-function-recursive-Inv-loop
-    list-function-recursive-μ-loop
-list-function-recursive-sub-format-function t c = omega (arith, c .before .before .before .before .if1 .left)
+sub-format-function : (t : ℕ) → own-lts.Need-sub-format-function (calls t) (here t) reads.Post Inv-loop μ-loop
+sub-format-function t c = omega (arith, c .before .before .before .before .if1 .left)
 
-list-function-recursive-format-function-requires :
-    (t : ℕ) → list-function-recursive-lts.Need-format-function-requires (list-function-recursive-calls t) (list-function-recursive-at t)
-    list-function-recursive.Post
-    list-function-recursive-Inv-loop
-    list-function-recursive-μ-loop
-list-function-recursive-format-function-requires t c κs =
+format-function-requires : (t : ℕ) → own-lts.Need-format-function-requires (calls t) (here t) reads.Post Inv-loop μ-loop
+format-function-requires t c κs =
     let c₁ = c .before .before .before .before .before .before .before .before .before .before .before in
     c₁ .pre .1
 
-list-function-recursive-loop-holds : (t : ℕ) → list-function-recursive-lts.Need-loop-holds (list-function-recursive-calls t) (list-function-recursive-at t) list-function-recursive.Post list-function-recursive-Inv-loop list-function-recursive-μ-loop
-list-function-recursive-loop-holds t c = (refl, refl, refl, c .before .before .before .before .before .before .before .before .before .before .format-function .ensures .0, loop-start)
+loop-holds : (t : ℕ) → own-lts.Need-loop-holds (calls t) (here t) reads.Post Inv-loop μ-loop
+loop-holds t c = (refl, refl, refl, c .before .before .before .before .before .before .before .before .before .before .format-function .ensures .0, loop-start)
 
-list-function-recursive-sub-list-function-recursive :
-    (t : ℕ) → list-function-recursive-lts.Need-sub-list-function-recursive (list-function-recursive-calls t) (list-function-recursive-at t)
-    list-function-recursive.Post
-    list-function-recursive-Inv-loop
-    list-function-recursive-μ-loop
-list-function-recursive-sub-list-function-recursive t c =
+sub-list-function-recursive : (t : ℕ) → own-lts.Need-sub-list-function-recursive (calls t) (here t) reads.Post Inv-loop μ-loop
+sub-list-function-recursive t c =
     let c₁ = c .before .before .before .before .before .before .before .before .before .before .before .before .before .before .before .before .before .before .before .before .before .before .before .before in
     omega (arith, c₁ .if1 .left)
 
-list-function-recursive-list-function-recursive-requires :
-    (t : ℕ) → list-function-recursive-lts.Need-list-function-recursive-requires (list-function-recursive-calls t) (list-function-recursive-at t)
-    list-function-recursive.Post
-    list-function-recursive-Inv-loop
-    list-function-recursive-μ-loop
-list-function-recursive-list-function-recursive-requires t c κs =
+list-function-recursive-requires : (t : ℕ) → own-lts.Need-list-function-recursive-requires (calls t) (here t) reads.Post Inv-loop μ-loop
+list-function-recursive-requires t c κs =
     let c₁ = c .before .before .before .before .before .before .before .before in
     let c₂ = c₁ .before .before .before .before .before .before .before .before .before .before .before .before .before .before .before .before in
     let c₃ = c₂ .before .before .before .before .before .before .before in
     (omega (arith, c₃ .pre .0, c₂ .if1 .left), c₁ .loop .inv .3)
 
-list-function-recursive-loop-again : (t : ℕ) → list-function-recursive-lts.Need-loop-again (list-function-recursive-calls t) (list-function-recursive-at t) list-function-recursive.Post list-function-recursive-Inv-loop list-function-recursive-μ-loop
-list-function-recursive-loop-again t c =
+loop-again : (t : ℕ) → own-lts.Need-loop-again (calls t) (here t) reads.Post Inv-loop μ-loop
+loop-again t c =
     let c₁ = c .before .before .before .before .before .before in
     let c₂ = c₁ .before .before .before .before .before .before in let c₃ = c₂ .before .before .before in
     let l = c₃ .loop .inv in
@@ -114,26 +88,26 @@ list-function-recursive-loop-again t c =
       loop-turn (omega arith) (l .4) (lists-more (y .ensures) (x .ensures .1)),
     )
 
-list-function-recursive-same-length : (t : ℕ) → list-function-recursive-lts.Need-same-length (list-function-recursive-calls t) (list-function-recursive-at t) list-function-recursive.Post list-function-recursive-Inv-loop list-function-recursive-μ-loop
-list-function-recursive-same-length t c =
+same-length : (t : ℕ) → own-lts.Need-same-length (calls t) (here t) reads.Post Inv-loop μ-loop
+same-length t c =
     let c₁ = c .before .before in
     let c₂ = c₁ .before .before .before .before .before .before .before .before .before .before .before in
     c₁ .loop .inv .0 ∙ c₂ .format-function .kept .1 .1 .1 .1 .0
 
-list-function-recursive-same-length-2 : (t : ℕ) → list-function-recursive-lts.Need-same-length-2 (list-function-recursive-calls t) (list-function-recursive-at t) list-function-recursive.Post list-function-recursive-Inv-loop list-function-recursive-μ-loop
-list-function-recursive-same-length-2 t c =
+same-length-2 : (t : ℕ) → own-lts.Need-same-length-2 (calls t) (here t) reads.Post Inv-loop μ-loop
+same-length-2 t c =
     let c₁ = c .before .before in
     let c₂ = c₁ .before .before .before .before .before .before .before .before .before .before .before in
     c₁ .loop .inv .1 ∙ c₂ .format-function .kept .1 .1 .1 .1 .1 .0
 
-list-function-recursive-same-length-3 : (t : ℕ) → list-function-recursive-lts.Need-same-length-3 (list-function-recursive-calls t) (list-function-recursive-at t) list-function-recursive.Post list-function-recursive-Inv-loop list-function-recursive-μ-loop
-list-function-recursive-same-length-3 t c =
+same-length-3 : (t : ℕ) → own-lts.Need-same-length-3 (calls t) (here t) reads.Post Inv-loop μ-loop
+same-length-3 t c =
     let c₁ = c .before .before in
     let c₂ = c₁ .before .before .before .before .before .before .before .before .before .before .before in
     c₁ .loop .inv .2 ∙ c₂ .format-function .kept .1 .1 .1 .1 .1 .1 .0
 
-list-function-recursive-returns-2 : (t : ℕ) → list-function-recursive-lts.Need-returns-2 (list-function-recursive-calls t) (list-function-recursive-at t) list-function-recursive.Post list-function-recursive-Inv-loop list-function-recursive-μ-loop
-list-function-recursive-returns-2 t c =
+returns-2 : (t : ℕ) → own-lts.Need-returns-2 (calls t) (here t) reads.Post Inv-loop μ-loop
+returns-2 t c =
     let c₁ = c .before .before in let c₂ = c₁ .before in let c₃ = c₂ .before in let c₄ = c₃ .before in
     let c₅ = c₄ .before in let c₆ = c₅ .before .before .before .before .before .before .before in
     let c₇ = c₆ .before .before .before .before in let c₈ = c₇ .before in
@@ -144,18 +118,16 @@ list-function-recursive-returns-2 t c =
     (c₁ .loop .inv .3, rw e (lists-function n (c₇ .source-of .ensures) (c₆ .format-function .ensures .1) (c₅ .functions-at .ensures) (c₄ .word-at .ensures) (c₃ .skip .ensures) (c₂ .further .ensures) (loop-end (omega arith) (c₁ .loop .inv .4) lists-none) (c .after-debug .ensures)))
 
 pub +list-function-recursive-spec : {M : Type 1} → statement M
-+list-function-recursive-spec = close μ-list-function-recursive λ t. list-function-recursive-lts.spec
-    (list-function-recursive-calls t) (list-function-recursive-at t) list-function-recursive.Post
-    list-function-recursive-Inv-loop list-function-recursive-μ-loop (list-function-recursive-returns t)
++list-function-recursive-spec = close μ-allowance λ t. own-lts.spec (calls t) (here t) reads.Post Inv-loop μ-loop
+    (returns t)
     (λ c. search needs)  -- source-of-requires
-    (list-function-recursive-sub-format-function t) (list-function-recursive-format-function-requires t)
+    (sub-format-function t) (format-function-requires t)
     (λ c. search needs) (λ c. search needs)  -- functions-at-requires, word-at-requires
     (λ c. search needs) (λ c. search needs)  -- skip-requires, further-requires
-    (list-function-recursive-loop-holds t)
+    (loop-holds t)
     (λ c. search needs)  -- put-byte-requires
-    (list-function-recursive-sub-list-function-recursive t) (list-function-recursive-list-function-recursive-requires t)
+    (sub-list-function-recursive t) (list-function-recursive-requires t)
     (λ c. omega arith) (λ c. omega arith)  -- add-i, loop-less
-    (list-function-recursive-loop-again t)
+    (loop-again t)
     (λ c. search needs)  -- after-debug-requires
-    (list-function-recursive-same-length t) (list-function-recursive-same-length-2 t)
-    (list-function-recursive-same-length-3 t) (list-function-recursive-returns-2 t)
+    (same-length t) (same-length-2 t) (same-length-3 t) (returns-2 t)
