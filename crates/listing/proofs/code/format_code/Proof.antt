@@ -17,18 +17,6 @@ abbrev μ-loop : tie.MeasureT-loop
 loop-holds : tie.Need-loop-holds Inv-loop μ-loop
 loop-holds c = (refl, codes-start (c .first-child .ensures .1 _))
 
-loop-again : tie.Need-loop-again Inv-loop μ-loop
-loop-again c =
-    let c₁ = c .before .before in let c₂ = c₁ .before .before in let c₃ = c₂ .before in let c₄ = c₃ .before in
-    let c₅ = c₄ .before .before in let c₆ = c₅ .before .before in
-    (c₁ .format-instruction .kept .1 .1 .1 .1 .1 .1 .0 ∙ c₅ .loop .inv .0, codes-turn (c₆ .word-at .ensures) (omega arith) (c₅ .loop .inv .1) (c₄ .item-at .ensures) (c₃ .word-at2 .ensures) (c₂ .closure-child .ensures) (c₁ .format-instruction .ensures))
-
-same-length : tie.Need-same-length Inv-loop μ-loop
-same-length c = c .before .loop .inv .0
-
-returns : tie.Need-returns Inv-loop μ-loop
-returns c = codes-end (c .before .before .before .word-at .ensures) (omega arith) (c .before .loop .inv .1)
-
 pub format-code-spec : {M : Type 1} → statement M
 format-code-spec = tie.close (tie.spec Inv-loop μ-loop
     (λ c. search needs) (λ c. search needs)  -- word-at-requires, first-child-requires
@@ -36,4 +24,6 @@ format-code-spec = tie.close (tie.spec Inv-loop μ-loop
     (λ c. search needs) (λ c. search needs)  -- item-at-requires, word-at-requires-2
     (λ c. search needs) (λ c. search needs)  -- closure-child-requires, format-instruction-requires
     (λ c. omega arith) (λ c. omega arith)  -- add-pc, loop-less
-    loop-again same-length returns)
+    (λ c. search (needs, codes-turn))  -- loop-again
+    (λ c. search needs)  -- same-length
+    (λ c. search (needs, codes-end)))  -- returns

@@ -51,22 +51,6 @@ abbrev μ-loop : own-lts.MeasureT-loop
 returns : (t : ℕ) → own-lts.Need-returns (calls t) (here t) reads.Post Inv-loop μ-loop
 returns t c = (c .before .before .before .before .before .before .before .pre .1, λ f v. absurd (none-deep (c .if1 .taken) f v))
 
-sub-format-function : (t : ℕ) → own-lts.Need-sub-format-function (calls t) (here t) reads.Post Inv-loop μ-loop
-sub-format-function t c = omega (arith, c .before .before .before .before .if1 .left)
-
-format-function-requires : (t : ℕ) → own-lts.Need-format-function-requires (calls t) (here t) reads.Post Inv-loop μ-loop
-format-function-requires t c κs =
-    let c₁ = c .before .before .before .before .before .before .before .before .before .before .before in
-    c₁ .pre .1
-
-loop-holds : (t : ℕ) → own-lts.Need-loop-holds (calls t) (here t) reads.Post Inv-loop μ-loop
-loop-holds t c = (refl, refl, refl, c .before .before .before .before .before .before .before .before .before .before .format-function .ensures .0, loop-start)
-
-sub-list-function-recursive : (t : ℕ) → own-lts.Need-sub-list-function-recursive (calls t) (here t) reads.Post Inv-loop μ-loop
-sub-list-function-recursive t c =
-    let c₁ = c .before .before .before .before .before .before .before .before .before .before .before .before .before .before .before .before .before .before .before .before .before .before .before .before in
-    omega (arith, c₁ .if1 .left)
-
 list-function-recursive-requires : (t : ℕ) → own-lts.Need-list-function-recursive-requires (calls t) (here t) reads.Post Inv-loop μ-loop
 list-function-recursive-requires t c κs =
     let c₁ = c .before .before .before .before .before .before .before .before in
@@ -88,24 +72,6 @@ loop-again t c =
       loop-turn (omega arith) (l .4) (lists-more (y .ensures) (x .ensures .1)),
     )
 
-same-length : (t : ℕ) → own-lts.Need-same-length (calls t) (here t) reads.Post Inv-loop μ-loop
-same-length t c =
-    let c₁ = c .before .before in
-    let c₂ = c₁ .before .before .before .before .before .before .before .before .before .before .before in
-    c₁ .loop .inv .0 ∙ c₂ .format-function .kept .1 .1 .1 .1 .0
-
-same-length-2 : (t : ℕ) → own-lts.Need-same-length-2 (calls t) (here t) reads.Post Inv-loop μ-loop
-same-length-2 t c =
-    let c₁ = c .before .before in
-    let c₂ = c₁ .before .before .before .before .before .before .before .before .before .before .before in
-    c₁ .loop .inv .1 ∙ c₂ .format-function .kept .1 .1 .1 .1 .1 .0
-
-same-length-3 : (t : ℕ) → own-lts.Need-same-length-3 (calls t) (here t) reads.Post Inv-loop μ-loop
-same-length-3 t c =
-    let c₁ = c .before .before in
-    let c₂ = c₁ .before .before .before .before .before .before .before .before .before .before .before in
-    c₁ .loop .inv .2 ∙ c₂ .format-function .kept .1 .1 .1 .1 .1 .1 .0
-
 returns-2 : (t : ℕ) → own-lts.Need-returns-2 (calls t) (here t) reads.Post Inv-loop μ-loop
 returns-2 t c =
     let c₁ = c .before .before in let c₂ = c₁ .before in let c₃ = c₂ .before in let c₄ = c₃ .before in
@@ -120,14 +86,14 @@ returns-2 t c =
 pub +list-function-recursive-spec : {M : Type 1} → statement M
 +list-function-recursive-spec = close μ-allowance λ t. own-lts.spec (calls t) (here t) reads.Post Inv-loop μ-loop
     (returns t)
-    (λ c. search needs)  -- source-of-requires
-    (sub-format-function t) (format-function-requires t)
-    (λ c. search needs) (λ c. search needs)  -- functions-at-requires, word-at-requires
-    (λ c. search needs) (λ c. search needs)  -- skip-requires, further-requires
-    (loop-holds t)
-    (λ c. search needs)  -- put-byte-requires
-    (sub-list-function-recursive t) (list-function-recursive-requires t)
+    (λ c. search needs) (λ c. search needs)  -- source-of-requires, sub-format-function
+    (λ c. search needs) (λ c. search needs)  -- format-function-requires, functions-at-requires
+    (λ c. search needs) (λ c. search needs) (λ c. search needs)  -- word-at-requires, skip-requires, further-requires
+    (λ c. search (needs, loop-start))  -- loop-holds
+    (λ c. search needs) (λ c. search needs)  -- put-byte-requires, sub-list-function-recursive
+    (list-function-recursive-requires t)
     (λ c. omega arith) (λ c. omega arith)  -- add-i, loop-less
     (loop-again t)
-    (λ c. search needs)  -- after-debug-requires
-    (same-length t) (same-length-2 t) (same-length-3 t) (returns-2 t)
+    (λ c. search needs) (λ c. search needs) (λ c. search needs)  -- after-debug-requires, same-length, same-length-2
+    (λ c. search needs)  -- same-length-3
+    (returns-2 t)

@@ -5,12 +5,6 @@ use Rattle.lent.proofs.Writes.{put-then, put-none}
 use Rattle.listing.proofs.function.format_lists.Statement.{statement}
 use Rattle.listing.proofs.function.format_lists.Tie as tie
 
-same-length : tie.Need-same-length
-same-length c =
-    let c₁ = c .before .before in let c₂ = c₁ .before .before .before .before in
-    let c₃ = c₂ .before .before .before .before in
-    c₁ .format-upvalues .kept .1 .1 .1 .1 .0 ∙ c₂ .format-locals .kept .1 .1 .1 .1 .0 ∙ c₃ .format-constants .kept .1 .1 .1 .1 .0
-
 returns : tie.Need-returns
 returns c =
     let c₁ = c .before .before in let c₂ = c₁ .before .before .before .before in
@@ -23,5 +17,5 @@ returns-2 c = λ p fs l. rw (c .if1 .left) put-none
 pub format-lists-spec : {M : Type 1} → statement M
 format-lists-spec = tie.close (tie.spec
     (λ c. search needs) (λ c. search needs)  -- format-constants-requires, format-locals-requires
-    (λ c. search needs)  -- format-upvalues-requires
-    same-length returns returns-2)
+    (λ c. search needs) (λ c. search needs)  -- format-upvalues-requires, same-length
+    returns returns-2)
