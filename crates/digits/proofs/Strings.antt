@@ -15,15 +15,11 @@ use Rattle.digits.specs.Digits.{digits, letters, letterIn, isPrint, esca
 
 -- ---- one byte
 
-letter-none : (rows : List (ℕ × ℕ)) (b : ℕ) → Every (λ row. b ≡ row .0 → ⊥) rows → letterIn rows b ≡ 0
+-- a byte that is none of a table's has no letter in it
+pub letter-none : (rows : List (ℕ × ℕ)) (b : ℕ) → Every (λ row. b ≡ row .0 → ⊥) rows → letterIn rows b ≡ 0
 unfolding letterIn Every
 letter-none [] b h = refl
 letter-none (row ∷ rows) b h = rw (ne-eqb b (row .0) (h .0)) (letter-none rows b (h .1))
-
--- none of the bytes that have a letter
-pub no-letter : (b : ℕ) → (b ≡ 34 → ⊥) → (b ≡ 92 → ⊥) → (b ≡ 7 → ⊥) → (b ≡ 8 → ⊥) → (b ≡ 12 → ⊥) → (b ≡ 10 → ⊥) → (b ≡ 13 → ⊥) → (b ≡ 9 → ⊥) → (b ≡ 11 → ⊥) → letterIn letters b ≡ 0
-unfolding Every
-no-letter b h₁ h₂ h₃ h₄ h₅ h₆ h₇ h₈ h₉ = letter-none letters b (h₁, (h₂, (h₃, (h₄, (h₅, (h₆, (h₇, (h₈, (h₉, tt)))))))))
 
 pub escape-letter : (b : ℕ) → 0 < letterIn letters b → escape b ≡ 92 ∷ letterIn letters b ∷ []
 unfolding escape
@@ -40,9 +36,10 @@ module _ (b : ℕ) (none : letterIn letters b ≡ 0) where
 
 -- a byte that has no letter because it is no quote, no backslash and no control byte
 pub escape-plain : (b : ℕ) → (b ≡ 34 → ⊥) → (b ≡ 92 → ⊥) → isPrint b ≡ true → escape b ≡ b ∷ []
+unfolding Every
 escape-plain b quote backslash h =
     let l : 32 ≤ b = leb-true 32 b (and-eq-true-iff (leb 32 b) (leb b 126) .0 h .0) in
-    escape-print b (no-letter b quote backslash (λ e. omega arith) (λ e. omega arith) (λ e. omega arith) (λ e. omega arith) (λ e. omega arith) (λ e. omega arith) (λ e. omega arith)) h
+    escape-print b (letter-none letters b (omega arith)) h
 
 -- ---- bytes one after the other
 

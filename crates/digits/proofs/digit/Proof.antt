@@ -4,13 +4,8 @@ use borrow.Author.Tests.{lt-ltb, le-ltb}
 use Rattle.digits.proofs.digit.Statement.{statement}
 use Rattle.digits.proofs.digit.Tie as tie
 
-returns : tie.Need-returns
-returns c = search (needs, lt-ltb)
-
-returns-2 : tie.Need-returns-2
-returns-2 c = search (needs, le-ltb)
-
 pub digit-spec : {M : Type 1} → statement M
 digit-spec = tie.close (tie.spec
     (λ c. search needs) (λ c. search needs)  -- add-result, add-result-2
-    returns returns-2)
+    (λ c. search (needs, lt-ltb))  -- returns
+    (λ c. search (needs, le-ltb)))  -- returns-2

@@ -17,10 +17,8 @@ abbrev μ-loop : tie.MeasureT-loop
 loop-again : tie.Need-loop-again Inv-loop μ-loop
 loop-again c = (omega arith, omega arith, omega (arith, places-more (c .before .loop .left) (omega arith) (omega arith)))
 
-returns : tie.Need-returns Inv-loop μ-loop
-returns c = omega (arith, places-one (c .before .loop .left) (omega arith))
-
 pub places-long-spec : {M : Type 1} → statement M
 places-long-spec = tie.close (tie.spec Inv-loop μ-loop
     (λ c. search needs) (λ c. omega arith) (λ c. omega arith)  -- loop-holds, add-k, loop-less
-    loop-again returns)
+    loop-again
+    (λ c. omega (arith, places-one (c .before .loop .left) (omega arith))))  -- returns

@@ -8,9 +8,6 @@ use Rattle.digits.proofs.put_digits.Tie as tie
 
 -- All are past the end, some, or none.
 
-returns : tie.Need-returns
-returns c = search (needs, put-lost, length-digits)
-
 returns-3 : tie.Need-returns-3
 returns-3 c =
     let c₁ = c .before .before in let c₂ = c₁ .before .before in let c₃ = c₂ .before .before .before .before in
@@ -29,7 +26,7 @@ returns-5 c =
 pub put-digits-spec : {M : Type 1} → statement M
 put-digits-spec = tie.close (tie.spec
     (λ c. search needs)  -- further-requires
-    returns
+    (λ c. search (needs, put-lost, length-digits))  -- returns
     (λ c. search needs) (λ c. search needs) (λ c. search needs)  -- sub-if2, cut-digits-requires, same-length
     (λ c. search needs) (λ c. search needs) (λ c. search needs)  -- returns-2, store-digits-requires, add-result
     (λ c. search needs)  -- same-length-2

@@ -16,9 +16,6 @@ Inv-loop out₀ at s next₀ i₀ out next i = (i ≤ length s) × (length out �
 abbrev μ-loop : tie.MeasureT-loop
 μ-loop out₀ at s next₀ i₀ out next i = length s - i
 
-returns : tie.Need-returns Inv-loop μ-loop
-returns c = search (needs, rest-end, escaped-none, rest-put)
-
 loop-again : tie.Need-loop-again Inv-loop μ-loop
 loop-again c =
     let c₁ = c .before .before in let c₂ = c₁ .before .before .before .before .before .before in
@@ -31,17 +28,14 @@ loop-again c =
           (c₁ .put-escape .ensures),
     )
 
-returns-2 : tie.Need-returns-2 Inv-loop μ-loop
-returns-2 c = search (needs, rest-end, escaped-none)
-
 pub put-escaped-spec : {M : Type 1} → statement M
 put-escaped-spec = tie.close (tie.spec Inv-loop μ-loop
     (λ c. search needs) (λ c. omega arith) (λ c. omega arith)  -- loop-holds, plain-end-requires, sub-put-bytes
     (λ c. omega arith) (λ c. omega arith)  -- part-put-bytes-start, part-put-bytes-end
     (λ c. search needs) (λ c. search needs)  -- put-bytes-requires, same-length
-    returns
+    (λ c. search (needs, rest-end, escaped-none, rest-put))  -- returns
     (λ c. omega arith) (λ c. search needs)  -- shared-slice-read-put-escape, put-escape-requires
     (λ c. omega arith) (λ c. omega arith)  -- add-i, loop-less
     loop-again
     (λ c. search needs)  -- same-length-2
-    returns-2)
+    (λ c. search (needs, rest-end, escaped-none)))  -- returns-2

@@ -1,7 +1,6 @@
 -- A number above 1 is past the list.
 use mathlib.Core.Path.{sym}
 use mathlib.Core.List.{[], _∷_}
-use Prim.Native.Nat.{_≤_}
 use native.Mathlib.Omega.{arith}
 use lib.ListN.{List·getD-eq-default}
 use borrow.Author.Needs.{needs}
@@ -9,12 +8,7 @@ use Rattle.instructions.specs.declared.OpMode.the-variants.{IABC, IABx, 
 use Rattle.instructions.proofs.mode_of.Statement.{statement}
 use Rattle.instructions.proofs.mode_of.Tie as tie
 
-returns-3 : tie.Need-returns-3
-returns-3 c =
-    let past : 2 ≤ c .before .args .n = omega arith in
-    sym (List·getD-eq-default (IABC ∷ IABx ∷ []) IAsBx past)
-
 pub mode-of-spec : {M : Type 1} → statement M
 mode-of-spec = tie.close (tie.spec
     (λ c. search needs) (λ c. search needs)  -- returns, returns-2
-    returns-3)
+    (λ c. sym (List·getD-eq-default (IABC ∷ IABx ∷ []) IAsBx {n = c .before .args .n} (omega arith))))  -- returns-3

@@ -1,13 +1,10 @@
 -- Either way the test decides `orMove`.
+use borrow.Author.Needs.{needs}
 use borrow.Author.Tests.{lt-ltb, le-ltb}
 use Rattle.instructions.proofs.or_move.Statement.{statement}
 use Rattle.instructions.proofs.or_move.Tie as tie
 
-returns : tie.Need-returns
-returns c = simp (lt-ltb _ _ (c .if1 .taken))
-
-returns-2 : tie.Need-returns-2
-returns-2 c = simp (le-ltb _ _ (c .if1 .left))
-
 pub or-move-spec : {M : Type 1} → statement M
-or-move-spec = tie.close (tie.spec returns returns-2)
+or-move-spec = tie.close (tie.spec
+    (λ c. search (needs, lt-ltb))  -- returns
+    (λ c. search (needs, le-ltb)))  -- returns-2

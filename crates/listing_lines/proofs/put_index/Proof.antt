@@ -4,14 +4,8 @@ use Rattle.lent.proofs.Writes.{put-then}
 use Rattle.listing_lines.proofs.put_index.Statement.{statement}
 use Rattle.listing_lines.proofs.put_index.Tie as tie
 
-returns : tie.Need-returns
-returns c =
-    let c₁ = c .before .before in let c₂ = c₁ .before .before .before .before in
-    let c₃ = c₂ .before .before .before .before in
-    put-then (c₃ .put-byte .ensures) (put-then (c₂ .put-decimal .ensures) (c₁ .put-byte2 .ensures))
-
 pub put-index-spec : {M : Type 1} → statement M
 put-index-spec = tie.close (tie.spec
     (λ c. search needs) (λ c. search needs)  -- put-byte-requires, put-decimal-requires
     (λ c. search needs) (λ c. search needs)  -- put-byte-requires-2, same-length
-    returns)
+    (λ c. search (needs, put-then)))  -- returns

@@ -9,15 +9,10 @@ returns c =
     let c₁ = c .before .before in let c₂ = c₁ .before .before in let c₃ = c₂ .before .before in
     rw (c₃ .k .given .1, ← c₂ .part .ensures) (c₁ .repair .ensures)
 
-returns-2 : tie.Need-returns-2
-returns-2 c =
-    let c₁ = c .before .before in let c₂ = c₁ .before .before in let c₃ = c₂ .before .before .before in
-    raw-other (c₃ .args .text .now) (c₃ .args .k) (c₂ .match .keys2) (c₁ .put-constant .ensures)
-
 pub put-constant-raw-spec : {M : Type 1} → statement M
 put-constant-raw-spec = tie.close (tie.spec
     (λ c. search needs) (λ c. search needs) (λ c. search needs)  -- enum-known-k, part-requires, repair-requires
     (λ c. search needs) (λ c. search needs)  -- put-constant-requires, same-length
     returns
     (λ c. search needs)  -- same-length-2
-    returns-2)
+    (λ c. search (needs, raw-other)))  -- returns-2

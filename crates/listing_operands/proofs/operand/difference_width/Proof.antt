@@ -9,12 +9,9 @@ use Rattle.listing_operands.proofs.operand.difference_width.Tie as tie
 returns : tie.Need-returns
 returns c = rw (lt-ltb _ _ (c .before .if1 .taken)) (width-then width-byte (c .width .ensures))
 
-returns-2 : tie.Need-returns-2
-returns-2 c = rw (le-ltb _ _ (c .before .if1 .left)) (width-within 11 (omega arith) (c .width2 .ensures))
-
 pub difference-width-spec : {M : Type 1} → statement M
 difference-width-spec = tie.close (tie.spec
     (λ c. search needs) (λ c. search needs) (λ c. search needs)  -- sub-width, width-requires, add-result
     returns
     (λ c. search needs)  -- width-requires-2
-    returns-2)
+    (λ c. search (needs, le-ltb, width-within)))  -- returns-2
