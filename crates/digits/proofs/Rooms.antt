@@ -1,13 +1,14 @@
 -- Laws of writing where there is room, and of how much is needed.
-use Prim.Native.Nat.{ℕ, _+_, _/_, _%_, _^_, _≤_, _<_}
+use Prim.Native.Nat.{ℕ, _+_, _-_, _/_, _%_, _^_, _≤_, _<_}
 use mathlib.Core.Path.{_≡_, refl}
+use mathlib.Core.Bool.{Bool, true, false, cond}
 use mathlib.Core.List.{List, [], _∷_, _++_}
 use native.Mathlib.Omega.{arith}
 use lib.ListN.{length, take, drop, set, length-append}
 use lib.Seq.{sets, sets-eq, take-at}
 use Rattle.lent.specs.Memory.{Puts, far}
 use Rattle.lent.proofs.Writes.{put-stored, put-none, put-then, put-fits}
-use Rattle.digits.specs.Digits.{digit, decimal}
+use Rattle.digits.specs.Digits.{digit, decimal, negative}
 use Rattle.digits.specs.Room.{PutsWithin, Width}
 use Rattle.digits.proofs.Numbers.{decimal-more}
 
@@ -23,6 +24,18 @@ fit-then p q = let x = p .upto in let y = q .upto in record { puts = put-then (p
 -- with more room than is needed
 pub fit-within : {items : List ℕ} {m at at′ : ℕ} (n : ℕ) {out out′ : List ℕ} → m ≤ n → PutsWithin items m at out at′ out′ → PutsWithin items n at out at′ out′
 fit-within n h p = let x = p .upto in record { puts = p .puts; upto = omega arith }
+
+-- the last items of so many, and those in front of them
+pub fit-end : {a b : List ℕ} {n k at mid end : ℕ} {out out′ out″ : List ℕ} → PutsWithin b n mid out′ end out″ → n ≤ k → PutsWithin a (k - n) at out mid out′ → PutsWithin (a ++ b) k at out end out″
+fit-end q h p = let x = p .upto in let y = q .upto in record { puts = put-then (p .puts) (q .puts); upto = omega arith }
+
+-- under a test whose outcome is known
+module _ {b r : Bool} (x y : List ℕ) {m at at′ : ℕ} {out out′ : List ℕ} where
+  pub fit-if : r ≡ b → r ≡ true → PutsWithin x m at out at′ out′ → PutsWithin (cond b x y) m at out at′ out′
+  fit-if e t p = rw (← e, t) p
+
+  pub fit-else : r ≡ b → r ≡ false → PutsWithin y m at out at′ out′ → PutsWithin (cond b x y) m at out at′ out′
+  fit-else e t p = rw (← e, t) p
 
 -- a number but for its last digit, and that
 pub fit-last : (n : ℕ) {m at mid end : ℕ} {out out′ out″ : List ℕ} → 10 ≤ n → n < 2 ^ 64 → PutsWithin (decimal (n / 10)) m at out mid out′ → PutsWithin (digit (n % 10) ∷ []) 1 mid out′ end out″ → PutsWithin (decimal n) (m + 1) at out end out″
@@ -65,3 +78,16 @@ width-then {a} {b} p q =
 
 pub width-within : {items : List ℕ} {m r : ℕ} (n : ℕ) → m ≤ n → Width items m r → Width items n r
 width-within n h p = let g = p .upto in record { is = p .is; upto = omega arith }
+
+pub width-end : {a b : List ℕ} {n k x y : ℕ} → Width b n y → n ≤ k → Width a (k - n) x → Width (a ++ b) k (x + y)
+width-end {a} {b} q h p = width-within _ (omega arith) (width-then p q)
+
+pub width-negative : (n : ℕ) {w : ℕ} → Width (decimal n) 10 w → Width (negative n) 11 (1 + w)
+width-negative n p = width-then width-byte p
+
+module _ {b r : Bool} (x y : List ℕ) {m n : ℕ} where
+  pub width-if : r ≡ b → r ≡ true → Width x m n → Width (cond b x y) m n
+  width-if e t p = rw (← e, t) p
+
+  pub width-else : r ≡ b → r ≡ false → Width y m n → Width (cond b x y) m n
+  width-else e t p = rw (← e, t) p

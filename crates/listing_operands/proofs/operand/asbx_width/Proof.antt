@@ -1,13 +1,12 @@
 -- JMP has no A, the others have.
 use borrow.Author.Needs.{needs}
-use native.Mathlib.Omega.{arith}
 use borrow.Author.Tests.{eq-eqb, ne-eqb}
 use Rattle.digits.proofs.Rooms.{width-byte, width-then, width-within}
 use Rattle.listing_operands.proofs.operand.asbx_width.Statement.{statement}
 use Rattle.listing_operands.proofs.operand.asbx_width.Tie as tie
 
 returns : tie.Need-returns
-returns c = rw (eq-eqb _ _ (c .if1 .taken), ← c .before .before .bx .ensures) (width-within 22 (omega arith) (c .before .difference-width .ensures))
+returns c = rw (← c .before .before .bx .ensures) (search (needs, eq-eqb, width-within))
 
 returns-2 : tie.Need-returns-2
 returns-2 c = rw (ne-eqb _ _ (c .before .before .if1 .left), ← c .before .a .ensures, ← c .before .before .before .before .bx .ensures) (width-then (width-then (c .width .ensures) width-byte) (c .before .before .before .difference-width .ensures))

@@ -1,15 +1,11 @@
 -- The operand is a constant, or not.
 use borrow.Author.Needs.{needs}
-use native.Mathlib.Omega.{arith}
-use Rattle.digits.proofs.Rooms.{width-byte, width-then, width-within}
+use Rattle.digits.proofs.Rooms.{width-within, width-if, width-else, width-negative}
 use Rattle.listing_operands.proofs.operand.rk_width.Statement.{statement}
 use Rattle.listing_operands.proofs.operand.rk_width.Tie as tie
 
 returns : tie.Need-returns
-returns c = rw (← c .before .before .before .is-k .ensures, c .before .before .if1 .taken, ← c .before .index-k .ensures) (width-then width-byte (c .width .ensures))
-
-returns-2 : tie.Need-returns-2
-returns-2 c = rw (← c .before .before .is-k .ensures, c .before .if1 .left) (width-within 11 (omega arith) (c .width2 .ensures))
+returns c = rw (← c .before .index-k .ensures) (search (needs, width-if, width-negative))
 
 pub rk-width-spec : {M : Type 1} → statement M
 rk-width-spec = tie.close (tie.spec
@@ -17,4 +13,4 @@ rk-width-spec = tie.close (tie.spec
     (λ c. search needs) (λ c. search needs)  -- width-requires, add-result
     returns
     (λ c. search needs)  -- width-requires-2
-    returns-2)
+    (λ c. search (needs, width-else, width-within)))  -- returns-2

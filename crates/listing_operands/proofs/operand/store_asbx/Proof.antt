@@ -1,15 +1,12 @@
 -- JMP has no A, the others have.
 use borrow.Author.Needs.{needs}
-use native.Mathlib.Omega.{arith}
 use borrow.Author.Tests.{eq-eqb, ne-eqb}
 use Rattle.digits.proofs.Rooms.{fit-then, fit-within}
 use Rattle.listing_operands.proofs.operand.store_asbx.Statement.{statement}
 use Rattle.listing_operands.proofs.operand.store_asbx.Tie as tie
 
 returns : tie.Need-returns
-returns c =
-    let c₁ = c .before .before in let c₂ = c₁ .before .before in let c₃ = c₂ .before in
-    rw (eq-eqb _ _ (c₃ .if1 .taken), ← c₂ .bx .ensures) (fit-within 22 (omega arith) (c₁ .store-difference .ensures))
+returns c = rw (← c .before .before .before .before .bx .ensures) (search (needs, eq-eqb, fit-within))
 
 returns-2 : tie.Need-returns-2
 returns-2 c =
