@@ -10,8 +10,6 @@ use Rattle.digits.proofs.Rooms.{stored}
 use Rattle.digits.proofs.cut_digits.Statement.{statement}
 use Rattle.digits.proofs.cut_digits.Tie as tie
 
--- The digits stand at the start of all.
-
 slice-aggregate-put-bytes : tie.Need-slice-aggregate-put-bytes
 slice-aggregate-put-bytes c = sym (length-take-le _ _ (omega arith))
 

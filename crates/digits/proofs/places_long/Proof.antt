@@ -1,7 +1,7 @@
 -- The digits counted and those of what is left are those of n; each turn counts one and leaves the others.
 use borrow.Author.Needs.{needs}
 use Prim.Native.Nat.{_+_, _≤_}
-use mathlib.Core.Path.{_≡_, refl}
+use mathlib.Core.Path.{_≡_}
 use native.Mathlib.Omega.{arith}
 use Rattle.digits.specs.Digits.{places}
 use Rattle.digits.proofs.Numbers.{places-one, places-more}

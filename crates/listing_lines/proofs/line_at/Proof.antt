@@ -5,8 +5,6 @@ use Rattle.listing_lines.proofs.Lines.{line-past, line-there}
 use Rattle.listing_lines.proofs.line_at.Statement.{statement}
 use Rattle.listing_lines.proofs.line_at.Tie as tie
 
--- Past the count there is no line, before it line pc stands there.
-
 returns : tie.Need-returns
 returns c = λ t l s. sym (line-past (c .before .word-at .ensures) s (c .if1 .taken))
 

@@ -1,8 +1,7 @@
 -- What is left to write are the lines from pc on, and kept is a child; closure_child gives the child that a CLOSURE names.
 use borrow.Author.Needs.{needs}
-use native.Mathlib.Omega.{arith}
 use Prim.Native.Nat.{_-_}
-use mathlib.Core.Path.{_≡_, refl, _∙_}
+use mathlib.Core.Path.{_≡_, refl}
 use lib.ListN.{length}
 use Rattle.listing.proofs.Codes.{Codes, codes-start, codes-turn, codes-end}
 use Rattle.listing.proofs.code.format_code.Statement.{statement}
@@ -23,7 +22,7 @@ format-code-spec = tie.close (tie.spec Inv-loop μ-loop
     loop-holds
     (λ c. search needs) (λ c. search needs)  -- item-at-requires, word-at-requires-2
     (λ c. search needs) (λ c. search needs)  -- closure-child-requires, format-instruction-requires
-    (λ c. omega arith) (λ c. omega arith)  -- add-pc, loop-less
+    (λ c. search needs) (λ c. search needs)  -- add-pc, loop-less
     (λ c. search (needs, codes-turn))  -- loop-again
     (λ c. search needs)  -- same-length
     (λ c. search (needs, codes-end)))  -- returns
