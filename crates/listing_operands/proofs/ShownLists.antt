@@ -19,7 +19,10 @@ use Rattle.proto.proofs.Pieces.{stands-same}
 use Rattle.proto.proofs.Items.{item-past, item-there, ints-list, list-count, list-item}
 use Rattle.listing_operands.specs.Shown.{Shows}
 use Rattle.instructions.specs.OpCodes.{opModes}
+use Rattle.instructions.specs.declared.OpMode.{OpMode}
 use Rattle.instructions.specs.declared.OpModes.{OpModes}
+use Rattle.digits.specs.Room.{PutsWithin, Width}
+use Rattle.digits.proofs.Rooms.{fit-within, width-within}
 use Rattle.listing_operands.specs.Operands.{constantText, rawText, operandsOf, formatOperands}
 use mathlib.Core.Logic.{⊎-elim}
 use types.Run.{OneOf}
@@ -79,6 +82,12 @@ raw-other text (String a b) h p = absurd (⊎-elim (λ e. omega arith) (λ m. �
 
 -- ---- operands by the attributes of an opcode
 
-pub by-modes : (op i : ℕ) (m : OpModes) → m ≡ opModes op → formatOperands op i ≡ operandsOf (m .mode) m op i
+by-modes : (op i : ℕ) {m : OpModes} {k : OpMode} → m ≡ opModes op → m .mode ≡ k → formatOperands op i ≡ operandsOf k m op i
 unfolding formatOperands
-by-modes op i m e = rw e
+by-modes op i e f = rw (← e, f)
+
+pub fit-operands : (op i : ℕ) {m : OpModes} {k : OpMode} {n at at′ : ℕ} {out out′ : List ℕ} → m ≡ opModes op → m .mode ≡ k → PutsWithin (operandsOf k m op i) n at out at′ out′ → n ≤ 34 → PutsWithin (formatOperands op i) 34 at out at′ out′
+fit-operands op i e f p h = rw (by-modes op i e f) (fit-within 34 h p)
+
+pub width-operands : (op i : ℕ) {m : OpModes} {k : OpMode} {n w : ℕ} → m ≡ opModes op → m .mode ≡ k → Width (operandsOf k m op i) n w → n ≤ 34 → Width (formatOperands op i) 34 w
+width-operands op i e f p h = rw (by-modes op i e f) (width-within 34 h p)
