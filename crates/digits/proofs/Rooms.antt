@@ -7,14 +7,10 @@ use native.Mathlib.Omega.{arith}
 use lib.ListN.{length, take, drop, set, length-append}
 use lib.Seq.{sets, sets-eq, take-at}
 use Rattle.lent.specs.Memory.{Puts, far}
-use Rattle.lent.proofs.Writes.{put-stored, put-none, put-within, put-then, put-fits}
+use Rattle.lent.proofs.Writes.{put-stored, put-none, put-room, put-then, put-fits}
 use Rattle.digits.specs.Digits.{digit, digits, decimal, negative}
 use Rattle.digits.specs.Room.{PutsWithin, Width}
 use Rattle.digits.proofs.Numbers.{decimal-more, length-digits}
-
--- a byte, then others
-pub put-first : {x at mid end : ℕ} {b out out′ out″ : List ℕ} → Puts (x ∷ []) at out mid out′ → Puts b mid out′ end out″ → Puts (x ∷ b) at out end out″
-put-first p q = put-then p q
 
 pub fit-none : {at : ℕ} {out : List ℕ} → PutsWithin [] 0 at out at out
 fit-none = record { puts = put-none; upto = omega arith }
@@ -62,7 +58,7 @@ fit-written p h k =
 
 -- digits that fit are stored, in a base that is known
 pub digits-stored : (b base k n : ℕ) {at : ℕ} {out out′ : List ℕ} → out′ ≡ sets out at (digits b k n) → base ≡ b → at < length out → k ≤ length out - at → Puts (digits base k n) at out (at + k) out′
-digits-stored b base k n p e h r = let l = length-digits b k n in rw e (put-within (omega arith) (omega arith) p)
+digits-stored b base k n p e h r = let l = length-digits b k n in rw e (put-room (omega arith) h (omega arith) p)
 
 -- what was stored at the start of a buffer
 pub stored : (items out : List ℕ) (n : ℕ) → length items ≡ n → n ≤ length out → take n (sets out 0 items) ≡ items

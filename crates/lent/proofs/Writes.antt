@@ -126,9 +126,9 @@ module _ {items : List ℕ} {at at′ : ℕ} {out out′ : List ℕ} where
       let q = p .puts (omega arith) k in
       (omega arith, q .1 ∙ sets-eq items out at h)
 
--- the items fit, and no place stops
-pub put-within : {items : List ℕ} {at at′ : ℕ} {out out′ : List ℕ} → at′ ≡ at + length items → at + length items ≤ length out → out′ ≡ sets out at items → Puts items at out at′ out′
-put-within p h q = record { puts = λ i k. (omega arith, q) }
+-- the items fit, so that no place stops
+pub put-room : {items : List ℕ} {at at′ : ℕ} {out out′ : List ℕ} → at′ ≡ at + length items → at < length out → length items ≤ length out - at → out′ ≡ sets out at items → Puts items at out at′ out′
+put-room p h r q = record { puts = λ i k. (omega arith, q) }
 
 -- ---- writes one after the other
 
@@ -142,6 +142,10 @@ put-then {a} {b} {at} {mid} {end} {out} {out′} p q =
           let l : length (a ++ b) ≡ length a + length b = length-append a b in
           (omega arith, y .1 ∙ rw (x .0, x .1) (sets-far a b out at k));
     }
+
+-- an item, then others
+pub put-first : {x at mid end : ℕ} {b out out′ out″ : List ℕ} → Puts (x ∷ []) at out mid out′ → Puts b mid out′ end out″ → Puts (x ∷ b) at out end out″
+put-first p q = put-then p q
 
 -- ---- writes in a loop
 

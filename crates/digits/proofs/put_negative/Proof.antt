@@ -1,6 +1,6 @@
 -- The sign, then the number.
 use borrow.Author.Needs.{needs}
-use Rattle.digits.proofs.Rooms.{put-first}
+use Rattle.lent.proofs.Writes.{put-first}
 use Rattle.digits.proofs.put_negative.Statement.{statement}
 use Rattle.digits.proofs.put_negative.Tie as tie
 

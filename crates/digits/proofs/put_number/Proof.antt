@@ -1,6 +1,6 @@
 -- 0x, then the digits.
 use borrow.Author.Needs.{needs}
-use Rattle.digits.proofs.Rooms.{put-first}
+use Rattle.lent.proofs.Writes.{put-first}
 use Rattle.digits.proofs.put_number.Statement.{statement}
 use Rattle.digits.proofs.put_number.Tie as tie
 

@@ -1,7 +1,6 @@
 -- A quote, the string, a quote.
 use borrow.Author.Needs.{needs}
-use Rattle.digits.proofs.Rooms.{put-first}
-use Rattle.lent.proofs.Writes.{put-then}
+use Rattle.lent.proofs.Writes.{put-first, put-then}
 use Rattle.digits.proofs.put_quoted.Statement.{statement}
 use Rattle.digits.proofs.put_quoted.Tie as tie
 
