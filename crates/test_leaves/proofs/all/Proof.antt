@@ -1,6 +1,5 @@
 -- The loop ends: each turn that goes on stands farther on in the records.
 use Prim.Native.Nat.{_-_}
-use native.Mathlib.Omega.{arith}
 use lib.ListN.{length}
 use borrow.Author.Needs.{needs}
 use Rattle.test_leaves.proofs.all.Statement.{statement}
@@ -12,15 +11,8 @@ Inv-loop records t₀ t = Unit {0}
 abbrev μ-loop : tie.MeasureT-loop
 μ-loop records t₀ t = length records - t .at
 
-loop-holds : tie.Need-loop-holds Inv-loop μ-loop
-loop-holds c = tt
-
-loop-again : tie.Need-loop-again Inv-loop μ-loop
-loop-again c = tt
-
 pub all-spec : {M : Type 1} → statement M
-all-spec = tie.close (tie.spec Inv-loop μ-loop loop-holds
-    (λ c. search needs) (λ c. search needs) (λ c. search needs)  -- record-at-requires, returns, counted-requires
-    (λ c. omega arith)  -- loop-less
-    loop-again
+all-spec = tie.close (tie.spec Inv-loop μ-loop
+    (λ c. search needs) (λ c. search needs) (λ c. search needs)  -- loop-holds, record-at-requires, returns
+    (λ c. search needs) (λ c. search needs) (λ c. search needs)  -- counted-requires, loop-less, loop-again
     (λ c. search needs))  -- returns-2
