@@ -13,7 +13,7 @@ put-digits-requires c κs =
     search needs
 
 returns : tie.Need-returns
-returns c = rw (← c .before .before .before .places .ensures) (c .before .before .put-digits .ensures)
+returns c = search (needs, ← c .before .before .before .places .ensures)
 
 pub put-decimal-spec : {M : Type 1} → statement M
 put-decimal-spec = tie.close (tie.spec

@@ -2,17 +2,13 @@
 use borrow.Author.Needs.{needs}
 use mathlib.Core.Path.{sym, _∙_}
 use native.Mathlib.Omega.{arith}
-use Rattle.lent.proofs.Writes.{put-then}
+use Rattle.lent.proofs.Writes.{put-then, put-first}
 use Rattle.digits.proofs.Strings.{escape-letter, escape-print, escape-digits}
 use Rattle.digits.proofs.put_escape.Statement.{statement}
 use Rattle.digits.proofs.put_escape.Tie as tie
 
 returns : tie.Need-returns
-returns c =
-    let c₁ = c .before .before in let c₂ = c₁ .before .before .before .before in let c₃ = c₂ .before .before .before in
-    let c₄ = c₃ .before .before in
-    let e = c₃ .letter .ensures in
-    rw (escape-letter (c₄ .args .b) (omega arith), ← e) (put-then (c₂ .put-byte .ensures) (c₁ .put-byte2 .ensures))
+returns c = search (needs, escape-letter, put-first, ← c .before .before .before .before .before .before .before .before .before .letter .ensures)
 
 returns-2 : tie.Need-returns-2
 returns-2 c =

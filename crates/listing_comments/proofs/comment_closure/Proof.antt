@@ -6,13 +6,10 @@ use Rattle.listing_comments.proofs.comment_closure.Statement.{statement
 use Rattle.listing_comments.proofs.comment_closure.Tie as tie
 
 returns : tie.Need-returns
-returns c =
-    let c₁ = c .before .before in let c₂ = c₁ .before .before .before .before in let c₃ = c₂ .before .before in
-    let c₄ = c₃ .before in
-    rw (← c₄ .word-at .ensures, lt-ltb _ _ (c₃ .if1 .taken)) (put-then (c₂ .put-comment .ensures) (c₁ .put-address .ensures))
+returns c = search (needs, put-then, lt-ltb, ← c .before .before .before .before .before .before .before .before .before .word-at .ensures)
 
 returns-2 : tie.Need-returns-2
-returns-2 c = rw (← c .before .word-at .ensures, le-ltb _ _ (c .if1 .left)) put-none
+returns-2 c = search (needs, le-ltb, put-none, ← c .before .word-at .ensures)
 
 pub comment-closure-spec : {M : Type 1} → statement M
 comment-closure-spec = tie.close (tie.spec

@@ -5,10 +5,7 @@ use Rattle.listing_comments.proofs.comment_jump.Statement.{statement}
 use Rattle.listing_comments.proofs.comment_jump.Tie as tie
 
 returns : tie.Need-returns
-returns c =
-    let c₁ = c .before .before in let c₂ = c₁ .before .before in let c₃ = c₂ .before .before .before in
-    let c₄ = c₃ .before .before .before .before .before in
-    rw (← c₂ .bx .ensures) (put-then (c₄ .put-comment .ensures) (put-then (c₃ .put-bytes .ensures) (c₁ .put-difference .ensures)))
+returns c = search (needs, put-then, ← c .before .before .before .before .bx .ensures)
 
 pub comment-jump-spec : {M : Type 1} → statement M
 comment-jump-spec = tie.close (tie.spec

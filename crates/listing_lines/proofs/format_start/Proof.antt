@@ -1,13 +1,11 @@
 -- All of it is past the end, some, or none.
 use borrow.Author.Needs.{needs}
-use native.Mathlib.Omega.{arith}
-use mathlib.Core.Path.{refl}
 use Rattle.lent.proofs.Writes.{put-lost}
 use Rattle.listing_lines.proofs.format_start.Statement.{statement}
 use Rattle.listing_lines.proofs.format_start.Tie as tie
 
 returns : tie.Need-returns
-returns c = put-lost (rw (c .before .start-width .ensures .is) at (c .further .ensures)) (omega arith) refl
+returns c = search (needs, put-lost, ← c .before .start-width .ensures .is)
 
 pub format-start-spec : {M : Type 1} → statement M
 format-start-spec = tie.close (tie.spec

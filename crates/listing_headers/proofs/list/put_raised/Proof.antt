@@ -5,9 +5,7 @@ use Rattle.listing_headers.proofs.list.put_raised.Statement.{statement}
 use Rattle.listing_headers.proofs.list.put_raised.Tie as tie
 
 returns : tie.Need-returns
-returns c =
-    let c₁ = c .before .before in let c₂ = c₁ .before in let c₃ = c₂ .before .before .before .before in
-    rw (← c₂ .wrapping-add-u32 .ensures) (put-then (c₃ .put-byte .ensures) (c₁ .put-decimal .ensures))
+returns c = search (needs, put-then, ← c .before .before .before .wrapping-add-u32 .ensures)
 
 pub put-raised-spec : {M : Type 1} → statement M
 put-raised-spec = tie.close (tie.spec

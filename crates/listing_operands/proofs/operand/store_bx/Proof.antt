@@ -1,14 +1,12 @@
 -- Bx is a constant's index, or not.
 use borrow.Author.Needs.{needs}
 use native.Mathlib.Omega.{arith}
-use Rattle.digits.proofs.Rooms.{fit-within}
+use Rattle.digits.proofs.Rooms.{fit-within, fit-if}
 use Rattle.listing_operands.proofs.operand.store_bx.Statement.{statement}
 use Rattle.listing_operands.proofs.operand.store_bx.Tie as tie
 
 returns : tie.Need-returns
-returns c =
-    let c₁ = c .before .before in let c₂ = c₁ .before .before in let c₃ = c₂ .before in let c₄ = c₃ .before in
-    rw (← c₃ .is-constant .ensures, c₂ .if1 .taken, ← c₄ .bx .ensures) (c₁ .store-negative .ensures)
+returns c = search (needs, fit-if, ← c .before .before .before .before .before .before .bx .ensures)
 
 returns-2 : tie.Need-returns-2
 returns-2 c =
