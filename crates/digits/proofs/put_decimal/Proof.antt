@@ -12,12 +12,9 @@ put-digits-requires c κs =
     let m : places (c .before .before .before .args .n) ≤ 20 = places-most 20 19 (c .before .before .before .args .n) (omega arith) in
     search needs
 
-returns : tie.Need-returns
-returns c = search (needs, ← c .before .before .before .places .ensures)
-
 pub put-decimal-spec : {M : Type 1} → statement M
 put-decimal-spec = tie.close (tie.spec
     (λ c. search needs)  -- places-requires
     put-digits-requires
     (λ c. search needs)  -- same-length
-    returns)
+    (λ c. search (needs, ← c .before .before .before .places .ensures)))  -- returns

@@ -6,9 +6,6 @@ use Rattle.instructions.proofs.Table.{looked-up}
 use Rattle.instructions.proofs.op_modes.Statement.{statement}
 use Rattle.instructions.proofs.op_modes.Tie as tie
 
-array-read-modes-of-byte : tie.Need-array-read-modes-of-byte
-array-read-modes-of-byte c = rw (c .or-move .ensures) (opcode-known (c .before .before .args .op))
-
 returns : tie.Need-returns
 returns c =
     let table = c .before .before .op-mode-bytes in
@@ -19,6 +16,6 @@ returns c =
 pub op-modes-spec : {M : Type 1} → statement M
 op-modes-spec = tie.close (tie.spec
     (λ c. search needs) (λ c. search needs) (λ c. search needs)  -- op-mode-bytes-requires, or-move-requires, cast-n
-    array-read-modes-of-byte
+    (λ c. search (needs, opcode-known, c .or-move .ensures))  -- array-read-modes-of-byte
     (λ c. search needs)  -- modes-of-byte-requires
     returns)

@@ -6,9 +6,6 @@ use Rattle.instructions.proofs.Laws.{one-shifted}
 use Rattle.instructions.proofs.placed.Statement.{statement}
 use Rattle.instructions.proofs.placed.Tie as tie
 
-rem-result : tie.Need-rem-result
-rem-result c = rw (one-shifted (c .args .size) (c .pre .1)) (pow-pos (c .args .size))
-
 returns : tie.Need-returns
 returns c =
     let a = c .args in
@@ -17,6 +14,6 @@ returns c =
 pub placed-spec : {M : Type 1} → statement M
 placed-spec = tie.close (tie.spec
     (λ c. search needs)  -- shl-result
-    rem-result
+    (λ c. search (needs, one-shifted, pow-pos))  -- rem-result
     (λ c. search needs)  -- shl-result-2
     returns)

@@ -6,10 +6,10 @@ use Rattle.listing_lines.proofs.line_at.Statement.{statement}
 use Rattle.listing_lines.proofs.line_at.Tie as tie
 
 returns : tie.Need-returns
-returns c = λ t l s. sym (line-past (c .before .word-at .ensures) s (c .if1 .taken))
+returns c t l s = sym (search (needs, line-past))
 
 returns-2 : tie.Need-returns-2
-returns-2 c = λ t l s. sym (line-there (c .before .before .before .word-at .ensures) s (c .before .before .if1 .left) (c .before .item-at .ensures) (c .word-at2 .ensures))
+returns-2 c t l s = sym (search (needs, line-there))
 
 pub line-at-spec : {M : Type 1} → statement M
 line-at-spec = tie.close (tie.spec

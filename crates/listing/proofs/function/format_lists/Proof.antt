@@ -10,11 +10,9 @@ returns c =
     let c₃ = c₂ .before .before .before .before in let c₄ = c₃ .before .before in
     λ p fs l. rw (c₄ .if1 .taken) (put-then (put-then (c₃ .format-constants .ensures .shows (p .constants) (l .constants)) (c₂ .format-locals .ensures .shows (p .debug .locals) (l .locals))) (c₁ .format-upvalues .ensures .shows (p .debug .upvalues) (l .upvalues)))
 
-returns-2 : tie.Need-returns-2
-returns-2 c = λ p fs l. rw (c .if1 .left) put-none
-
 pub format-lists-spec : {M : Type 1} → statement M
 format-lists-spec = tie.close (tie.spec
     (λ c. search needs) (λ c. search needs)  -- format-constants-requires, format-locals-requires
     (λ c. search needs) (λ c. search needs)  -- format-upvalues-requires, same-length
-    returns returns-2)
+    returns
+    (λ c p fs l. search (needs, put-none, c .if1 .left)))  -- returns-2

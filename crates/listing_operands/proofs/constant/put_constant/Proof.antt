@@ -4,25 +4,19 @@ use Rattle.listing_operands.proofs.constant.put_constant.Statement.{sta
 use Rattle.listing_operands.proofs.constant.put_constant.Tie as tie
 
 returns : tie.Need-returns
-returns c = rw (c .before .before .before .before .before .enum-told .given .1) (c .before .before .put-bytes .ensures)
+returns c = search (needs, c .before .before .before .before .before .enum-told .given .1)
 
 returns-2 : tie.Need-returns-2
-returns-2 c =
-    let c₁ = c .before .before in let c₂ = c₁ .before .before .before in let c₃ = c₂ .before .before in
-    rw (c₃ .k .given .1, c₂ .if1 .taken) (c₁ .put-bytes2 .ensures)
+returns-2 c = search (needs, c .before .before .before .before .before .before .before .k .given .1, c .before .before .before .before .before .if1 .taken)
 
 returns-3 : tie.Need-returns-3
-returns-3 c =
-    let c₁ = c .before .before in let c₂ = c₁ .before .before .before in let c₃ = c₂ .before .before in
-    rw (c₃ .k .given .1, c₂ .if1 .left) (c₁ .put-bytes3 .ensures)
+returns-3 c = search (needs, c .before .before .before .before .before .before .before .k .given .1, c .before .before .before .before .before .if1 .left)
 
 returns-4 : tie.Need-returns-4
-returns-4 c = rw (c .before .before .before .before .before .k2 .given .1) (c .before .before .put-number .ensures)
+returns-4 c = search (needs, c .before .before .before .before .before .k2 .given .1)
 
 returns-5 : tie.Need-returns-5
-returns-5 c =
-    let c₁ = c .before .before in let c₂ = c₁ .before in let c₃ = c₂ .before .before .before in
-    rw (c₃ .k3 .given .1, ← c₂ .part .ensures) (c₁ .put-quoted .ensures)
+returns-5 c = search (needs, c .before .before .before .before .before .before .k3 .given .1, ← c .before .before .before .part .ensures)
 
 pub put-constant-spec : {M : Type 1} → statement M
 put-constant-spec = tie.close (tie.spec

@@ -5,9 +5,7 @@ use Rattle.listing_operands.proofs.constant.put_constant_raw.Statement.
 use Rattle.listing_operands.proofs.constant.put_constant_raw.Tie as tie
 
 returns : tie.Need-returns
-returns c =
-    let c₁ = c .before .before in let c₂ = c₁ .before .before in let c₃ = c₂ .before .before in
-    rw (c₃ .k .given .1, ← c₂ .part .ensures) (c₁ .repair .ensures)
+returns c = search (needs, c .before .before .before .before .before .before .k .given .1, ← c .before .before .before .before .part .ensures)
 
 pub put-constant-raw-spec : {M : Type 1} → statement M
 put-constant-raw-spec = tie.close (tie.spec
