@@ -7,7 +7,7 @@ use native.Mathlib.Numerals.{add-one}
 use lib.ListN.{length, take, getD, set, length-append}
 use lib.Seq.{sets, take-suc, take-length, length-take-le}
 use Rattle.lent.specs.Memory.{Puts}
-use Rattle.lent.proofs.Writes.{sets-append, put-within}
+use Rattle.lent.proofs.Writes.{sets-append}
 use Rattle.format.specs.Write.{dumpNumber, dumpInt, dumpSize, dumpText, dumpList, each}
 
 -- ---- one integer
@@ -60,7 +60,7 @@ string-stored out s at e g =
 
 -- what is stored within the space is written
 pub puts-in : {b out out′ : List ℕ} {at r k : ℕ} → length b ≡ k → at + k ≤ length out → r ≡ at + k → out′ ≡ sets out at b → Puts b at out r out′
-puts-in n h e q = put-within (omega (arith, n)) (omega (arith, n)) q
+puts-in n h e q = record { puts = λ i k. (omega (arith, n), q) }
 
 -- ---- a list
 
