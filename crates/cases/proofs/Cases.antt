@@ -1,7 +1,5 @@
 -- The scope's cases, proved together: each definition, evaluated, gives what the scope says.
-use mathlib.Core.Path.{_≡_, refl}
-use mathlib.Core.List.{map}
-use native.Mathlib.Decide.{decLe, decLt, ℕ-discrete}
+use Rattle.lent.proofs.Prelude.{_≡_, refl, map, decLe, decLt, ℕ-discrete}
 use Rattle.lent.specs.Memory.{Every}
 use Rattle.utf8.specs.Utf8.{repairUpTo, utf8UpTo, firstStep, whole, begun, matched}
 use Rattle.instructions.specs.OpCodes.{opcodes, isJump}

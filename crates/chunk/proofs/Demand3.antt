@@ -1,16 +1,7 @@
 -- The proof of demand 3. Reading a dump finds the tree that was written and ends where the dump ends, whatever stands behind it,
 -- so a call that is not refused moves on by the dump, one that is refused stays, and the dumps that are left are those that stand there.
-use Prim.Native.Nat.{ℕ, _+_, _-_, _<_}
-use mathlib.Core.Path.{_≡_, refl, sym, ap, _∙_}
+use Rattle.lent.proofs.Prelude.{ℕ, _+_, _-_, _<_, _≡_, refl, sym, ap, _∙_, Option, none, some, List, [], _∷_, _++_, map, append-assoc, append-nil, append-cancel-right, Bool, true, false, cond, and-eq-true-iff, arith, length, take, drop, length-append, take-at, drop-at, drop-drop, leb, eqb, leb-true, eq-eqb, ne-eqb, eqb-true, eqb-false}
 use mathlib.Core.Logic.{_⊎_, inl, inr}
-use mathlib.Core.Option.{Option, none, some}
-use mathlib.Core.List.{List, [], _∷_, _++_, map, append-assoc, append-nil, append-cancel-right}
-use mathlib.Core.Bool.{Bool, true, false, cond, and-eq-true-iff}
-use native.Mathlib.Omega.{arith}
-use lib.ListN.{length, take, drop, length-append}
-use lib.Seq.{take-at, drop-at, drop-drop}
-use lib.Dec.{leb, eqb}
-use borrow.Author.Tests.{leb-true, eq-eqb, ne-eqb, eqb-true, eqb-false}
 use Rattle.lent.specs.Memory.{Every}
 use Rattle.utf8.specs.Utf8.{isUtf8}
 use Rattle.format.specs.Tree.{Function, rootSource, stripped, fill}

@@ -1,14 +1,7 @@
 -- The calls: on the function at a place, and on a pc and a register of it.
-use Prim.Native.Nat.{ℕ, _^_, _≤_, _<_}
-use mathlib.Core.Path.{_≡_, refl, sym, subst, _∙_}
-use mathlib.Core.List.{List, []}
-use mathlib.Core.Bool.{Bool, true, false, cond}
-use native.Mathlib.Omega.{arith}
-use lib.ListN.{length, getD}
-use lib.Dec.{leb}
+use Rattle.lent.proofs.Prelude.{ℕ, _^_, _≤_, _<_, _≡_, refl, sym, subst, _∙_, List, [], Bool, true, false, cond, arith, length, getD, leb, eq-eqb, ne-eqb, le-leb, lt-leb, leb-true}
 use mir.Val.{Fits}
 use mir.Syntax.{w32}
-use borrow.Author.Tests.{eq-eqb, ne-eqb, le-leb, lt-leb, leb-true}
 use Rattle.lent.specs.Memory.{Puts}
 use Rattle.lent.proofs.Writes.{sets-past}
 use Rattle.format.specs.Tree.{Parts, Function, Functions, partsOf}

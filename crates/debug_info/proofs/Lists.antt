@@ -1,13 +1,5 @@
 -- Items of a function's lists, and the count of active locals.
-use Prim.Native.Nat.{ℕ, suc, _+_, _*_, _-_, _≤_, _<_}
-use mathlib.Core.Path.{_≡_, refl, sym, subst, _∙_}
-use mathlib.Core.List.{List, [], _∷_}
-use mathlib.Core.Bool.{Bool, true, false, cond, _&&_}
-use mathlib.Core.Option.{none, some}
-use native.Mathlib.Omega.{arith}
-use lib.ListN.{length, getD}
-use lib.Dec.{eqb, ltb}
-use borrow.Author.Tests.{lt-ltb, le-ltb}
+use Rattle.lent.proofs.Prelude.{ℕ, suc, _+_, _*_, _-_, _≤_, _<_, _≡_, refl, sym, subst, _∙_, List, [], _∷_, Bool, true, false, cond, _&&_, none, some, arith, length, getD, eqb, ltb, lt-ltb, le-ltb}
 use Rattle.format.specs.Tree.{Local}
 use Rattle.format.specs.Store.{Piece, word, _⊕_, string, pieces, list, localPiece}
 use Rattle.format.proofs.Stored.{here-left}

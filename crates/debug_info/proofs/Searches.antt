@@ -1,12 +1,5 @@
 -- The search from register to register.
-use Prim.Native.Nat.{ℕ, zero, suc, _+_, _%_, _^_, _≤_, _<_}
-use mathlib.Core.Path.{_≡_, refl, sym, ap, _∙_}
-use mathlib.Core.List.{List, [], _∷_}
-use mathlib.Core.Bool.{Bool, true, false, cond, and-false, true≢false}
-use native.Mathlib.Omega.{arith}
-use native.Mathlib.Decide.{decLt}
-use lib.ListN.{length, getD, set}
-use borrow.Author.Tests.{eq-eqb, ne-eqb, le-ltb}
+use Rattle.lent.proofs.Prelude.{ℕ, zero, suc, _+_, _%_, _^_, _≤_, _<_, _≡_, refl, sym, ap, _∙_, List, [], _∷_, Bool, true, false, cond, and-false, true≢false, arith, decLt, length, getD, set, eq-eqb, ne-eqb, le-ltb}
 use Rattle.instructions.specs.Fields.{GETARG-A, GETARG-B}
 use Rattle.format.specs.Tree.{Local, Parts, Function, Functions}
 use Rattle.format.specs.Store.{list, localPiece}

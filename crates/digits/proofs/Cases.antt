@@ -1,7 +1,5 @@
 -- Ends of ranges, by evaluation.
-use mathlib.Core.Path.{_≡_, refl}
-use mathlib.Core.List.{List, [], _∷_, map}
-use Prim.Native.Nat.{ℕ}
+use Rattle.lent.proofs.Prelude.{_≡_, refl, List, [], _∷_, map, ℕ}
 use Prim.Native.Char.{code}
 use Prim.Native.String.{String}
 use Rattle.digits.specs.Digits.{digits, placesWithin, decimal, negative, hexadecimal, number, letterIn, escape, escaped, quoted}

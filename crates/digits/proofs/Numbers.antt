@@ -1,14 +1,5 @@
 -- Laws of digits: how many there are, and storing them from the last to the first.
-use Prim.Native.Nat.{ℕ, zero, suc, _+_, _-_, _/_, _%_, _^_, _≤_, _<_}
-use mathlib.Core.Path.{_≡_, refl, ap, _∙_}
-use mathlib.Core.Bool.{Bool, true, false, cond}
-use mathlib.Core.List.{List, [], _∷_, _++_}
-use native.Mathlib.Omega.{arith}
-use native.Mathlib.Decide.{decLe}
-use lib.ListN.{length, set, length-append}
-use lib.Seq.{sets, set-comm}
-use lib.Dec.{ltb}
-use borrow.Author.Tests.{lt-ltb, le-ltb}
+use Rattle.lent.proofs.Prelude.{ℕ, zero, suc, _+_, _-_, _/_, _%_, _^_, _≤_, _<_, _≡_, refl, ap, _∙_, Bool, true, false, cond, List, [], _∷_, _++_, arith, decLe, length, set, length-append, sets, set-comm, ltb, lt-ltb, le-ltb}
 use Rattle.lent.proofs.Writes.{sets-append}
 use Rattle.digits.specs.Digits.{digit, digits, places, placesWithin, decimal}
 

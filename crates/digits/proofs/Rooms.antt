@@ -1,11 +1,5 @@
 -- Laws of writing where there is room, and of how much is needed.
-use Prim.Native.Nat.{ℕ, _+_, _-_, _/_, _%_, _^_, _≤_, _<_}
-use mathlib.Core.Path.{_≡_, refl}
-use mathlib.Core.Bool.{Bool, true, false, cond}
-use mathlib.Core.List.{List, [], _∷_, _++_}
-use native.Mathlib.Omega.{arith}
-use lib.ListN.{length, take, drop, set, length-append}
-use lib.Seq.{sets, sets-eq, take-at}
+use Rattle.lent.proofs.Prelude.{ℕ, _+_, _-_, _/_, _%_, _^_, _≤_, _<_, _≡_, refl, Bool, true, false, cond, List, [], _∷_, _++_, arith, length, take, drop, set, length-append, sets, sets-eq, take-at}
 use Rattle.lent.specs.Memory.{Puts, far}
 use Rattle.lent.proofs.Writes.{put-stored, put-none, put-room, put-then, put-fits}
 use Rattle.digits.specs.Digits.{digit, digits, decimal, negative}

@@ -1,14 +1,5 @@
 -- Laws of quoted strings: bytes that are written as themselves, one after the other.
-use Prim.Native.Nat.{ℕ, suc, _+_, _-_, _≤_, _<_}
-use mathlib.Core.Path.{_≡_, refl, _∙_}
-use mathlib.Core.Bool.{true, false, and-eq-true-iff}
-use mathlib.Core.List.{List, [], _∷_, _++_, append-assoc}
-use native.Mathlib.Omega.{arith}
-use native.Mathlib.Nat.{sub-self}
-use lib.ListN.{length, take, drop, getD, length-drop, drop-of-length-le}
-use lib.Seq.{take-suc, getD-drop}
-use lib.Dec.{leb}
-use borrow.Author.Tests.{lt-ltb, leb-true, ne-eqb}
+use Rattle.lent.proofs.Prelude.{ℕ, suc, _+_, _-_, _≤_, _<_, _≡_, refl, _∙_, true, false, and-eq-true-iff, List, [], _∷_, _++_, append-assoc, arith, sub-self, length, take, drop, getD, length-drop, drop-of-length-le, take-suc, getD-drop, leb, lt-ltb, leb-true, ne-eqb}
 use Rattle.lent.specs.Memory.{Every}
 use Rattle.lent.proofs.Lists.{drop-more}
 use Rattle.digits.specs.Digits.{digits, letters, letterIn, isPrint, escape, escaped, Plain}

@@ -1,11 +1,5 @@
 -- The bytes of integers, sizes and strings: stored one by one, and in a loop.
-use Prim.Native.Nat.{ℕ, suc, _+_, _*_, _/_, _%_, _≤_, _<_}
-use mathlib.Core.Path.{_≡_, refl, sym, _∙_}
-use mathlib.Core.List.{List, [], _∷_, _++_, append-assoc, append-nil}
-use native.Mathlib.Omega.{arith}
-use native.Mathlib.Numerals.{add-one}
-use lib.ListN.{length, take, getD, set, length-append}
-use lib.Seq.{sets, take-suc, take-length, length-take-le}
+use Rattle.lent.proofs.Prelude.{ℕ, suc, _+_, _*_, _/_, _%_, _≤_, _<_, _≡_, refl, sym, _∙_, List, [], _∷_, _++_, append-assoc, append-nil, arith, add-one, length, take, getD, set, length-append, sets, take-suc, take-length, length-take-le}
 use Rattle.lent.specs.Memory.{Puts}
 use Rattle.lent.proofs.Writes.{sets-append}
 use Rattle.format.specs.Write.{dumpNumber, dumpInt, dumpSize, dumpText, dumpList, each}

@@ -1,12 +1,5 @@
 -- How long a chunk is at most: 12 bytes, five for each word of its store, its text, and the chunk name.
-use Prim.Native.Nat.{ℕ, _+_, _-_, _*_, _/_, _≤_}
-use mathlib.Core.Path.{_≡_, refl}
-use mathlib.Core.List.{List, [], _∷_, _++_}
-use mathlib.Core.Bool.{Bool, true, false, cond}
-use native.Mathlib.Omega.{arith}
-use lib.ListN.{length, length-append}
-use lib.Dec.{leb}
-use borrow.Author.Tests.{leb-true}
+use Rattle.lent.proofs.Prelude.{ℕ, _+_, _-_, _*_, _/_, _≤_, _≡_, refl, List, [], _∷_, _++_, Bool, true, false, cond, arith, length, length-append, leb, leb-true}
 use Rattle.lent.specs.Memory.{Every}
 use Rattle.format.specs.Tree.{Constant, Source, Local, Debug, Parts, Function, Functions, filled, kept}
 use Rattle.format.specs.Read.{same}

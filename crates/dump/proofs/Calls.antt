@@ -1,11 +1,5 @@
 -- The chunk of the tree that a store holds, and the call.
-use Prim.Native.Nat.{ℕ, zero-le, _+_, _*_, _^_, _≤_, _<_}
-use mathlib.Core.Path.{_≡_, sym, ap, _∙_}
-use mathlib.Core.List.{List, []}
-use mathlib.Core.Bool.{Bool, true, false, not}
-use native.Mathlib.Omega.{arith}
-use lib.ListN.{length, length-append}
-use borrow.Author.Tests.{not-true, not-false}
+use Rattle.lent.proofs.Prelude.{ℕ, zero-le, _+_, _*_, _^_, _≤_, _<_, _≡_, sym, ap, _∙_, List, [], Bool, true, false, not, arith, length, length-append, not-true, not-false}
 use Rattle.lent.specs.Memory.{far, Puts}
 use Rattle.lent.proofs.Writes.{put-length, put-then}
 use Rattle.format.specs.Tree.{Function}

@@ -1,14 +1,5 @@
 -- Functions: their source, and their parts one behind the other.
-use Prim.Native.Nat.{ℕ, suc, _+_, _-_, _≤_, min}
-use mathlib.Core.Path.{_≡_, refl, sym, _∙_}
-use mathlib.Core.List.{List, [], _∷_, _++_, append-assoc, append-nil}
-use mathlib.Core.Bool.{Bool, true, false, cond}
-use native.Mathlib.Omega.{arith}
-use native.Mathlib.Nat.{add-assoc}
-use lib.ListN.{length, drop, getD, length-append}
-use lib.Seq.{sets}
-use lib.Dec.{eqb}
-use borrow.Author.Tests.{ne-eqb}
+use Rattle.lent.proofs.Prelude.{ℕ, suc, _+_, _-_, _≤_, min, _≡_, refl, sym, _∙_, List, [], _∷_, _++_, append-assoc, append-nil, Bool, true, false, cond, arith, add-assoc, length, drop, getD, length-append, sets, eqb, ne-eqb}
 use Rattle.lent.specs.Memory.{Every, far, Puts}
 use Rattle.format.specs.Tree.{Constant as Value}
 use Rattle.format.specs.Tree.{Source, Parts, Function, Functions, count, filled, kept}

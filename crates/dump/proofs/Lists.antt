@@ -1,14 +1,7 @@
 -- Lists, written in a loop; and counting, steps of the writer with no space, and lists of them.
-use Prim.Native.Nat.{ℕ, suc, _+_, _-_, _≤_, _<_, zero-le, _*_, min}
-use mathlib.Core.Path.{_≡_, refl, sym, _∙_, ap}
-use mathlib.Core.List.{List, [], _∷_}
-use mathlib.Core.Bool.{Bool, true, false, not}
+use Rattle.lent.proofs.Prelude.{ℕ, suc, _+_, _-_, _≤_, _<_, zero-le, _*_, min, _≡_, refl, sym, _∙_, ap, List, [], _∷_, Bool, true, false, not, arith, mul-suc, length, getD, length-append, not-true, not-false}
 use mir.Syntax.{w32}
 use mir.Val
-use native.Mathlib.Omega.{arith}
-use native.Mathlib.Nat.{mul-suc}
-use lib.ListN.{length, getD, length-append}
-use borrow.Author.Tests.{not-true, not-false}
 use Rattle.lent.specs.Memory.{Every, far, Puts}
 use Rattle.lent.proofs.Writes.{put-lost}
 use Rattle.format.specs.Store.{Piece, word, pieces, list, string, constantPiece, localPiece}

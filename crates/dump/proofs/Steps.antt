@@ -1,13 +1,6 @@
 -- Steps of the writer: one behind the other, what they ask for, and single items.
-use Prim.Native.Nat.{ℕ, suc, _+_, _-_, _*_, _/_, _%_, _≤_, _<_}
-use mathlib.Core.Path.{_≡_, refl, sym, ap, _∙_}
-use mathlib.Core.List.{List, [], _∷_, _++_, append-assoc, append-nil}
-use mathlib.Core.Bool.{Bool, true, false}
+use Rattle.lent.proofs.Prelude.{ℕ, suc, _+_, _-_, _*_, _/_, _%_, _≤_, _<_, _≡_, refl, sym, ap, _∙_, List, [], _∷_, _++_, append-assoc, append-nil, Bool, true, false, arith, add-zero, add-assoc, length, take, drop, getD, set, length-append, length-take, length-set, sets}
 use mir.Val.{boolByte}
-use native.Mathlib.Omega.{arith}
-use native.Mathlib.Nat.{add-zero, add-assoc}
-use lib.ListN.{length, take, drop, getD, set, length-append, length-take, length-set}
-use lib.Seq.{sets}
 use Rattle.lent.specs.Memory.{Byte, Puts}
 use Rattle.lent.proofs.Writes.{put-none, put-then, put-length, sets-two}
 use Rattle.format.specs.Tree.{Constant as Value}

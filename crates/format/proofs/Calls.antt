@@ -1,14 +1,5 @@
 -- What undump and dump answer, case by case: when each refuses, and what a call that does not leaves.
-use Prim.Native.Nat.{ℕ, _-_, _≤_, _<_, min}
-use mathlib.Core.Path.{_≡_, refl, sym, ap, _∙_}
-use mathlib.Core.Option.{Option, none, some}
-use mathlib.Core.List.{List}
-use mathlib.Core.Bool.{Bool, true, false, cond}
-use native.Mathlib.Omega.{arith}
-use lib.ListN.{length}
-use lib.Seq.{take-at}
-use lib.Dec.{leb}
-use borrow.Author.Tests.{le-leb, lt-leb, leb-true, leb-false}
+use Rattle.lent.proofs.Prelude.{ℕ, _-_, _≤_, _<_, min, _≡_, refl, sym, ap, _∙_, Option, none, some, List, Bool, true, false, cond, arith, length, take-at, leb, le-leb, lt-leb, leb-true, leb-false}
 use Rattle.lent.specs.Memory.{Bytes}
 use Rattle.format.specs.Tree.{Function}
 use Rattle.format.specs.Read.{Read, got, refused}

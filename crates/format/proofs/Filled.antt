@@ -1,12 +1,7 @@
 -- Filling in inherited sources changes nothing else, so two trees are one with their sources filled in exactly when their fields agree.
 -- What strip leaves, by the same fields; and what of a tree holds function by function in preorder.
-use Prim.Native.Nat.{ℕ, zero, suc}
-use mathlib.Core.Path.{_≡_, refl, sym, ap}
+use Rattle.lent.proofs.Prelude.{ℕ, zero, suc, _≡_, refl, sym, ap, Bool, true, false, List, [], _∷_, _++_, map, map-append, arith, length, length-map}
 use mathlib.Core.Logic.{_↔_}
-use mathlib.Core.Bool.{Bool, true, false}
-use mathlib.Core.List.{List, [], _∷_, _++_, map, map-append}
-use native.Mathlib.Omega.{arith}
-use lib.ListN.{length, length-map}
 use Rattle.lent.specs.Memory.{Every}
 use Rattle.lent.proofs.Lists.{every-append}
 use Rattle.format.specs.Tree.{Source, Debug, Parts, Function, Functions, partsOf, preorder, preorderAll, with, filled, fill, fillAll, rootSource, noDebug, stripped, strippedAll}

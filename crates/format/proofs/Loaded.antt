@@ -1,13 +1,5 @@
 -- Whatever is read of bytes is a well-formed tree once its names are repaired, so the store that undump leaves is well formed.
-use Prim.Native.Nat.{ℕ, zero, suc, _≤_, _<_, _^_}
-use mathlib.Core.Path.{_≡_, refl, ap}
-use mathlib.Core.List.{List, [], _∷_, map}
-use mathlib.Core.Bool.{Bool, true, false, cond, not}
-use native.Mathlib.Omega.{arith}
-use lib.ListN.{length, take, drop, length-map}
-use lib.Seq.{length-take-le}
-use lib.Dec.{leb, eqb}
-use borrow.Author.Tests.{leb-true}
+use Rattle.lent.proofs.Prelude.{ℕ, zero, suc, _≤_, _<_, _^_, _≡_, refl, ap, List, [], _∷_, map, Bool, true, false, cond, not, arith, length, take, drop, length-map, length-take-le, leb, eqb, leb-true}
 use Rattle.lent.specs.Memory.{Every, Byte, Word, Bytes}
 use Rattle.lent.proofs.Lists.{every-take, every-drop}
 use Rattle.utf8.specs.Utf8.{repair}

@@ -1,7 +1,5 @@
 -- A loop over n items: whatever does the rest from here does the whole from the start.
-use Prim.Native.Nat.{ℕ, suc, _+_, _-_, _≤_, _<_}
-use mathlib.Core.Path.{_≡_}
-use native.Mathlib.Omega.{arith}
+use Rattle.lent.proofs.Prelude.{ℕ, suc, _+_, _-_, _≤_, _<_, _≡_, arith}
 
 -- All n s r: from s, n items lead to r. The loop began at s₀ and stands at s before item i
 pub record Loop {S R : Type 0} (All : ℕ → S → R → Type 0) (n : ℕ) (s₀ : S) (i : ℕ) (s : S) : Type 0 where

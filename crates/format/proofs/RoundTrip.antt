@@ -1,14 +1,5 @@
 -- Reading finds what was written, whatever stands behind: a law for each part, then for the tree and the chunk.
-use Prim.Native.Nat.{ℕ, zero, suc, _+_, _/_, _≤_, _<_, _^_}
-use mathlib.Core.Path.{_≡_, refl, sym, ap}
-use mathlib.Core.List.{List, [], _∷_, _++_, map, append-assoc}
-use mathlib.Core.Bool.{Bool, true, false, cond, false≢true, and-eq-true-iff}
-use native.Mathlib.Omega.{arith}
-use native.Mathlib.Numerals.{add-one}
-use lib.ListN.{length, length-append}
-use lib.Seq.{take-at, drop-at}
-use lib.Dec.{eqb}
-use borrow.Author.Tests.{le-leb, eq-eqb, eqb-true}
+use Rattle.lent.proofs.Prelude.{ℕ, zero, suc, _+_, _/_, _≤_, _<_, _^_, _≡_, refl, sym, ap, List, [], _∷_, _++_, map, append-assoc, Bool, true, false, cond, false≢true, and-eq-true-iff, arith, add-one, length, length-append, take-at, drop-at, eqb, le-leb, eq-eqb, eqb-true}
 use Rattle.utf8.specs.Utf8.{repair}
 use Rattle.utf8.proofs.Rows.{by-test}
 use Rattle.utf8.proofs.Laws.{repair-utf8}

@@ -1,11 +1,5 @@
 -- The definitions evaluated on the scope's sample and on a tree of three levels, so that the theorems speak of something.
-use Prim.Native.Nat.{ℕ}
-use mathlib.Core.Path.{_≡_, refl}
-use mathlib.Core.Bool.{true, false}
-use mathlib.Core.Option.{none, some}
-use mathlib.Core.List.{List, [], _∷_, _++_, map}
-use native.Mathlib.Decide.{decLe, decLt, ℕ-discrete}
-use lib.Dec.{leb}
+use Rattle.lent.proofs.Prelude.{ℕ, _≡_, refl, true, false, none, some, List, [], _∷_, _++_, map, decLe, decLt, ℕ-discrete, leb}
 use Rattle.lent.specs.Memory.{Every}
 use Rattle.utf8.specs.Utf8.{utf8UpTo, repairUpTo, firstStep, whole, begun, matched}
 use Rattle.format.specs.Tree.{Constant, Source, Debug, Function, Functions, count, partsOf, preorder, fill, noDebug}

@@ -1,14 +1,6 @@
 -- A store holds one tree only, the one that its words say: treeOf finds it, and finds none where there is none.
-use Prim.Native.Nat.{ℕ, zero, suc, _+_, _/_, _%_}
-use mathlib.Core.Path.{_≡_, refl, sym, ap, _∙_}
+use Rattle.lent.proofs.Prelude.{ℕ, zero, suc, _+_, _/_, _%_, _≡_, refl, sym, ap, _∙_, none, some, List, [], _∷_, _++_, append-assoc, append-nil, true, false, arith, add-zero, length, length-take, length-drop, take-at, drop-at, drop-drop}
 use mathlib.Core.Logic.{_↔_, ite}
-use mathlib.Core.Option.{none, some}
-use mathlib.Core.List.{List, [], _∷_, _++_, append-assoc, append-nil}
-use mathlib.Core.Bool.{true, false}
-use native.Mathlib.Omega.{arith}
-use native.Mathlib.Nat.{add-zero}
-use lib.ListN.{length, length-take, length-drop}
-use lib.Seq.{take-at, drop-at, drop-drop}
 use Rattle.format.specs.Tree.{Constant, Source, Local, Debug, Parts, Function, Functions, count}
 use Rattle.format.specs.Read.{Read, Reader, got, refused, _>>=_, return, loadByte as word, many, manyFunctions}
 use Rattle.format.specs.Store.{Piece, word as wordPiece, _⊕_, string, pieces, list, ints, sourcePiece, constantPiece, localPiece, debugPiece, packed, functionPiece, functionPieces, textOf}

@@ -1,11 +1,5 @@
 -- A call that counts its bytes with no space, and writes them where they fit.
-use Prim.Native.Nat.{ℕ, _≤_, _<_, min}
-use mathlib.Core.Path.{_≡_, _∙_}
-use mathlib.Core.List.{List, []}
-use native.Mathlib.Omega.{arith}
-use native.Mathlib.Nat.{zero-add}
-use lib.ListN.{length}
-use borrow.Author.Tests.{le-leb, lt-leb}
+use Rattle.lent.proofs.Prelude.{ℕ, _≤_, _<_, min, _≡_, _∙_, List, [], arith, zero-add, length, le-leb, lt-leb}
 use Rattle.lent.specs.Memory.{far, Puts}
 use Rattle.lent.proofs.Writes.{put-fits}
 use Rattle.format.specs.Dump.{writeRefused, written}

@@ -1,10 +1,5 @@
 -- Laws of lists that reading and writing share.
-use Prim.Native.Nat.{ℕ, zero, suc, _+_, _<_}
-use mathlib.Core.Path.{_≡_}
-use mathlib.Core.List.{List, [], _∷_, _++_}
-use native.Mathlib.Numerals.{add-one}
-use lib.ListN.{length, take, drop, getD}
-use lib.Seq.{drop-cons}
+use Rattle.lent.proofs.Prelude.{ℕ, zero, suc, _+_, _<_, _≡_, List, [], _∷_, _++_, add-one, length, take, drop, getD, drop-cons}
 use Rattle.lent.specs.Memory.{Every}
 
 -- the item at a place, and what is behind it

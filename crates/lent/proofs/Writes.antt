@@ -1,13 +1,5 @@
 -- Writing to lent memory: one write, writes one after the other, and writes in a loop.
-use Prim.Native.Nat.{ℕ, suc, _+_, _-_, _≤_, _<_, min}
-use mathlib.Core.Path.{_≡_, refl, sym, ap, _∙_}
-use mathlib.Core.List.{List, [], _∷_, _++_}
-use native.Mathlib.Omega.{arith}
-use native.Mathlib.Decide.{decLe}
-use native.Mathlib.Nat.{add-zero}
-use native.Mathlib.Numerals.{add-one}
-use lib.ListN.{length, take, drop, getD, set, length-append, length-take, length-drop, take-append-drop}
-use lib.Seq.{sets, length-sets, set-out, set-set, set-comm, take-add, sets-eq, take-suc, take-all, length-take-le}
+use Rattle.lent.proofs.Prelude.{ℕ, suc, _+_, _-_, _≤_, _<_, min, _≡_, refl, sym, ap, _∙_, List, [], _∷_, _++_, arith, decLe, add-zero, add-one, length, take, drop, getD, set, length-append, length-take, length-drop, take-append-drop, sets, length-sets, set-out, set-set, set-comm, take-add, sets-eq, take-suc, take-all, length-take-le}
 use Rattle.lent.specs.Memory.{far, Puts}
 use Rattle.lent.proofs.Lists.{drop-more}
 

@@ -1,10 +1,5 @@
 -- The program's answer, by what undump answered.
-use Prim.Native.Nat.{ℕ, _≤_, _<_}
-use mathlib.Core.Path.{_≡_, ap, _∙_}
-use mathlib.Core.Bool.{false}
-use mathlib.Core.List.{List}
-use lib.ListN.{take}
-use borrow.Author.Tests.{lt-ltb, le-ltb}
+use Rattle.lent.proofs.Prelude.{ℕ, _≤_, _<_, _≡_, ap, _∙_, false, List, take, lt-ltb, le-ltb}
 use Rattle.format.specs.Undump.{undumped}
 use Rattle.format.specs.Dump.{WriteLeft, writeRefused}
 use Rattle.format.specs.declared.Undumped.{Undumped}

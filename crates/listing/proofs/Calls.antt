@@ -1,10 +1,5 @@
 -- The root of a store, listed.
-use Prim.Native.Nat.{ℕ, _+_, _≤_}
-use mathlib.Core.Path.{ap}
-use mathlib.Core.Bool.{Bool}
-use mathlib.Core.List.{List}
-use native.Mathlib.Omega.{arith}
-use lib.ListN.{length, length-append}
+use Rattle.lent.proofs.Prelude.{ℕ, _+_, _≤_, ap, Bool, List, arith, length, length-append}
 use Rattle.lent.specs.Memory.{Puts}
 use Rattle.format.specs.Tree.{Function, Functions}
 use Rattle.format.specs.Store.{debugPiece, functionPiece, functionPieces, childrenPiece}

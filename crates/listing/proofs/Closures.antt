@@ -1,9 +1,5 @@
 -- The child that an instruction makes a closure of: the one kept where there is none, else the one with its index.
-use Prim.Native.Nat.{ℕ, _≤_, _<_}
-use mathlib.Core.Path.{_≡_, ap, _∙_}
-use mathlib.Core.List.{List}
-use native.Mathlib.Omega.{arith}
-use lib.ListN.{getD}
+use Rattle.lent.proofs.Prelude.{ℕ, _≤_, _<_, _≡_, ap, _∙_, List, arith, getD}
 use Rattle.format.specs.Tree.{count}
 use Rattle.instructions.specs.Fields.{GETARG-Bx}
 use Rattle.proto.specs.declared.child.Child.{Child}

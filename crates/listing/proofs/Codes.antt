@@ -1,8 +1,5 @@
 -- The loop over the code of a function: the line of each instruction, with the child that a CLOSURE names.
-use Prim.Native.Nat.{ℕ, _+_, _*_, _≤_, _<_}
-use mathlib.Core.Path.{_≡_, refl, _∙_}
-use mathlib.Core.List.{List, []}
-use lib.ListN.{length, getD}
+use Rattle.lent.proofs.Prelude.{ℕ, _+_, _*_, _≤_, _<_, _≡_, refl, _∙_, List, [], length, getD}
 use Rattle.lent.specs.Memory.{Puts, far}
 use Rattle.format.specs.Tree.{Parts, Functions}
 use Rattle.format.specs.Store.{word}

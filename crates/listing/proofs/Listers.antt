@@ -1,10 +1,5 @@
 -- A function and those in it, listed one after the other.
-use Prim.Native.Nat.{ℕ, suc, _+_, _≤_, min}
-use mathlib.Core.Path.{_≡_, refl, sym, _∙_}
-use mathlib.Core.Bool.{Bool}
-use mathlib.Core.List.{List, [], _∷_}
-use native.Mathlib.Omega.{arith}
-use lib.ListN.{getD}
+use Rattle.lent.proofs.Prelude.{ℕ, suc, _+_, _≤_, min, _≡_, refl, sym, _∙_, Bool, List, [], _∷_, arith, getD}
 use Rattle.lent.specs.Memory.{Puts, far}
 use Rattle.lent.proofs.Writes.{put-none, put-then}
 use Rattle.format.specs.Tree.{Debug, Parts, Function, Functions, count, filled}

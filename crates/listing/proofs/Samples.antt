@@ -1,10 +1,5 @@
 -- Listings by evaluation: the sample's, plain and full, and a tree with each kind of line.
-use Prim.Native.Nat.{ℕ}
-use mathlib.Core.Path.{_≡_, refl}
-use mathlib.Core.Bool.{Bool, true, false}
-use mathlib.Core.List.{List, [], _∷_, _++_}
-use native.Mathlib.Decide.{decLe, decLt, ℕ-discrete}
-use lib.ListN.{replicate}
+use Rattle.lent.proofs.Prelude.{ℕ, _≡_, refl, Bool, true, false, List, [], _∷_, _++_, decLe, decLt, ℕ-discrete, replicate}
 use Rattle.lent.specs.Memory.{Every}
 use Rattle.utf8.specs.Utf8.{repairUpTo, utf8UpTo, firstStep, whole, begun, matched}
 use Rattle.digits.specs.Digits.{digits, placesWithin, letterIn, escape, escaped}

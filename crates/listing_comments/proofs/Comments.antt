@@ -1,17 +1,11 @@
 -- Laws of comments: which opcodes have one, and the number of a child.
-use Prim.Native.Nat.{ℕ}
-use mathlib.Core.Path.{_≡_, refl, sym, _∙_}
-use mathlib.Core.Bool.{Bool, true, false, _||_, true≢false}
-use mathlib.Core.List.{List, [], _∷_}
-use lib.ListN.{getD}
-use lib.Dec.{eqb, ltb}
+use Rattle.lent.proofs.Prelude.{ℕ, _≡_, refl, sym, _∙_, Bool, true, false, _||_, true≢false, List, [], _∷_, getD, eqb, ltb, ltb-true}
 use Rattle.format.specs.Store.{childrenPiece}
 use Rattle.lent.specs.Memory.{Puts}
 use Rattle.format.specs.Tree.{Functions, count}
 use Rattle.proto.specs.Walk.{StandsAt}
 use Rattle.proto.proofs.Sublists.{here-get}
 use Rattle.listing_comments.specs.Shown.{ChildIs}
-use borrow.Author.Tests.{ltb-true}
 use Rattle.instructions.specs.Fields.{GETARG-Bx}
 use Rattle.instructions.specs.OpCodes.{OP-CLOSURE, among}
 use Rattle.proto.specs.Children.{childNumber}

@@ -1,11 +1,5 @@
 -- A loop that writes the items of a list, each with its index: what is left to write are the items from here on.
-use Prim.Native.Nat.{ℕ, zero, suc, _+_, _*_, _≤_, _<_}
-use mathlib.Core.Path.{_≡_, refl, _∙_}
-use mathlib.Core.List.{List, [], _∷_, _++_}
-use mathlib.Core.Option.{some}
-use native.Mathlib.Omega.{arith}
-use native.Mathlib.Numerals.{add-one}
-use lib.ListN.{length, drop, getD}
+use Rattle.lent.proofs.Prelude.{ℕ, zero, suc, _+_, _*_, _≤_, _<_, _≡_, refl, _∙_, List, [], _∷_, _++_, some, arith, add-one, length, drop, getD}
 use Rattle.lent.specs.Memory.{Puts}
 use Rattle.lent.proofs.Writes.{Rest, rest-start, rest-put, rest-end, put-then}
 use Rattle.format.specs.Store.{Piece, list}

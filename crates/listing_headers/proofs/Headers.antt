@@ -1,11 +1,5 @@
 -- A source as a header shows it.
-use Prim.Native.Nat.{ℕ, suc, _-_, _<_}
-use mathlib.Core.Path.{_≡_, refl, _∙_}
-use mathlib.Core.List.{List, [], _∷_}
-use native.Mathlib.Omega.{arith}
-use lib.ListN.{length, take, drop, getD}
-use lib.Seq.{take-all}
-use borrow.Author.Tests.{eq-eqb, ne-eqb}
+use Rattle.lent.proofs.Prelude.{ℕ, suc, _-_, _<_, _≡_, refl, _∙_, List, [], _∷_, arith, length, take, drop, getD, take-all, eq-eqb, ne-eqb}
 use Rattle.listing_headers.specs.Header.{displaySource}
 
 -- a source that begins with @, and one that does not

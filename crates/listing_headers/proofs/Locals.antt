@@ -1,10 +1,5 @@
 -- The words of a local: the place and the length of its name, its start and its end.
-use Prim.Native.Nat.{ℕ, _<_}
-use mathlib.Core.Path.{_≡_, _∙_}
-use mathlib.Core.List.{List}
-use native.Mathlib.Omega.{arith}
-use lib.ListN.{length, take, getD}
-use lib.Seq.{length-take-le}
+use Rattle.lent.proofs.Prelude.{ℕ, _<_, _≡_, _∙_, List, arith, length, take, getD, length-take-le}
 use Rattle.format.specs.Tree.{Local}
 use Rattle.format.specs.Store.{word, _⊕_, string, localPiece}
 use Rattle.proto.specs.Walk.{Stands, Skips, StandsAt}

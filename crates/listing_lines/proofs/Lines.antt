@@ -1,13 +1,5 @@
 -- Laws of a line looked up, and the length of an opcode's name.
-use Prim.Native.Nat.{ℕ, zero, suc, _+_, _*_, _≤_, _<_}
-use mathlib.Core.Path.{_≡_, refl, sym, ap, _∙_}
-use mathlib.Core.Bool.{Bool, true, false, _&&_}
-use mathlib.Core.List.{List, [], _∷_}
-use mathlib.Core.Option.{none, some}
-use native.Mathlib.Omega.{arith}
-use lib.ListN.{length, getD}
-use lib.Dec.{eqb}
-use borrow.Author.Tests.{eqb-true}
+use Rattle.lent.proofs.Prelude.{ℕ, zero, suc, _+_, _*_, _≤_, _<_, _≡_, refl, sym, ap, _∙_, Bool, true, false, _&&_, List, [], _∷_, none, some, arith, length, getD, eqb, eqb-true}
 use Rattle.digits.specs.Room.{Width}
 use Rattle.format.specs.Store.{word, ints}
 use Rattle.proto.specs.Walk.{item, Skips, StandsAt}

@@ -1,10 +1,5 @@
 -- Laws of what the calls promise: texts one after the other, under a test, and of an item of a list.
-use Prim.Native.Nat.{ℕ, _+_, _*_, _≤_, _<_}
-use mathlib.Core.Path.{_≡_, _∙_}
-use mathlib.Core.List.{List, [], _∷_, _++_}
-use mathlib.Core.Option.{Option, none, some}
-use native.Mathlib.Omega.{arith}
-use lib.ListN.{length, getD}
+use Rattle.lent.proofs.Prelude.{ℕ, _+_, _*_, _≤_, _<_, _≡_, _∙_, List, [], _∷_, _++_, Option, none, some, arith, length, getD}
 use Rattle.lent.specs.Memory.{Puts}
 use Rattle.lent.proofs.Writes.{put-then}
 use Rattle.format.specs.Tree.{Constant as Value}

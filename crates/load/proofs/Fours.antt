@@ -1,11 +1,5 @@
 -- Integers in a row: what reading them gives, and what storing them leaves.
-use Prim.Native.Nat.{ℕ, zero, suc, _+_, _-_, _*_, _≤_, _<_, min}
-use mathlib.Core.Path.{_≡_, refl, ap}
-use mathlib.Core.List.{List, [], _∷_, _++_}
-use native.Mathlib.Omega.{arith}
-use native.Mathlib.Decide.{decLe}
-use lib.ListN.{length, take, drop}
-use lib.Seq.{sets}
+use Rattle.lent.proofs.Prelude.{ℕ, zero, suc, _+_, _-_, _*_, _≤_, _<_, min, _≡_, refl, ap, List, [], _∷_, _++_, arith, decLe, length, take, drop, sets}
 use Rattle.lent.specs.Memory.{far, Puts}
 use Rattle.lent.proofs.Writes.{sets-append, put-lost, put-part, put-none}
 use Rattle.format.specs.Read.{got, refused, loadInt, many, loadCount, loadList}

@@ -1,10 +1,5 @@
 -- Steps of the reader, one after the other.
-use Prim.Native.Nat.{ℕ, _≤_, _<_}
-use mathlib.Core.Path.{_≡_, refl, _∙_}
-use mathlib.Core.List.{List}
-use native.Mathlib.Omega.{arith}
-use borrow.Author.Tests.{le-leb, lt-leb}
-use lib.ListN.{drop}
+use Rattle.lent.proofs.Prelude.{ℕ, _≤_, _<_, _≡_, refl, _∙_, List, arith, le-leb, lt-leb, drop}
 use Rattle.format.specs.Read.{Read, Reader, got, refused, andThen, _>>=_, return, loadInt, limit, countOf, loadCount}
 use Rattle.load_state.specs.declared.cursor.Cursor.{Cursor}
 use Rattle.load_state.specs.ReadAt.{Ends, ReadAt}

@@ -1,16 +1,10 @@
 -- Pieces stored one after the other, and what is read, stored.
-use Prim.Native.Nat.{ℕ, _+_, _-_, _≤_, _<_, min}
-use mathlib.Core.Path.{_≡_, refl, _∙_}
-use mathlib.Core.List.{List, [], _∷_, _++_, append-assoc}
-use native.Mathlib.Omega.{arith}
-use native.Mathlib.Nat.{add-zero}
-use lib.ListN.{length, length-append, take, drop}
+use Rattle.lent.proofs.Prelude.{ℕ, _+_, _-_, _≤_, _<_, min, _≡_, refl, _∙_, List, [], _∷_, _++_, append-assoc, arith, add-zero, length, length-append, take, drop, true, false}
 use Rattle.lent.specs.Memory.{far, Puts}
 use Rattle.lent.proofs.Writes.{put-none, put-then, put-length}
 use Rattle.format.specs.Store.{Piece, plain, word, _⊕_, string, constantPiece}
 use Rattle.format.specs.Valid.{most}
 use Rattle.load.specs.Loads.{Space, Wrote, Does, ReadsBy, Strings, space, world, moved, Loads, repairedName, repairedSourcePiece}
-use mathlib.Core.Bool.{true, false}
 use Rattle.utf8.specs.Utf8.{repair}
 use Rattle.format.specs.Tree.{Constant as Value}
 use Rattle.format.specs.Read.{Reader, loadString, loadText, loadConstant}

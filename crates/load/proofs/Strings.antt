@@ -1,14 +1,5 @@
 -- What reading a string gives at a place of the chunk, and a constant by its tag.
-use Prim.Native.Nat.{ℕ, zero, suc, _+_, _-_, _≤_, _<_}
-use mathlib.Core.Path.{_≡_, refl, sym, ap, _∙_}
-use mathlib.Core.List.{List, []}
-use mathlib.Core.Bool.{true, cond, not, false≢true}
-use native.Mathlib.Omega.{arith}
-use native.Mathlib.Decide.{decLe, decLt}
-use lib.ListN.{length, drop, getD, length-drop}
-use lib.Seq.{drop-drop}
-use lib.Dec.{eqb}
-use borrow.Author.Tests.{ne-eqb}
+use Rattle.lent.proofs.Prelude.{ℕ, zero, suc, _+_, _-_, _≤_, _<_, _≡_, refl, sym, ap, _∙_, List, [], true, cond, not, false≢true, arith, decLe, decLt, length, drop, getD, length-drop, drop-drop, eqb, ne-eqb}
 use Rattle.utf8.proofs.Rows.{by-test}
 use Rattle.format.specs.Tree.{Source, filled, Constant as Value}
 use Rattle.format.specs.Read.{got, refused, loadByte, loadInt, loadSize, stringOf, loadString, loadText, constantOf, loadConstant}

@@ -1,9 +1,5 @@
 -- Lists read item by item.
-use Prim.Native.Nat.{ℕ, suc, _+_, _≤_, _<_}
-use native.Mathlib.Omega.{arith}
-use mathlib.Core.Path.{_≡_, refl, ap, _∙_}
-use mathlib.Core.List.{List, [], _∷_, map}
-use lib.ListN.{length}
+use Rattle.lent.proofs.Prelude.{ℕ, suc, _+_, _≤_, _<_, arith, _≡_, refl, ap, _∙_, List, [], _∷_, map, length}
 use Rattle.format.specs.Tree.{Functions, count}
 use Rattle.format.specs.Read.{Reader, _>>=_, return, many, manyFunctions, loadFunction, loadText, loadInt, loadLocal}
 use Rattle.format.specs.Store.{Piece, plain, word, _⊕_, pieces, functionPieces}

@@ -1,8 +1,5 @@
 -- A function put together from its parts, as the definition reads it.
-use Prim.Native.Nat.{ℕ, suc, _+_, _*_, _≤_, _<_}
-use mathlib.Core.Path.{_≡_, refl, _∙_}
-use mathlib.Core.List.{List}
-use native.Mathlib.Omega.{arith}
+use Rattle.lent.proofs.Prelude.{ℕ, suc, _+_, _*_, _≤_, _<_, _≡_, refl, _∙_, List, arith}
 use Rattle.format.specs.Tree.{count}
 use Rattle.format.specs.Read.{_>>=_, loadByte, loadInt, loadString, loadText, loadList, loadLocal, loadCount, loadConstant, manyFunctions, loadCode, loadConstants, loadDebug, loadFunction}
 use Rattle.format.specs.Store.{word, list, ints, constantPiece, functionPiece, functionPieces, childrenPiece}

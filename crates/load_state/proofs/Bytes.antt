@@ -1,11 +1,5 @@
 -- What reading a byte or a number gives at a place of the chunk.
-use Prim.Native.Nat.{ℕ, _+_, _*_, _-_, _≤_, _<_}
-use mathlib.Core.Path.{_≡_, sym}
-use mathlib.Core.List.{List, _∷_}
-use native.Mathlib.Omega.{arith}
-use native.Mathlib.Nat.{add-zero}
-use lib.ListN.{length, take, drop, getD, length-drop, drop-of-length-le}
-use borrow.Author.Tests.{le-leb, lt-leb}
+use Rattle.lent.proofs.Prelude.{ℕ, _+_, _*_, _-_, _≤_, _<_, _≡_, sym, List, _∷_, arith, add-zero, length, take, drop, getD, length-drop, drop-of-length-le, le-leb, lt-leb}
 use Rattle.lent.proofs.Lists.{drop-more}
 use Rattle.format.specs.Read.{Reader, got, refused, loadByte, loadBlock, loadInt, loadSize, littleEndian}
 use Rattle.load_state.specs.declared.cursor.Cursor.{Cursor}

@@ -1,13 +1,5 @@
 -- The lookup: where the locals stand, what their records lead to, and what the call leaves.
-use Prim.Native.Nat.{ℕ, _+_, _-_, _*_, _≤_, _<_, _%_, _^_, min}
-use mathlib.Core.Path.{_≡_, refl, sym, ap, _∙_}
-use mathlib.Core.List.{List, [], _∷_}
-use mathlib.Core.Bool.{Bool, true, false, cond}
-use native.Mathlib.Omega.{arith}
-use lib.ListN.{length, take, drop, getD}
-use lib.Seq.{take-at}
-use lib.Dec.{eqb, leb, ltb}
-use borrow.Author.Tests.{eq-eqb, ne-eqb, le-leb, lt-leb, leb-true}
+use Rattle.lent.proofs.Prelude.{ℕ, _+_, _-_, _*_, _≤_, _<_, _%_, _^_, min, _≡_, refl, sym, ap, _∙_, List, [], _∷_, Bool, true, false, cond, arith, length, take, drop, getD, take-at, eqb, leb, ltb, eq-eqb, ne-eqb, le-leb, lt-leb, leb-true}
 use Rattle.lent.specs.Memory.{far, Puts}
 use Rattle.format.specs.Tree.{Local, Parts, Function, Functions}
 use Rattle.format.specs.Store.{word, _⊕_, string, pieces, list, ints, localPiece, functionPiece}

@@ -1,12 +1,5 @@
 -- Records: one is filled after the other, and each tells how the search goes on.
-use Prim.Native.Nat.{ℕ, zero, suc, _+_, _-_, _*_, _≤_, _<_}
-use mathlib.Core.Path.{_≡_, refl, sym, ap, _∙_}
-use mathlib.Core.List.{List, _∷_}
-use native.Mathlib.Omega.{arith}
-use native.Mathlib.Numerals.{add-one}
-use lib.ListN.{length, take, drop, getD, set, drop-of-length-le}
-use lib.Seq.{paste, paste-zero, paste-suc, drop-cons, getD-take, length-take-le, take-all}
-use borrow.Author.Tests.{eq-eqb, ne-eqb, lt-ltb, le-ltb}
+use Rattle.lent.proofs.Prelude.{ℕ, zero, suc, _+_, _-_, _*_, _≤_, _<_, _≡_, refl, sym, ap, _∙_, List, _∷_, arith, add-one, length, take, drop, getD, set, drop-of-length-le, paste, paste-zero, paste-suc, drop-cons, getD-take, length-take-le, take-all, eq-eqb, ne-eqb, lt-ltb, le-ltb}
 use Rattle.local_records.specs.declared.record.LocalRecord.{LocalRecord}
 use Rattle.debug_info.specs.declared.name.Known.{Known}
 use Rattle.local_records.specs.declared.record.Seen.{Seen}

@@ -1,9 +1,5 @@
 -- A call that writes what the tree of a store gives: what is refused, and what is written.
-use Prim.Native.Nat.{ℕ, _≤_, _<_}
-use mathlib.Core.Path.{_≡_, refl}
-use mathlib.Core.Bool.{true, false}
-use mathlib.Core.List.{List, []}
-use lib.ListN.{length}
+use Rattle.lent.proofs.Prelude.{ℕ, _≤_, _<_, _≡_, refl, true, false, List, [], length}
 use Rattle.lent.specs.Memory.{far, Puts}
 use Rattle.format.specs.Tree.{Function}
 use Rattle.format.specs.Store.{wordsOf, textOf, functionPiece}

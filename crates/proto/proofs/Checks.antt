@@ -1,17 +1,7 @@
 -- Steps of the check, one after the other: words, strings and lists.
-use Prim.Native.Nat.{ℕ, suc, zero-le, _+_, _-_, _*_, _≤_, _<_, _^_}
-use mathlib.Core.Path.{_≡_, refl, sym, ap, _∙_}
-use mathlib.Core.List.{List, [], _∷_}
-use mathlib.Core.Bool.{Bool, true, false, not}
-use native.Mathlib.Omega.{arith}
-use native.Mathlib.Decide.{decLt}
-use native.Mathlib.Nat.{add-zero, add-assoc}
-use lib.ListN.{length, drop, getD, length-append, length-drop, length-take, List·getD-eq-default}
-use lib.Seq.{getD-take, getD-drop, length-take-le}
-use lib.Dec.{T, ltb, leb, ltb→lt, leb→le}
+use Rattle.lent.proofs.Prelude.{ℕ, suc, zero-le, _+_, _-_, _*_, _≤_, _<_, _^_, _≡_, refl, sym, ap, _∙_, List, [], _∷_, Bool, true, false, not, arith, decLt, add-zero, add-assoc, length, drop, getD, length-append, length-drop, length-take, List·getD-eq-default, getD-take, getD-drop, length-take-le, T, ltb, leb, ltb→lt, leb→le, not-true, not-false}
 use mir.Val.{Fits}
 use mir.Syntax.{w64}
-use borrow.Author.Tests.{not-true, not-false}
 use Rattle.lent.specs.Memory.{Every, Word, Bytes}
 use Rattle.utf8.specs.Utf8.{isUtf8, isAscii}
 use Rattle.utf8.proofs.Laws.{utf8-bytes, utf8-ascii}

@@ -1,10 +1,5 @@
 -- The functions in a function: where each begins, and its number.
-use Prim.Native.Nat.{ℕ, zero, suc, _+_, _-_, _≤_, min}
-use mathlib.Core.Path.{_≡_, refl, sym, ap, _∙_}
-use mathlib.Core.List.{List}
-use mathlib.Core.Option.{some}
-use native.Mathlib.Omega.{arith}
-use native.Mathlib.Nat.{add-zero}
+use Rattle.lent.proofs.Prelude.{ℕ, zero, suc, _+_, _-_, _≤_, min, _≡_, refl, sym, ap, _∙_, List, some, arith, add-zero}
 use Rattle.lent.specs.Memory.{far}
 use Rattle.format.specs.Tree.{Function, Functions, count}
 use Rattle.format.specs.Store.{word, _⊕_, functionPiece, functionPieces, childrenPiece}

@@ -1,15 +1,5 @@
 -- What stands at the places that walking finds: the lists of a function, their counts, their items, strings and constants.
-use Prim.Native.Nat.{ℕ, zero, suc, _+_, _-_, _*_, _/_, _%_, _≤_, _<_, min}
-use mathlib.Core.Path.{_≡_, refl, sym, ap, _∙_}
-use mathlib.Core.List.{List, [], _∷_, _++_}
-use mathlib.Core.Bool.{Bool, true, false, cond, not}
-use mathlib.Core.Option.{none, some}
-use native.Mathlib.Omega.{arith}
-use native.Mathlib.Nat.{add-zero, mul-suc, mul-zero}
-use lib.ListN.{length, take, drop, getD}
-use lib.Seq.{length-take-le}
-use lib.Dec.{eqb}
-use borrow.Author.Tests.{ne-eqb, not-true}
+use Rattle.lent.proofs.Prelude.{ℕ, zero, suc, _+_, _-_, _*_, _/_, _%_, _≤_, _<_, min, _≡_, refl, sym, ap, _∙_, List, [], _∷_, _++_, Bool, true, false, cond, not, none, some, arith, add-zero, mul-suc, mul-zero, length, take, drop, getD, length-take-le, eqb, ne-eqb, not-true}
 use Rattle.format.specs.Tree.{Constant as Value, Source, Parts, Function, Functions, filled}
 use Rattle.format.specs.Store.{Piece, word, _⊕_, string, pieces, list, ints, sourcePiece, constantPiece, localPiece, debugPiece, packed, functionPiece, childrenPiece}
 use Rattle.format.specs.Stored.{part, Here}

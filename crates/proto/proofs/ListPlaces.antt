@@ -1,11 +1,5 @@
 -- Where the lists of a function stand: each behind the one before it, the lines behind the functions; and what is kept of lines.
-use Prim.Native.Nat.{ℕ, zero, suc, _+_, _*_, _-_, _<_}
-use mathlib.Core.Path.{_≡_, refl, sym, _∙_}
-use mathlib.Core.List.{List}
-use native.Mathlib.Omega.{arith}
-use native.Mathlib.Decide.{ℕ-discrete}
-use lib.ListN.{length, getD, set, replicate}
-use lib.Seq.{getD-set-same, getD-set-other}
+use Rattle.lent.proofs.Prelude.{ℕ, zero, suc, _+_, _*_, _-_, _<_, _≡_, refl, sym, _∙_, List, arith, ℕ-discrete, length, getD, set, replicate, getD-set-same, getD-set-other}
 use Rattle.format.specs.Tree.{Parts, Function, Functions, Debug, count}
 use Rattle.format.specs.Store.{list, ints, localPiece, debugPiece, functionPiece}
 use Rattle.format.specs.Valid.{ValidAll}

@@ -1,10 +1,5 @@
 -- Pieces that stand in a store one behind the other, and their lengths.
-use Prim.Native.Nat.{ℕ, _+_, _*_}
-use mathlib.Core.Path.{_≡_, refl, sym, _∙_}
-use mathlib.Core.List.{List, [], _∷_, append-assoc}
-use native.Mathlib.Omega.{arith}
-use native.Mathlib.Nat.{add-assoc, mul-zero, mul-suc}
-use lib.ListN.{length, length-append}
+use Rattle.lent.proofs.Prelude.{ℕ, _+_, _*_, _≡_, refl, sym, _∙_, List, [], _∷_, append-assoc, arith, add-assoc, mul-zero, mul-suc, length, length-append}
 use Rattle.format.specs.Tree.{Constant, Source, Parts, Function, Functions}
 use Rattle.format.specs.Store.{Piece, word, _⊕_, pieces, list, ints, sourcePiece, constantPiece, debugPiece, packed, functionPiece, childrenPiece}
 use Rattle.format.proofs.Stored.{here-left, here-right}

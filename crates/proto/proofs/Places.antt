@@ -1,14 +1,5 @@
 -- The search for the function at a place: what is found in one function, in those behind it, and in those in it.
-use Prim.Native.Nat.{ℕ, suc, _+_, _-_, _≤_, _<_}
-use mathlib.Core.Path.{_≡_, refl, sym, _∙_}
-use mathlib.Core.List.{List, [], _∷_, _++_}
-use mathlib.Core.Bool.{true, false, cond}
-use mathlib.Core.Option.{Option, none, some}
-use native.Mathlib.Omega.{arith}
-use native.Mathlib.Nat.{add-zero, add-assoc}
-use lib.ListN.{length, getD, length-append}
-use lib.Dec.{eqb}
-use borrow.Author.Tests.{eq-eqb, ne-eqb}
+use Rattle.lent.proofs.Prelude.{ℕ, suc, _+_, _-_, _≤_, _<_, _≡_, refl, sym, _∙_, List, [], _∷_, _++_, true, false, cond, Option, none, some, arith, add-zero, add-assoc, length, getD, length-append, eqb, eq-eqb, ne-eqb}
 use Rattle.format.specs.Tree.{Source, Debug, Parts, Function, Functions, count, filled}
 use Rattle.format.specs.Store.{sourcePiece, debugPiece, functionPiece, functionPieces, childrenPiece}
 use Rattle.format.specs.Valid.{Valid, ValidAll}

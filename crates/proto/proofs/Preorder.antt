@@ -1,8 +1,5 @@
 -- The functions that stand in a store are those of its tree in preorder, each with its source filled in.
-use Prim.Native.Nat.{ℕ, suc}
-use mathlib.Core.Path.{_≡_, refl, ap}
-use mathlib.Core.List.{List, _∷_, map, map-append}
-use lib.ListN.{length, length-append}
+use Rattle.lent.proofs.Prelude.{ℕ, suc, _≡_, refl, ap, List, _∷_, map, map-append, length, length-append}
 use Rattle.format.specs.Tree.{Source, Function, Functions, partsOf, preorder, preorderAll, fill, fillAll}
 use Rattle.proto.specs.Walk.{total, totalAll}
 use Rattle.proto.specs.Places.{Filled, filledIn, placed, placedAll}

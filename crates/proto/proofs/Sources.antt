@@ -1,15 +1,5 @@
 -- Each function that functionAt finds stands in the store, well formed, and its source stands where its span says. So source_at and source answer as defined.
-use Prim.Native.Nat.{ℕ, zero, suc, _+_, _-_, _≤_, _<_}
-use mathlib.Core.Path.{_≡_, refl, sym, _∙_}
-use mathlib.Core.List.{List, [], _∷_}
-use mathlib.Core.Bool.{Bool, true, false, cond, not}
-use mathlib.Core.Option.{none, some}
-use native.Mathlib.Omega.{arith}
-use native.Mathlib.Nat.{add-zero}
-use lib.ListN.{length}
-use lib.Seq.{take-length}
-use lib.Dec.{eqb}
-use borrow.Author.Tests.{eqb-true, eq-eqb, ne-eqb, not-true, not-false}
+use Rattle.lent.proofs.Prelude.{ℕ, zero, suc, _+_, _-_, _≤_, _<_, _≡_, refl, sym, _∙_, List, [], _∷_, Bool, true, false, cond, not, none, some, arith, add-zero, length, take-length, eqb, eqb-true, eq-eqb, ne-eqb, not-true, not-false}
 use Rattle.lent.specs.Memory.{Every}
 use Rattle.lent.proofs.Lists.{every-append}
 use Rattle.format.specs.Tree.{Source, Parts, Function, Functions, count}

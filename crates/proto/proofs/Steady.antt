@@ -1,8 +1,5 @@
 -- How many words a piece has does not depend on where its text stands.
-use Prim.Native.Nat.{ℕ, _+_}
-use mathlib.Core.Path.{_≡_, refl, sym, ap, _∙_}
-use mathlib.Core.List.{List, [], _∷_}
-use lib.ListN.{length, length-append}
+use Rattle.lent.proofs.Prelude.{ℕ, _+_, _≡_, refl, sym, ap, _∙_, List, [], _∷_, length, length-append}
 use Rattle.format.specs.Tree.{Debug, Parts, Function, Functions, count}
 use Rattle.format.specs.Store.{Piece, plain, _⊕_, string, pieces, list, sourcePiece, constantPiece, localPiece, debugPiece, packed, functionPiece, functionPieces}
 use Rattle.proto.specs.Walk.{toFunctions, toLines, toLocals}

@@ -1,14 +1,5 @@
 -- What the check of each part of a function finds, and of a whole store: it holds where, and only where, the store holds a tree.
-use Prim.Native.Nat.{ℕ, zero, suc, zero-le, _+_, _-_, _*_, _/_, _%_, _≤_, _<_}
-use mathlib.Core.Path.{_≡_, refl, sym, ap, _∙_}
-use mathlib.Core.List.{List, [], _∷_}
-use mathlib.Core.Bool.{Bool, true, false, cond}
-use mathlib.Core.Option.{Option, none, some}
-use native.Mathlib.Omega.{arith}
-use native.Mathlib.Decide.{ℕ-discrete}
-use lib.ListN.{length, getD}
-use lib.Dec.{eqb}
-use borrow.Author.Tests.{eq-eqb, ne-eqb}
+use Rattle.lent.proofs.Prelude.{ℕ, zero, suc, zero-le, _+_, _-_, _*_, _/_, _%_, _≤_, _<_, _≡_, refl, sym, ap, _∙_, List, [], _∷_, Bool, true, false, cond, Option, none, some, arith, ℕ-discrete, length, getD, eqb, eq-eqb, ne-eqb}
 use Rattle.lent.specs.Memory.{Every, Word, Bytes}
 use Rattle.format.specs.Tree.{Constant, Source, Debug, Parts, Function, Functions, count}
 use Rattle.format.specs.Store.{word, _⊕_, string, pieces, list, ints, sourcePiece, constantPiece, localPiece, debugPiece, packed, functionPiece, functionPieces, wordsOf, textOf, childrenPiece}

@@ -1,11 +1,5 @@
 -- A list that stands at a place of another: its length, its items, and two of them one behind the other.
-use Prim.Native.Nat.{ℕ, _+_, _-_, _≤_, _<_, min}
-use mathlib.Core.Path.{_≡_, refl, sym, ap, _∙_}
-use mathlib.Core.List.{List, [], _∷_, _++_, append-assoc, append-nil}
-use native.Mathlib.Omega.{arith}
-use lib.ListN.{length, take, drop, getD, length-append, length-drop, take-append-drop, drop-of-length-le, List·getD-append}
-use lib.Seq.{drop-at, drop-drop, getD-drop, take-all, take-length, length-take-le, drop-length}
-use native.Mathlib.Decide.{decLe}
+use Rattle.lent.proofs.Prelude.{ℕ, _+_, _-_, _≤_, _<_, min, _≡_, refl, sym, ap, _∙_, List, [], _∷_, _++_, append-assoc, append-nil, arith, length, take, drop, getD, length-append, length-drop, take-append-drop, drop-of-length-le, List·getD-append, drop-at, drop-drop, getD-drop, take-all, take-length, length-take-le, drop-length, decLe}
 use Rattle.format.specs.Stored.{part, Here}
 use Rattle.lent.proofs.Lists.{drop-more}
 use Rattle.format.proofs.Stored.{here-left}

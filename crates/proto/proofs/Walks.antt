@@ -1,10 +1,5 @@
 -- Places behind pieces: one behind the other, lists, and the functions in a function.
-use Prim.Native.Nat.{ℕ, suc, _+_, _-_, _*_, _≤_, min}
-use mathlib.Core.Path.{_≡_, refl, sym, _∙_}
-use mathlib.Core.List.{List, [], _∷_}
-use native.Mathlib.Omega.{arith}
-use native.Mathlib.Nat.{add-zero, add-assoc}
-use lib.ListN.{length, getD, length-append}
+use Rattle.lent.proofs.Prelude.{ℕ, suc, _+_, _-_, _*_, _≤_, min, _≡_, refl, sym, _∙_, List, [], _∷_, arith, add-zero, add-assoc, length, getD, length-append}
 use Rattle.lent.specs.Memory.{far}
 use Rattle.format.specs.Tree.{Debug, Parts, Function, Functions, count}
 use Rattle.format.specs.Store.{Piece, plain, word, _⊕_, string, pieces, list, ints, sourcePiece, localPiece, debugPiece, functionPiece, functionPieces, childrenPiece}

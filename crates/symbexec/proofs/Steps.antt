@@ -1,12 +1,5 @@
 -- The tests of one instruction, the code's items, and the walk from one instruction to the next.
-use Prim.Native.Nat.{ℕ, zero, suc, _+_, _*_, _-_, _≤_, _<_}
-use mathlib.Core.Path.{_≡_, sym, ap, _∙_}
-use mathlib.Core.List.{List, _∷_}
-use mathlib.Core.Bool.{true, false, cond, and-false}
-use native.Mathlib.Omega.{arith}
-use native.Mathlib.Decide.{decLt}
-use lib.ListN.{length, getD, List·getD-eq-default}
-use borrow.Author.Tests.{lt-ltb, le-ltb}
+use Rattle.lent.proofs.Prelude.{ℕ, zero, suc, _+_, _*_, _-_, _≤_, _<_, _≡_, sym, ap, _∙_, List, _∷_, true, false, cond, and-false, arith, decLt, length, getD, List·getD-eq-default, lt-ltb, le-ltb}
 use Rattle.format.specs.Tree.{Function, Functions}
 use Rattle.format.specs.Valid.{depth, ValidAll}
 use Rattle.format.specs.Store.{ints, childrenPiece}

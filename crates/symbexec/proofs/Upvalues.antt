@@ -1,10 +1,5 @@
 -- How many upvalues the function that a CLOSURE names has.
-use Prim.Native.Nat.{ℕ, _≤_, _<_}
-use mathlib.Core.Path.{_≡_, sym, ap, _∙_}
-use mathlib.Core.List.{List}
-use mathlib.Core.Option.{some}
-use native.Mathlib.Omega.{arith}
-use lib.ListN.{length, getD}
+use Rattle.lent.proofs.Prelude.{ℕ, _≤_, _<_, _≡_, sym, ap, _∙_, List, some, arith, length, getD}
 use Rattle.format.specs.Tree.{Parts, Function, Functions, count}
 use Rattle.format.specs.Store.{functionPiece, childrenPiece}
 use Rattle.format.specs.Valid.{depth, Valid, ValidParts}

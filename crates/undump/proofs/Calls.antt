@@ -1,13 +1,6 @@
 -- The header: bytes that are there, or are not, or are others.
 -- Then a whole chunk, counted and then written: what undump answers and leaves, at each of its returns.
-use Prim.Native.Nat.{ℕ, _+_, _-_, _≤_, _<_, min}
-use mathlib.Core.Path.{_≡_, refl, sym, ap, _∙_}
-use mathlib.Core.List.{List, [], _++_, append-nil}
-use mathlib.Core.Bool.{Bool, true, false, not}
-use native.Mathlib.Omega.{arith}
-use lib.ListN.{length, take, drop, length-drop, drop-of-length-le}
-use lib.Seq.{sets, sets-eq, length-take-le, drop-drop}
-use borrow.Author.Tests.{le-leb, lt-leb, not-true, not-false}
+use Rattle.lent.proofs.Prelude.{ℕ, _+_, _-_, _≤_, _<_, min, _≡_, refl, sym, ap, _∙_, List, [], _++_, append-nil, Bool, true, false, not, arith, length, take, drop, length-drop, drop-of-length-le, sets, sets-eq, length-take-le, drop-drop, le-leb, lt-leb, not-true, not-false}
 use Rattle.lent.specs.Memory.{far}
 use Rattle.format.specs.Tree.{Function}
 use Rattle.format.specs.Read.{Read, got, refused, loadHeader, loadFunction, loadBlock, loadExactly, same, signature, format}

@@ -1,14 +1,5 @@
 -- Bytes that are ASCII: each of them, parts of them, and their repair.
-use Prim.Native.Nat.{ℕ, zero, suc, _+_, _-_, _≤_, _<_, max}
-use mathlib.Core.Path.{_≡_, refl, sym, _∙_}
-use mathlib.Core.List.{List, [], _∷_, _++_}
-use mathlib.Core.Bool.{Bool, true, false, not, _&&_, and-assoc, and-true, and-eq-true-iff}
-use native.Mathlib.Omega.{arith}
-use native.Mathlib.Numerals.{add-one}
-use lib.ListN.{length, take, drop, getD, length-drop}
-use lib.Seq.{take-suc, take-take, take-add, take-length, getD-drop}
-use lib.Dec.{ltb}
-use borrow.Author.Tests.{ltb-true, ltb-false, lt-ltb, le-ltb, not-true, not-false}
+use Rattle.lent.proofs.Prelude.{ℕ, zero, suc, _+_, _-_, _≤_, _<_, max, _≡_, refl, sym, _∙_, List, [], _∷_, _++_, Bool, true, false, not, _&&_, and-assoc, and-true, and-eq-true-iff, arith, add-one, length, take, drop, getD, length-drop, take-suc, take-take, take-add, take-length, getD-drop, ltb, ltb-true, ltb-false, lt-ltb, le-ltb, not-true, not-false}
 use Rattle.lent.specs.Memory.{Every}
 use Rattle.lent.proofs.Lists.{every-take, every-drop}
 use Rattle.utf8.specs.Utf8.{repair, isAscii}

@@ -1,7 +1,5 @@
 -- Repairs, evaluated: the examples of the Unicode Standard, tables 3-8 to 3-11.
-use Prim.Native.Nat.{ℕ}
-use mathlib.Core.Path.{_≡_, refl}
-use mathlib.Core.List.{List, [], _∷_, _++_, map}
+use Rattle.lent.proofs.Prelude.{ℕ, _≡_, refl, List, [], _∷_, _++_, map}
 use Rattle.utf8.specs.Utf8.{matched, whole, begun, firstStep, replacement, repairUpTo, repair}
 
 -- U+FFFD, and bytes behind it

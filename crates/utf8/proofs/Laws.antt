@@ -1,14 +1,5 @@
 -- Laws of text: repair leaves it alone (repair-utf8), what repair gives is text (utf8-repair), and text is made of bytes (utf8-bytes).
-use Prim.Native.Nat.{ℕ, zero, suc, _≤_, _<_, min}
-use mathlib.Core.Path.{_≡_, refl, sym, ap, _∙_}
-use mathlib.Core.List.{List, [], _∷_, _++_, append-assoc, append-nil}
-use mathlib.Core.Bool.{true, cond, _&&_, false≢true, and-eq-true-iff}
-use native.Mathlib.Omega.{arith}
-use native.Mathlib.Nat.{le-refl}
-use lib.ListN.{length, take, drop, length-drop, take-append-drop}
-use lib.Seq.{length-take-le, drop-at, take-at}
-use lib.Dec.{leb·zero}
-use borrow.Author.Tests.{le-leb, eqb-true, eq-eqb}
+use Rattle.lent.proofs.Prelude.{ℕ, zero, suc, _≤_, _<_, min, _≡_, refl, sym, ap, _∙_, List, [], _∷_, _++_, append-assoc, append-nil, true, cond, _&&_, false≢true, and-eq-true-iff, arith, le-refl, length, take, drop, length-drop, take-append-drop, length-take-le, drop-at, take-at, leb·zero, le-leb, eqb-true, eq-eqb}
 use Rattle.lent.specs.Memory.{Every, Byte, Bytes}
 use Rattle.lent.proofs.Lists.{every-append}
 use Rattle.utf8.specs.declared.Step.{Step}

@@ -1,19 +1,9 @@
 -- What stands first follows from the row of table 3-7 that the first byte leads, since no two rows share a lead byte (row-step);
 -- bytes at places against the ranges of a row; and a lead byte's row, by a test that is computed for each byte.
-use Prim.Native.Nat.{ℕ, zero, suc, _+_, _-_, _≤_, _<_, min, max}
-use mathlib.Core.Path.{_≡_, refl, sym, _∙_}
-use mathlib.Core.List.{List, [], _∷_}
-use mathlib.Core.Bool.{Bool, true, false, cond, _&&_, false≢true, and-eq-true-iff}
-use native.Mathlib.Omega.{arith}
-use lib.ListN.{length, drop, getD, drop-of-length-le}
-use lib.Dec.{leb, eqb, eqb·zero-suc}
-use borrow.Author.Tests.{lt-leb, leb-true, eqb-true, ne-eqb}
+use Rattle.lent.proofs.Prelude.{ℕ, zero, suc, _+_, _-_, _≤_, _<_, min, max, _≡_, refl, sym, _∙_, List, [], _∷_, Bool, true, false, cond, _&&_, false≢true, and-eq-true-iff, arith, length, drop, getD, drop-of-length-le, leb, eqb, eqb·zero-suc, lt-leb, leb-true, eqb-true, ne-eqb, add-assoc, decLe, drop-drop}
 use Rattle.utf8.specs.declared.Step.{Step}
 use Rattle.utf8.specs.Utf8.{Range, _‥_, Row, table3-7, within, matched, whole, begun, firstStep}
 use Rattle.utf8.specs.Rows.{rowOf, secondLow, secondHigh, secondRange, ranges, begunAt, begins}
-use native.Mathlib.Nat.{add-assoc}
-use native.Mathlib.Decide.{decLe}
-use lib.Seq.{drop-drop}
 use Rattle.lent.proofs.Lists.{drop-more}
 
 -- by a test: what holds of each result holds of the test's, where that result is known

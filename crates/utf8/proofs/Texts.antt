@@ -1,14 +1,5 @@
 -- Text within bytes: how it goes on, and what it says of the whole.
-use Prim.Native.Nat.{ℕ, _+_, _-_, _≤_, _<_, min}
-use mathlib.Core.Path.{_≡_, refl, sym, ap, _∙_}
-use mathlib.Core.List.{List, [], _∷_, _++_}
-use mathlib.Core.Bool.{Bool, true, false, not}
-use native.Mathlib.Omega.{arith}
-use native.Mathlib.Decide.{ℕ-discrete}
-use lib.ListN.{length, take, drop, getD, take-append-drop, length-drop, drop-of-length-le}
-use lib.Seq.{take-add, drop-drop}
-use lib.Dec.{eqb}
-use borrow.Author.Tests.{eq-eqb, ne-eqb, not-true, not-false}
+use Rattle.lent.proofs.Prelude.{ℕ, _+_, _-_, _≤_, _<_, min, _≡_, refl, sym, ap, _∙_, List, [], _∷_, _++_, Bool, true, false, not, arith, ℕ-discrete, length, take, drop, getD, take-append-drop, length-drop, drop-of-length-le, take-add, drop-drop, eqb, eq-eqb, ne-eqb, not-true, not-false}
 use Rattle.lent.proofs.Lists.{drop-more}
 use Rattle.utf8.specs.declared.Step.{Step}
 use Rattle.utf8.specs.Utf8.{Range, _‥_, firstStep, isUtf8, isAscii, replacement, repairUpTo, repair}

@@ -1,7 +1,7 @@
 -- The call that it passes on. Lts and Tie are written by tools/twin.py.
 mod Lts
 mod Tie
-use borrow.Author.Needs.{needs}
+use Rattle.lent.proofs.Prelude.{needs}
 use Rattle.chunk.proofs.lua_chunk_get_local_name_in.Statement.{statement}
 use Rattle.chunk.proofs.lua_chunk_get_local_name_in.Proof.Tie as tie
 

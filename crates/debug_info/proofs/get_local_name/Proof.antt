@@ -1,6 +1,5 @@
 -- Not refused, the function stands at its place, and so do its locals.
-use borrow.Author.Needs.{needs}
-use mathlib.Core.Path.{ap, _∙_}
+use Rattle.lent.proofs.Prelude.{needs, ap, _∙_}
 use Rattle.format.specs.Tree.{partsOf}
 use Rattle.debug_info.specs.Names.{getLocalName}
 use Rattle.debug_info.specs.Calls.{named, localNamed}

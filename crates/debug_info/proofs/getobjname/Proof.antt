@@ -1,6 +1,5 @@
 -- Not refused, the function stands at its place, and so do its lists; no register was searched before.
-use borrow.Author.Needs.{needs}
-use mathlib.Core.Path.{ap, _∙_}
+use Rattle.lent.proofs.Prelude.{needs, ap, _∙_}
 use Rattle.debug_info.specs.Names.{getobjname}
 use Rattle.debug_info.specs.Searched.{unsearched}
 use Rattle.debug_info.specs.Calls.{named, objectNamed}

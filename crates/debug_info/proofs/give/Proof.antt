@@ -1,5 +1,5 @@
 -- By what writing the name answers.
-use borrow.Author.Needs.{needs}
+use Rattle.lent.proofs.Prelude.{needs}
 use Rattle.debug_info.proofs.Calls.{named-fits, named-11}
 use Rattle.debug_info.proofs.give.Statement.{statement}
 use Rattle.debug_info.proofs.give.Tie as tie

@@ -1,6 +1,5 @@
 -- Not refused, the function stands at its place, and so do its constants.
-use borrow.Author.Needs.{needs}
-use mathlib.Core.Path.{ap, _∙_}
+use Rattle.lent.proofs.Prelude.{needs, ap, _∙_}
 use Rattle.format.specs.Tree.{partsOf}
 use Rattle.format.specs.Dump.{written}
 use Rattle.proto.proofs.Items.{somewhere, constants-stand}

@@ -1,5 +1,5 @@
 -- The place's refusal first; then the count of the code, and the register.
-use borrow.Author.Needs.{needs}
+use Rattle.lent.proofs.Prelude.{needs}
 use Rattle.debug_info.proofs.Calls.{register-place, register-13, register-14, register-0}
 use Rattle.debug_info.proofs.register_refusal.Statement.{statement}
 use Rattle.debug_info.proofs.register_refusal.Tie as tie

@@ -1,5 +1,5 @@
 -- Not refused, the function stands at its place, and so do its lists.
-use borrow.Author.Needs.{needs}
+use Rattle.lent.proofs.Prelude.{needs}
 use Rattle.symbexec.specs.SymbExec.{symbexec}
 use Rattle.debug_info.specs.Calls.{symbexecAnswer}
 use Rattle.proto.proofs.ListPlaces.{lists-stand}

@@ -1,9 +1,5 @@
 -- The digits stand at the start of all.
-use borrow.Author.Needs.{needs}
-use native.Mathlib.Omega.{arith}
-use mathlib.Core.Path.{sym}
-use lib.ListN.{replicate}
-use lib.Seq.{length-take-le}
+use Rattle.lent.proofs.Prelude.{needs, arith, sym, replicate, length-take-le}
 use Rattle.digits.specs.Digits.{digits}
 use Rattle.digits.proofs.Numbers.{length-digits}
 use Rattle.digits.proofs.Rooms.{stored}

@@ -1,6 +1,5 @@
 -- Either way the test decides the digit.
-use borrow.Author.Needs.{needs}
-use borrow.Author.Tests.{lt-ltb, le-ltb}
+use Rattle.lent.proofs.Prelude.{needs, lt-ltb, le-ltb}
 use Rattle.digits.proofs.digit.Statement.{statement}
 use Rattle.digits.proofs.digit.Tie as tie
 

@@ -1,6 +1,5 @@
 -- Past the two tests only a byte with no letter is left.
-use borrow.Author.Needs.{needs}
-use mathlib.Core.Path.{sym, _∙_}
+use Rattle.lent.proofs.Prelude.{needs, sym, _∙_}
 use Rattle.digits.proofs.Strings.{escape-plain}
 use Rattle.digits.proofs.is_plain.Statement.{statement}
 use Rattle.digits.proofs.is_plain.Tie as tie

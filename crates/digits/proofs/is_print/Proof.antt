@@ -1,6 +1,5 @@
 -- The two tests are those of the range.
-use borrow.Author.Needs.{needs}
-use borrow.Author.Tests.{le-leb, lt-leb}
+use Rattle.lent.proofs.Prelude.{needs, le-leb, lt-leb}
 use Rattle.digits.proofs.is_print.Statement.{statement}
 use Rattle.digits.proofs.is_print.Tie as tie
 

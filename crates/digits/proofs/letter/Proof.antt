@@ -1,7 +1,5 @@
 -- An arm has its row's letter, by computation. A byte past the arms is none of the table's.
-use mathlib.Core.Path.{_≡_, sym, ap}
-use Prim.Native.Nat.{ℕ}
-use borrow.Author.Needs.{needs}
+use Rattle.lent.proofs.Prelude.{_≡_, sym, ap, ℕ, needs}
 use Rattle.lent.specs.Memory.{Every}
 use Rattle.digits.specs.Digits.{letters, letterIn}
 use Rattle.digits.proofs.Strings.{letter-none}

@@ -1,7 +1,5 @@
 -- Short numbers by four tests, the others by division.
-use borrow.Author.Needs.{needs}
-use native.Mathlib.Omega.{arith}
-use mathlib.Core.Path.{sym}
+use Rattle.lent.proofs.Prelude.{needs, arith, sym}
 use Rattle.digits.proofs.Numbers.{places-few}
 use Rattle.digits.proofs.places.Statement.{statement}
 use Rattle.digits.proofs.places.Tie as tie

@@ -1,8 +1,5 @@
 -- The digits counted and those of what is left are those of n; each turn counts one and leaves the others.
-use borrow.Author.Needs.{needs}
-use Prim.Native.Nat.{_+_, _≤_}
-use mathlib.Core.Path.{_≡_}
-use native.Mathlib.Omega.{arith}
+use Rattle.lent.proofs.Prelude.{needs, _+_, _≤_, _≡_, arith}
 use Rattle.digits.specs.Digits.{places}
 use Rattle.digits.proofs.Numbers.{places-one, places-more}
 use Rattle.digits.proofs.places_long.Statement.{statement}

@@ -1,9 +1,5 @@
 -- The bytes passed are each written as itself, since `is_plain` said so.
-use borrow.Author.Needs.{needs}
-use Prim.Native.Nat.{_-_}
-use native.Mathlib.Omega.{arith}
-use lib.ListN.{length}
-use borrow.Author.Tests.{not-false}
+use Rattle.lent.proofs.Prelude.{needs, _-_, arith, length, not-false}
 use Rattle.digits.specs.Digits.{Plain}
 use Rattle.digits.proofs.Strings.{plain-none, plain-more}
 use Rattle.digits.proofs.plain_end.Statement.{statement}

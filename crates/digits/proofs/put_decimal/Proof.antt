@@ -1,7 +1,5 @@
 -- As many digits as places counted.
-use borrow.Author.Needs.{needs}
-use native.Mathlib.Omega.{arith}
-use Prim.Native.Nat.{_≤_}
+use Rattle.lent.proofs.Prelude.{needs, arith, _≤_}
 use Rattle.digits.specs.Digits.{places}
 use Rattle.digits.proofs.Numbers.{places-most}
 use Rattle.digits.proofs.put_decimal.Statement.{statement}

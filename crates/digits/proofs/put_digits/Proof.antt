@@ -1,5 +1,5 @@
 -- All are past the end, some, or none.
-use borrow.Author.Needs.{needs}
+use Rattle.lent.proofs.Prelude.{needs}
 use Rattle.digits.proofs.Rooms.{digits-stored}
 use Rattle.lent.proofs.Writes.{put-lost}
 use Rattle.digits.proofs.Numbers.{length-digits}

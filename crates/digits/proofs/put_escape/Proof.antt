@@ -1,7 +1,5 @@
 -- Each way writes what the definition gives under the same test.
-use borrow.Author.Needs.{needs}
-use mathlib.Core.Path.{sym, _∙_}
-use native.Mathlib.Omega.{arith}
+use Rattle.lent.proofs.Prelude.{needs, sym, _∙_, arith}
 use Rattle.lent.proofs.Writes.{put-then, put-first}
 use Rattle.digits.proofs.Strings.{escape-letter, escape-print, escape-digits}
 use Rattle.digits.proofs.put_escape.Statement.{statement}

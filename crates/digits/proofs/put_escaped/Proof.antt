@@ -1,9 +1,5 @@
 -- What is left to write is the bytes left: those that are written as themselves, then one that may not be.
-use borrow.Author.Needs.{needs}
-use Prim.Native.Nat.{_-_, _≤_}
-use mathlib.Core.Path.{_≡_, _∙_}
-use native.Mathlib.Omega.{arith}
-use lib.ListN.{length, drop}
+use Rattle.lent.proofs.Prelude.{needs, _-_, _≤_, _≡_, _∙_, arith, length, drop}
 use Rattle.lent.proofs.Writes.{Rest, rest-put, rest-end}
 use Rattle.digits.specs.Digits.{escaped}
 use Rattle.digits.proofs.Strings.{escaped-none, escaped-more}

@@ -1,5 +1,5 @@
 -- The sign, then the number.
-use borrow.Author.Needs.{needs}
+use Rattle.lent.proofs.Prelude.{needs}
 use Rattle.lent.proofs.Writes.{put-first}
 use Rattle.digits.proofs.put_negative.Statement.{statement}
 use Rattle.digits.proofs.put_negative.Tie as tie

@@ -1,5 +1,5 @@
 -- 0x, then the digits.
-use borrow.Author.Needs.{needs}
+use Rattle.lent.proofs.Prelude.{needs}
 use Rattle.lent.proofs.Writes.{put-first}
 use Rattle.digits.proofs.put_number.Statement.{statement}
 use Rattle.digits.proofs.put_number.Tie as tie

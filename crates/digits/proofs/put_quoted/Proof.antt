@@ -1,5 +1,5 @@
 -- A quote, the string, a quote.
-use borrow.Author.Needs.{needs}
+use Rattle.lent.proofs.Prelude.{needs}
 use Rattle.lent.proofs.Writes.{put-first, put-then}
 use Rattle.digits.proofs.put_quoted.Statement.{statement}
 use Rattle.digits.proofs.put_quoted.Tie as tie

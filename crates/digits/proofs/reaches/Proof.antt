@@ -1,6 +1,5 @@
 -- By the test.
-use borrow.Author.Needs.{needs}
-use borrow.Author.Tests.{lt-ltb, le-ltb}
+use Rattle.lent.proofs.Prelude.{needs, lt-ltb, le-ltb}
 use Rattle.digits.proofs.reaches.Statement.{statement}
 use Rattle.digits.proofs.reaches.Tie as tie
 

@@ -1,7 +1,5 @@
 -- The byte is stored, and the next place is one further on.
-use borrow.Author.Needs.{needs}
-use native.Mathlib.Omega.{arith}
-use mathlib.Core.Path.{refl}
+use Rattle.lent.proofs.Prelude.{needs, arith, refl}
 use Rattle.digits.proofs.Rooms.{fit-byte}
 use Rattle.digits.proofs.store_byte.Statement.{statement}
 use Rattle.digits.proofs.store_byte.Tie as tie

@@ -1,5 +1,5 @@
 -- By the number of digits.
-use borrow.Author.Needs.{needs}
+use Rattle.lent.proofs.Prelude.{needs}
 use Rattle.digits.proofs.Numbers.{decimal-one}
 use Rattle.digits.proofs.Rooms.{fit-within}
 use Rattle.digits.proofs.store_decimal.Statement.{statement}

@@ -1,11 +1,5 @@
 -- What is left to store gives what all gives. Each turn stores the last digit of what is left.
-use borrow.Author.Needs.{needs}
-use native.Mathlib.Omega.{arith}
-use Prim.Native.Nat.{_≤_, _<_}
-use mathlib.Core.Path.{_≡_}
-use native.Mathlib.Nat.{mod-lt}
-use lib.ListN.{length, length-set}
-use lib.Seq.{sets}
+use Rattle.lent.proofs.Prelude.{needs, arith, _≤_, _<_, _≡_, mod-lt, length, length-set, sets}
 use Rattle.digits.specs.Digits.{digits}
 use Rattle.digits.proofs.Numbers.{store-last}
 use Rattle.digits.proofs.store_digits.Statement.{statement}

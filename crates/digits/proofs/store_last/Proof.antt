@@ -1,8 +1,6 @@
 -- The digit is below 10.
-use borrow.Author.Needs.{needs}
-use native.Mathlib.Omega.{arith}
+use Rattle.lent.proofs.Prelude.{needs, arith, _%_}
 use Rattle.digits.proofs.Numbers.{digit-ten}
-use Prim.Native.Nat.{_%_}
 use Rattle.digits.proofs.store_last.Statement.{statement}
 use Rattle.digits.proofs.store_last.Tie as tie
 

@@ -1,7 +1,5 @@
 -- As many digits as places counted, at most 10.
-use borrow.Author.Needs.{needs}
-use native.Mathlib.Omega.{arith}
-use Prim.Native.Nat.{_≤_}
+use Rattle.lent.proofs.Prelude.{needs, arith, _≤_}
 use Rattle.lent.proofs.Writes.{put-stored}
 use Rattle.digits.specs.Digits.{places}
 use Rattle.digits.proofs.Numbers.{places-most, length-digits}

@@ -1,5 +1,5 @@
 -- The sign, then the number.
-use borrow.Author.Needs.{needs}
+use Rattle.lent.proofs.Prelude.{needs}
 use Rattle.digits.proofs.Rooms.{fit-then}
 use Rattle.digits.proofs.store_negative.Statement.{statement}
 use Rattle.digits.proofs.store_negative.Tie as tie

@@ -1,7 +1,5 @@
 -- The first digit, then the last.
-use borrow.Author.Needs.{needs}
-use native.Mathlib.Omega.{arith}
-use Prim.Native.Nat.{_/_}
+use Rattle.lent.proofs.Prelude.{needs, arith, _/_}
 use Rattle.digits.proofs.Numbers.{decimal-one}
 use Rattle.digits.proofs.Rooms.{fit-last}
 use Rattle.digits.proofs.store_two.Statement.{statement}

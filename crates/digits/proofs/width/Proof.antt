@@ -1,7 +1,5 @@
 -- As many as places counts, which are at most 10.
-use borrow.Author.Needs.{needs}
-use native.Mathlib.Omega.{arith}
-use mathlib.Core.Path.{sym, _∙_}
+use Rattle.lent.proofs.Prelude.{needs, arith, sym, _∙_}
 use Rattle.digits.specs.Digits.{places}
 use Rattle.digits.proofs.Numbers.{places-most, length-digits}
 use Rattle.digits.proofs.width.Statement.{statement}

@@ -1,6 +1,5 @@
 -- The header, and behind it the root.
-use borrow.Author.Needs.{needs}
-use mathlib.Core.Path.{refl}
+use Rattle.lent.proofs.Prelude.{needs, refl}
 use Rattle.dump.proofs.Lists.{puts-counted}
 use Rattle.dump.proofs.Calls.{chunk-puts}
 use Rattle.dump.proofs.count_chunk.Statement.{statement}

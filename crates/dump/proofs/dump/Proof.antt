@@ -1,6 +1,5 @@
 -- Where there is room for any chunk of the store, it is written at once. Else it is counted first, and written where the space is as long.
-use borrow.Author.Needs.{needs}
-use native.Mathlib.Omega.{arith}
+use Rattle.lent.proofs.Prelude.{needs, arith}
 use Rattle.dump.proofs.Calls.{name-refused, store-refused, roomy-fits, roomy-dumped, room-refused, counted-fits, counted-dumped}
 use Rattle.dump.proofs.dump.Statement.{statement}
 use Rattle.dump.proofs.dump.Tie as tie

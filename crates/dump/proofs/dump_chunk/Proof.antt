@@ -1,5 +1,5 @@
 -- The header, and behind it the root.
-use borrow.Author.Needs.{needs}
+use Rattle.lent.proofs.Prelude.{needs}
 use Rattle.dump.proofs.Calls.{chunk-puts, header-fits, root-ready}
 use Rattle.dump.proofs.dump_chunk.Statement.{statement}
 use Rattle.dump.proofs.dump_chunk.Tie as tie

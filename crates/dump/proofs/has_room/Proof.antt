@@ -1,5 +1,4 @@
-use borrow.Author.Needs.{needs}
-use mathlib.Core.Bool.{false≢true}
+use Rattle.lent.proofs.Prelude.{needs, false≢true}
 use Rattle.dump.proofs.Bounds.{room-left}
 use Rattle.dump.proofs.has_room.Statement.{statement}
 use Rattle.dump.proofs.has_room.Tie as tie

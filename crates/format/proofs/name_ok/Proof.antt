@@ -1,5 +1,5 @@
 -- The test of UTF-8 first, then that of the length.
-use borrow.Author.Needs.{needs}
+use Rattle.lent.proofs.Prelude.{needs}
 use Rattle.format.proofs.name_ok.Statement.{statement}
 use Rattle.format.proofs.name_ok.Tie as tie
 

@@ -1,8 +1,5 @@
 -- Few bytes are copied in fours, each behind or over those before it, and other bytes one by one.
-use borrow.Author.Needs.{needs}
-use native.Mathlib.Omega.{arith}
-use Prim.Native.Nat.{_+_, _-_}
-use mathlib.Core.Path.{_≡_, refl}
+use Rattle.lent.proofs.Prelude.{needs, arith, _+_, _-_, _≡_, refl}
 use Rattle.lent.proofs.Writes.{sets-four}
 use Rattle.lent.proofs.copy.Statement.{statement}
 use Rattle.lent.proofs.copy.Tie as tie

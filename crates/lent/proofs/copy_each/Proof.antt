@@ -1,10 +1,5 @@
 -- i bytes are copied so far; each turn stores the next.
-use borrow.Author.Needs.{needs}
-use Prim.Native.Nat.{_-_, _≤_}
-use mathlib.Core.Path.{_≡_}
-use native.Mathlib.Omega.{arith}
-use lib.ListN.{length, take, length-set}
-use lib.Seq.{sets}
+use Rattle.lent.proofs.Prelude.{needs, _-_, _≤_, _≡_, arith, length, take, length-set, sets}
 use Rattle.lent.proofs.Writes.{sets-suc}
 use Rattle.lent.proofs.copy_each.Statement.{statement}
 use Rattle.lent.proofs.copy_each.Tie as tie

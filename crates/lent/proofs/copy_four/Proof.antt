@@ -1,6 +1,5 @@
 -- The four bytes are stored one behind the other.
-use borrow.Author.Needs.{needs}
-use lib.ListN.{length-set}
+use Rattle.lent.proofs.Prelude.{needs, length-set}
 use Rattle.lent.proofs.Writes.{four-stored}
 use Rattle.lent.proofs.copy_four.Statement.{statement}
 use Rattle.lent.proofs.copy_four.Tie as tie

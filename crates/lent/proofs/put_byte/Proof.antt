@@ -1,9 +1,6 @@
 -- The byte is stored where it is within the slice, and past the end nothing is.
-use borrow.Author.Needs.{needs}
-use native.Mathlib.Omega.{arith}
+use Rattle.lent.proofs.Prelude.{needs, arith, ap, _∙_, length, length-set}
 use mathlib.Core.Logic.{⊎-elim}
-use mathlib.Core.Path.{ap, _∙_}
-use lib.ListN.{length, length-set}
 use Rattle.lent.proofs.Writes.{put-stored, put-lost}
 use Rattle.lent.proofs.put_byte.Statement.{statement}
 use Rattle.lent.proofs.put_byte.Tie as tie

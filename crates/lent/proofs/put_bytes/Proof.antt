@@ -1,9 +1,6 @@
 -- As many bytes are copied as there is room for, and the others are past the end.
-use borrow.Author.Needs.{needs}
-use native.Mathlib.Omega.{arith}
+use Rattle.lent.proofs.Prelude.{needs, arith, ap, _∙_, length}
 use mathlib.Core.Logic.{⊎-elim}
-use mathlib.Core.Path.{ap, _∙_}
-use lib.ListN.{length}
 use Rattle.lent.proofs.Writes.{put-part, put-lost}
 use Rattle.lent.proofs.put_bytes.Statement.{statement}
 use Rattle.lent.proofs.put_bytes.Tie as tie

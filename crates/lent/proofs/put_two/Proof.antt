@@ -1,6 +1,5 @@
 -- Past the end nothing is stored; where there is room, the words are, at once.
-use borrow.Author.Needs.{needs}
-use lib.ListN.{length-set}
+use Rattle.lent.proofs.Prelude.{needs, length-set}
 use Rattle.lent.proofs.Writes.{sets-two, put-lost, put-room, put-first}
 use Rattle.lent.proofs.put_two.Statement.{statement}
 use Rattle.lent.proofs.put_two.Tie as tie

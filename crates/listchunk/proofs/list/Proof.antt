@@ -1,5 +1,5 @@
 -- undump's refusal is passed on; else its store is listed.
-use borrow.Author.Needs.{needs}
+use Rattle.lent.proofs.Prelude.{needs}
 use Rattle.listchunk.proofs.Listed.{chunk-refused, chunk-listed}
 use Rattle.listchunk.proofs.list.Statement.{statement}
 use Rattle.listchunk.proofs.list.Tie as tie

@@ -1,8 +1,5 @@
 -- The run without space counts; the run over the space writes what it counted.
-use borrow.Author.Needs.{needs}
-use native.Mathlib.Omega.{arith}
-use mathlib.Core.Path.{sym, _∙_}
-use borrow.Author.Tests.{not-true, not-false}
+use Rattle.lent.proofs.Prelude.{needs, arith, sym, _∙_, not-true, not-false}
 use Rattle.listing.specs.Listing.{listFunction, listed}
 use Rattle.proto.proofs.Calls.{refused-name, refused-store, refused-room, all-written}
 use Rattle.listing.proofs.list_function.Statement.{statement}

@@ -1,5 +1,5 @@
 -- The root stands at place 0, and a tree has no more functions than words, so that no number stops at the farthest. Nothing is kept of lines yet.
-use borrow.Author.Needs.{needs}
+use Rattle.lent.proofs.Prelude.{needs}
 use Rattle.listing.proofs.Calls.{root-puts}
 use Rattle.format.specs.Valid.{depth}
 use Rattle.proto.proofs.ListPlaces.{kept-none}

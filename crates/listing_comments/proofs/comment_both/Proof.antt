@@ -1,5 +1,5 @@
 -- The parts one after the other.
-use borrow.Author.Needs.{needs}
+use Rattle.lent.proofs.Prelude.{needs}
 use Rattle.listing_operands.proofs.ShownLists.{shows-put, shows-then}
 use Rattle.listing_comments.proofs.comment_both.Statement.{statement}
 use Rattle.listing_comments.proofs.comment_both.Tie as tie

@@ -1,7 +1,6 @@
 -- The word there is the count that the contract compares with.
-use borrow.Author.Needs.{needs}
+use Rattle.lent.proofs.Prelude.{needs, lt-ltb, le-ltb}
 use Rattle.lent.proofs.Writes.{put-then, put-none}
-use borrow.Author.Tests.{lt-ltb, le-ltb}
 use Rattle.listing_comments.proofs.comment_closure.Statement.{statement}
 use Rattle.listing_comments.proofs.comment_closure.Tie as tie
 

@@ -1,5 +1,5 @@
 -- The beginning of a comment, then the sum less MAXARG-sBx; nothing wraps at 64 bits.
-use borrow.Author.Needs.{needs}
+use Rattle.lent.proofs.Prelude.{needs}
 use Rattle.lent.proofs.Writes.{put-then}
 use Rattle.listing_comments.proofs.comment_jump.Statement.{statement}
 use Rattle.listing_comments.proofs.comment_jump.Tie as tie

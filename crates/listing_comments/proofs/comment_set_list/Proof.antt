@@ -1,12 +1,7 @@
 -- C is not 0, or the word behind is past the count, or it stands there.
-use borrow.Author.Needs.{needs}
-use native.Mathlib.Omega.{arith}
-use mathlib.Core.Path.{refl}
-use mathlib.Core.Option.{some}
+use Rattle.lent.proofs.Prelude.{needs, arith, refl, some, eq-eqb, ne-eqb, _+_}
 use Rattle.format.specs.Store.{word}
 use Rattle.lent.proofs.Writes.{put-none}
-use borrow.Author.Tests.{eq-eqb, ne-eqb}
-use Prim.Native.Nat.{_+_}
 use Rattle.listing_comments.specs.Comment.{extraText}
 use Rattle.listing_operands.proofs.ShownLists.{shows-put, shows-is, shows-ints, shows-past, shows-item, word-shown}
 use Rattle.listing_comments.proofs.comment_set_list.Statement.{statement}

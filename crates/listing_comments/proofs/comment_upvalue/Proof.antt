@@ -1,6 +1,5 @@
 -- Past the count there is no name, before it name b stands there.
-use borrow.Author.Needs.{needs}
-use mathlib.Core.Path.{refl}
+use Rattle.lent.proofs.Prelude.{needs, refl}
 use Rattle.format.specs.Store.{string}
 use Rattle.listing_comments.specs.Comment.{upvalueText}
 use Rattle.listing_operands.proofs.ShownLists.{shows-put, shows-then, shows-past, shows-item, string-shown}

@@ -1,6 +1,5 @@
 -- It is the first, or it is compared with the second.
-use borrow.Author.Needs.{needs}
-use borrow.Author.Tests.{eq-eqb, ne-eqb}
+use Rattle.lent.proofs.Prelude.{needs, eq-eqb, ne-eqb}
 use Rattle.listing_comments.proofs.Comments.{or-false}
 use Rattle.listing_comments.proofs.either.Statement.{statement}
 use Rattle.listing_comments.proofs.either.Tie as tie

@@ -1,8 +1,6 @@
 -- The tests are those of the definition, in its order; the comment is that of the list which stands where lists says.
-use borrow.Author.Needs.{needs}
-use mathlib.Core.Path.{sym, _∙_}
+use Rattle.lent.proofs.Prelude.{needs, sym, _∙_, eq-eqb, ne-eqb}
 use Rattle.lent.proofs.Writes.{put-none}
-use borrow.Author.Tests.{eq-eqb, ne-eqb}
 use Rattle.listing_comments.specs.Comment.{formatComment}
 use Rattle.listing_comments.proofs.Comments.{closure-shown}
 use Rattle.listing_comments.proofs.format_comment.Statement.{statement}

@@ -1,5 +1,5 @@
 -- One of two of the list, or of the others.
-use borrow.Author.Needs.{needs}
+use Rattle.lent.proofs.Prelude.{needs}
 use Rattle.listing_comments.proofs.Comments.{among-one, among-rest}
 use Rattle.listing_comments.proofs.has_operands.Statement.{statement}
 use Rattle.listing_comments.proofs.has_operands.Tie as tie

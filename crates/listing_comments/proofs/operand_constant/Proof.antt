@@ -1,6 +1,5 @@
 -- A constant, or a register.
-use borrow.Author.Needs.{needs}
-use mathlib.Core.Path.{sym, _∙_}
+use Rattle.lent.proofs.Prelude.{needs, sym, _∙_}
 use Rattle.listing_operands.proofs.ShownLists.{shows-put, shows-is}
 use Rattle.listing_comments.proofs.operand_constant.Statement.{statement}
 use Rattle.listing_comments.proofs.operand_constant.Tie as tie

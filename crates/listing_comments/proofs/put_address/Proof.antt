@@ -1,5 +1,5 @@
 -- #, then the number.
-use borrow.Author.Needs.{needs}
+use Rattle.lent.proofs.Prelude.{needs}
 use Rattle.lent.proofs.Writes.{put-then}
 use Rattle.listing_comments.proofs.put_address.Statement.{statement}
 use Rattle.listing_comments.proofs.put_address.Tie as tie

@@ -1,8 +1,5 @@
 -- It stands at the start of all.
-use borrow.Author.Needs.{needs}
-use native.Mathlib.Omega.{arith}
-use mathlib.Core.Path.{sym}
-use lib.Seq.{length-take-le}
+use Rattle.lent.proofs.Prelude.{needs, arith, sym, length-take-le}
 use Rattle.digits.proofs.Rooms.{fit-written}
 use Rattle.listing_lines.proofs.cut_start.Statement.{statement}
 use Rattle.listing_lines.proofs.cut_start.Tie as tie

@@ -1,5 +1,5 @@
 -- The parts one after the other, the list of lines standing where lists says.
-use borrow.Author.Needs.{needs}
+use Rattle.lent.proofs.Prelude.{needs}
 use Rattle.lent.proofs.Writes.{put-then}
 use Rattle.listing_lines.specs.Line.{formatInstruction}
 use Rattle.listing_lines.proofs.format_instruction.Statement.{statement}

@@ -1,5 +1,5 @@
 -- All of it is past the end, some, or none.
-use borrow.Author.Needs.{needs}
+use Rattle.lent.proofs.Prelude.{needs}
 use Rattle.lent.proofs.Writes.{put-lost}
 use Rattle.listing_lines.proofs.format_start.Statement.{statement}
 use Rattle.listing_lines.proofs.format_start.Tie as tie

@@ -1,6 +1,5 @@
 -- Past the count there is no line, before it line pc stands there.
-use borrow.Author.Needs.{needs}
-use mathlib.Core.Path.{sym}
+use Rattle.lent.proofs.Prelude.{needs, sym}
 use Rattle.listing_lines.proofs.Lines.{line-past, line-there}
 use Rattle.listing_lines.proofs.line_at.Statement.{statement}
 use Rattle.listing_lines.proofs.line_at.Tie as tie

@@ -1,5 +1,5 @@
 -- The line is known, or not.
-use borrow.Author.Needs.{needs}
+use Rattle.lent.proofs.Prelude.{needs}
 use Rattle.digits.proofs.Rooms.{width-byte, width-then}
 use Rattle.listing_lines.proofs.line_width.Statement.{statement}
 use Rattle.listing_lines.proofs.line_width.Tie as tie

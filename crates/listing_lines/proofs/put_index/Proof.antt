@@ -1,5 +1,5 @@
 -- The parts one after the other.
-use borrow.Author.Needs.{needs}
+use Rattle.lent.proofs.Prelude.{needs}
 use Rattle.lent.proofs.Writes.{put-then}
 use Rattle.listing_lines.proofs.put_index.Statement.{statement}
 use Rattle.listing_lines.proofs.put_index.Tie as tie

@@ -1,5 +1,5 @@
 -- The parts one after the other.
-use borrow.Author.Needs.{needs}
+use Rattle.lent.proofs.Prelude.{needs}
 use Rattle.digits.proofs.Rooms.{width-byte, width-then}
 use Rattle.listing_lines.proofs.Lines.{name-width}
 use Rattle.listing_lines.proofs.start_width.Statement.{statement}

@@ -1,6 +1,5 @@
 -- The line is known, or not.
-use borrow.Author.Needs.{needs}
-use native.Mathlib.Omega.{arith}
+use Rattle.lent.proofs.Prelude.{needs, arith}
 use Rattle.digits.proofs.Rooms.{fit-then, fit-within}
 use Rattle.listing_lines.proofs.store_line.Statement.{statement}
 use Rattle.listing_lines.proofs.store_line.Tie as tie

@@ -1,7 +1,5 @@
 -- The name's nine bytes are the definition's.
-use borrow.Author.Needs.{needs}
-use native.Mathlib.Omega.{arith}
-use lib.Seq.{take-all}
+use Rattle.lent.proofs.Prelude.{needs, arith, take-all}
 use Rattle.instructions.specs.OpCodes.{opName, padded}
 use Rattle.lent.proofs.Writes.{put-stored}
 use Rattle.listing_lines.proofs.Lines.{name-width}

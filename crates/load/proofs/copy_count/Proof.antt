@@ -1,5 +1,5 @@
 -- The count that was read is the word that is stored, and is answered.
-use borrow.Author.Needs.{needs}
+use Rattle.lent.proofs.Prelude.{needs}
 use Rattle.load.proofs.Stores.{copied}
 use Rattle.load.proofs.copy_count.Statement.{statement}
 use Rattle.load.proofs.copy_count.Tie as tie

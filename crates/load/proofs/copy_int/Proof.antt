@@ -1,5 +1,5 @@
 -- The integer that was read is the word that is stored.
-use borrow.Author.Needs.{needs}
+use Rattle.lent.proofs.Prelude.{needs}
 use Rattle.load.proofs.Steps.{weaken}
 use Rattle.load.proofs.Stores.{copied}
 use Rattle.load.proofs.copy_int.Statement.{statement}

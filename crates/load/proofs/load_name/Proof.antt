@@ -1,6 +1,5 @@
 -- The string's bytes, repaired, are the text of a name's piece.
-use borrow.Author.Needs.{needs}
-use native.Mathlib.Omega.{arith}
+use Rattle.lent.proofs.Prelude.{needs, arith}
 use Rattle.load.proofs.Stores.{name-loaded}
 use Rattle.load.proofs.load_name.Statement.{statement}
 use Rattle.load.proofs.load_name.Tie as tie

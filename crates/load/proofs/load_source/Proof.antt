@@ -1,5 +1,4 @@
-use borrow.Author.Needs.{needs}
-use borrow.Author.Tests.{not-true, not-false}
+use Rattle.lent.proofs.Prelude.{needs, not-true, not-false}
 use Rattle.load.proofs.Stores.{source-none, source-own}
 use Rattle.load.proofs.load_source.Statement.{statement}
 use Rattle.load.proofs.load_source.Tie as tie

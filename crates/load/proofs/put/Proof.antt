@@ -1,5 +1,5 @@
 -- The word is written at the words' place, and the text stays.
-use borrow.Author.Needs.{needs}
+use Rattle.lent.proofs.Prelude.{needs}
 use Rattle.load.proofs.Stores.{plain-does}
 use Rattle.load.proofs.put.Statement.{statement}
 use Rattle.load.proofs.put.Tie as tie

@@ -1,4 +1,4 @@
-use borrow.Author.Needs.{needs}
+use Rattle.lent.proofs.Prelude.{needs}
 use Rattle.load.proofs.Stores.{plain-does}
 use Rattle.load.proofs.put3.Statement.{statement}
 use Rattle.load.proofs.put3.Tie as tie

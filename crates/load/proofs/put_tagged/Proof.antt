@@ -1,6 +1,4 @@
-use borrow.Author.Needs.{needs}
-use native.Mathlib.Omega.{arith}
-use mathlib.Core.Path.{refl, _∙_}
+use Rattle.lent.proofs.Prelude.{needs, arith, refl, _∙_}
 use Rattle.load.proofs.Stores.{tagged-does}
 use Rattle.load.proofs.put_tagged.Statement.{statement}
 use Rattle.load.proofs.put_tagged.Tie as tie

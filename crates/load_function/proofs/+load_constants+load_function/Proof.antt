@@ -1,9 +1,6 @@
 -- A function's parts are read in the definition's order. The two call each other: load_function on a smaller allowance,
 -- load_constants on the same, which counts as one more.
-use borrow.Author.Needs.{needs}
-use native.Mathlib.Omega.{arith}
-use Prim.Native.Nat.{ℕ, suc, _+_, _-_, _<_}
-use mathlib.Core.Path.{_≡_, refl, _∙_}
+use Rattle.lent.proofs.Prelude.{needs, arith, ℕ, suc, _+_, _-_, _<_, _≡_, refl, _∙_}
 use Rattle.format.specs.Tree.{count}
 use Rattle.format.specs.Read.{manyFunctions, loadFunction}
 use Rattle.format.specs.Store.{functionPieces}

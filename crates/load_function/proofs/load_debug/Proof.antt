@@ -1,5 +1,5 @@
 -- Three lists, one after the other.
-use borrow.Author.Needs.{needs}
+use Rattle.lent.proofs.Prelude.{needs}
 use Rattle.load_function.proofs.Trees.{debug-loaded}
 use Rattle.load_function.proofs.load_debug.Statement.{statement}
 use Rattle.load_function.proofs.load_debug.Tie as tie

@@ -1,11 +1,7 @@
 -- The loop's invariant: so many records are filled. Lts and Tie are written by tools/twin.py.
 mod Lts
 mod Tie
-use Prim.Native.Nat.{_+_, _-_, _*_, _≤_}
-use mathlib.Core.Path.{_≡_}
-use native.Mathlib.Omega.{arith}
-use lib.ListN.{length, length-set}
-use borrow.Author.Needs.{needs}
+use Rattle.lent.proofs.Prelude.{_+_, _-_, _*_, _≤_, _≡_, arith, length, length-set, needs}
 use Rattle.local_records.proofs.Records.{Filling, filling-more, filling-all}
 use Rattle.local_records.proofs.fill.Statement.{statement}
 use Rattle.local_records.proofs.fill.Proof.Tie as tie

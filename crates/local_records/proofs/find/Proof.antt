@@ -1,9 +1,7 @@
 -- The loop's invariant: the records from here on lead to what all of them do. Lts and Tie are written by tools/twin.py.
 mod Lts
 mod Tie
-use Prim.Native.Nat.{_-_, _≤_}
-use native.Mathlib.Omega.{arith}
-use borrow.Author.Needs.{needs}
+use Rattle.lent.proofs.Prelude.{_-_, _≤_, arith, needs}
 use Rattle.local_records.proofs.Records.{Searching, seen-nothing, seen-found, seen-left, searching-over}
 use Rattle.local_records.proofs.find.Statement.{statement}
 use Rattle.local_records.proofs.find.Proof.Tie as tie

@@ -1,7 +1,7 @@
 -- Refused before the records are filled, or they are filled, searched, and the name is given. Lts and Tie are written by tools/twin.py.
 mod Lts
 mod Tie
-use borrow.Author.Needs.{needs}
+use Rattle.lent.proofs.Prelude.{needs}
 use Rattle.local_records.proofs.Lookup.{in-refused, count-enough, words-enough, in-answered}
 use Rattle.local_records.proofs.get_local_name_in.Statement.{statement}
 use Rattle.local_records.proofs.get_local_name_in.Proof.Tie as tie

@@ -1,5 +1,5 @@
 -- By the tests, in their order: what the walk finds stands there.
-use borrow.Author.Needs.{needs}
+use Rattle.lent.proofs.Prelude.{needs}
 use Rattle.local_records.proofs.Lookup.{for-refused, for-8, for-11, for-0}
 use Rattle.local_records.proofs.locals_for.Statement.{statement}
 use Rattle.local_records.proofs.locals_for.Tie as tie

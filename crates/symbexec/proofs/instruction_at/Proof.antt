@@ -1,5 +1,5 @@
 -- Past the count there is no instruction; before it, item pc is the instruction.
-use borrow.Author.Needs.{needs}
+use Rattle.lent.proofs.Prelude.{needs}
 use Rattle.symbexec.proofs.Steps.{code-past, code-item}
 use Rattle.symbexec.proofs.instruction_at.Statement.{statement}
 use Rattle.symbexec.proofs.instruction_at.Tie as tie

@@ -1,6 +1,5 @@
 -- The count is the code's length.
-use borrow.Author.Needs.{needs}
-use native.Mathlib.Omega.{arith}
+use Rattle.lent.proofs.Prelude.{needs, arith}
 use Rattle.symbexec.proofs.Steps.{code-count}
 use Rattle.symbexec.proofs.last_pc.Statement.{statement}
 use Rattle.symbexec.proofs.last_pc.Tie as tie

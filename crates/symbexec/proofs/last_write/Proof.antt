@@ -1,8 +1,5 @@
 -- The loop's invariant: the search from pc on gives what the whole gives, and the child kept is one of the function's.
-use borrow.Author.Needs.{needs}
-use native.Mathlib.Omega.{arith}
-use Prim.Native.Nat.{_-_}
-use mathlib.Core.Path.{_≡_}
+use Rattle.lent.proofs.Prelude.{needs, arith, _-_, _≡_}
 use Rattle.symbexec.proofs.Steps.{Traced, trace-start, trace-turn, trace-end}
 use Rattle.symbexec.proofs.last_write.Statement.{statement}
 use Rattle.symbexec.proofs.last_write.Tie as tie

@@ -1,6 +1,5 @@
 -- The instruction at the pc that the search gives.
-use borrow.Author.Needs.{needs}
-use mathlib.Core.Path.{_∙_}
+use Rattle.lent.proofs.Prelude.{needs, _∙_}
 use Rattle.symbexec.specs.SymbExec.{symbexec}
 use Rattle.symbexec.proofs.symbexec_at.Statement.{statement}
 use Rattle.symbexec.proofs.symbexec_at.Tie as tie

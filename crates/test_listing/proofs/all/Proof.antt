@@ -1,7 +1,5 @@
 -- The loop ends: each turn that goes on stands farther on in the cases.
-use Prim.Native.Nat.{_-_}
-use lib.ListN.{length}
-use borrow.Author.Needs.{needs}
+use Rattle.lent.proofs.Prelude.{_-_, length, needs}
 use Rattle.test_listing.proofs.all.Statement.{statement}
 use Rattle.test_listing.proofs.all.Tie as tie
 

@@ -1,8 +1,5 @@
 -- The run without space finds what refuses the chunk and counts; the run over the space leaves the tree's store.
-use borrow.Author.Needs.{needs}
-use native.Mathlib.Omega.{arith}
-use mathlib.Core.Path.{sym}
-use lib.Seq.{length-take-le}
+use Rattle.lent.proofs.Prelude.{needs, arith, sym, length-take-le}
 use Rattle.undump.proofs.Calls.{unnamed, refused-reading, refused-words, refused-text, stored}
 use Rattle.undump.proofs.undump.Statement.{statement}
 use Rattle.undump.proofs.undump.Tie as tie

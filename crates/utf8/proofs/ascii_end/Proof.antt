@@ -1,8 +1,5 @@
 -- Behind the blocks, each byte below 0x80 goes on with the text so far.
-use borrow.Author.Needs.{needs}
-use Prim.Native.Nat.{_-_}
-use native.Mathlib.Omega.{arith}
-use lib.ListN.{length}
+use Rattle.lent.proofs.Prelude.{needs, _-_, arith, length}
 use Rattle.utf8.specs.Text.{Text}
 use Rattle.utf8.proofs.Texts.{text-byte, text-join}
 use Rattle.utf8.proofs.ascii_end.Statement.{statement}

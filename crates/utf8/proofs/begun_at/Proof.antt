@@ -1,8 +1,5 @@
 -- k bytes are in their ranges so far, and the range of the next is from low to high.
-use borrow.Author.Needs.{needs}
-use borrow.Author.Tests.{not-true, not-false}
-use Prim.Native.Nat.{_-_}
-use native.Mathlib.Omega.{arith}
+use Rattle.lent.proofs.Prelude.{needs, not-true, not-false, _-_, arith}
 use Rattle.utf8.specs.Utf8.{_‥_}
 use Rattle.utf8.proofs.Rows.{Begun, begun-start, begun-more, begun-stop, begun-done}
 use Rattle.utf8.proofs.begun_at.Statement.{statement}

@@ -1,6 +1,5 @@
 -- Past the end no byte stands; before it the two tests are those of the range.
-use borrow.Author.Needs.{needs}
-use borrow.Author.Tests.{le-leb, lt-leb}
+use Rattle.lent.proofs.Prelude.{needs, le-leb, lt-leb}
 use Rattle.utf8.proofs.Rows.{begins-none, begins-some}
 use Rattle.utf8.proofs.in_range.Statement.{statement}
 use Rattle.utf8.proofs.in_range.Tie as tie

@@ -1,6 +1,5 @@
 -- The fours reach from the start to the end; one that is not ASCII decides at once.
-use borrow.Author.Needs.{needs}
-use native.Mathlib.Omega.{arith}
+use Rattle.lent.proofs.Prelude.{needs, arith}
 use Rattle.utf8.proofs.Ascii.{part-not, front-none, front-more, front-last}
 use Rattle.utf8.proofs.is_ascii.Statement.{statement}
 use Rattle.utf8.proofs.is_ascii.Tie as tie

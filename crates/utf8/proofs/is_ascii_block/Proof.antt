@@ -1,8 +1,6 @@
 -- The greatest byte so far says whether those so far are ASCII.
-use Prim.Native.Nat.{_-_, _≤_}
+use Rattle.lent.proofs.Prelude.{_-_, _≤_, _≡_, arith}
 use mathlib.Core.Logic.{⊎-elim}
-use mathlib.Core.Path.{_≡_}
-use native.Mathlib.Omega.{arith}
 use Rattle.utf8.proofs.Ascii.{Greatest, greatest-none, greatest-more}
 use Rattle.utf8.proofs.is_ascii_block.Statement.{statement}
 use Rattle.utf8.proofs.is_ascii_block.Tie as tie

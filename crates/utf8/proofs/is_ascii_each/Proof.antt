@@ -1,12 +1,6 @@
 -- The greatest byte so far says whether those so far are ASCII.
-use Prim.Native.Nat.{_-_, _≤_}
+use Rattle.lent.proofs.Prelude.{_-_, _≤_, _≡_, sym, _∙_, arith, zero-add, length, take-length, leb·suc-suc}
 use mathlib.Core.Logic.{⊎-elim}
-use mathlib.Core.Path.{_≡_, sym, _∙_}
-use native.Mathlib.Omega.{arith}
-use native.Mathlib.Nat.{zero-add}
-use lib.ListN.{length}
-use lib.Seq.{take-length}
-use lib.Dec.{leb·suc-suc}
 use Rattle.utf8.proofs.Ascii.{Greatest, greatest-none, greatest-more}
 use Rattle.utf8.proofs.is_ascii_each.Statement.{statement}
 use Rattle.utf8.proofs.is_ascii_each.Tie as tie

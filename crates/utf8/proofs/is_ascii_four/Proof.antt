@@ -1,6 +1,5 @@
 -- Each of the four is tested.
-use borrow.Author.Needs.{needs}
-use borrow.Author.Tests.{lt-ltb, le-ltb}
+use Rattle.lent.proofs.Prelude.{needs, lt-ltb, le-ltb}
 use Rattle.utf8.proofs.Ascii.{ascii-four}
 use Rattle.utf8.proofs.is_ascii_four.Statement.{statement}
 use Rattle.utf8.proofs.is_ascii_four.Tie as tie

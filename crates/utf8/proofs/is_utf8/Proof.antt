@@ -1,5 +1,5 @@
 -- The text from the start reaches the end, or stops before what is ill-formed.
-use borrow.Author.Needs.{needs}
+use Rattle.lent.proofs.Prelude.{needs}
 use Rattle.utf8.proofs.Texts.{text-whole}
 use Rattle.utf8.proofs.is_utf8.Statement.{statement}
 use Rattle.utf8.proofs.is_utf8.Tie as tie

@@ -1,6 +1,5 @@
 -- ASCII is its own repair; else step by step.
-use borrow.Author.Needs.{needs}
-use mathlib.Core.Path.{sym, _∙_}
+use Rattle.lent.proofs.Prelude.{needs, sym, _∙_}
 use Rattle.utf8.proofs.Ascii.{repair-ascii}
 use Rattle.utf8.proofs.repair.Statement.{statement}
 use Rattle.utf8.proofs.repair.Tie as tie

@@ -1,9 +1,5 @@
 -- What is left to write is the repair of the bytes left: text as it is, then U+FFFD for an ill-formed step.
-use borrow.Author.Needs.{needs}
-use Prim.Native.Nat.{_-_, _≤_}
-use mathlib.Core.Path.{_≡_, _∙_}
-use native.Mathlib.Omega.{arith}
-use lib.ListN.{length, drop}
+use Rattle.lent.proofs.Prelude.{needs, _-_, _≤_, _≡_, _∙_, arith, length, drop}
 use Rattle.lent.proofs.Writes.{Rest, rest-put, rest-end}
 use Rattle.utf8.specs.Utf8.{repair}
 use Rattle.utf8.proofs.Texts.{step-least, step-most, repair-text, repair-ill, repair-none}

@@ -1,5 +1,5 @@
 -- How long the rows are that the bytes of a branch lead is computed for each of them.
-use native.Mathlib.Omega.{arith}
+use Rattle.lent.proofs.Prelude.{arith}
 use Rattle.utf8.proofs.Rows.{rows-led}
 use Rattle.utf8.proofs.row_len.Statement.{statement}
 use Rattle.utf8.proofs.row_len.Tie as tie

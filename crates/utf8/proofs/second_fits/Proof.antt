@@ -1,5 +1,5 @@
 -- The range is that of the lead byte.
-use borrow.Author.Needs.{needs}
+use Rattle.lent.proofs.Prelude.{needs}
 use Rattle.utf8.proofs.second_fits.Statement.{statement}
 use Rattle.utf8.proofs.second_fits.Tie as tie
 

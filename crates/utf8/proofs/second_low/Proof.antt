@@ -1,6 +1,5 @@
 -- Each test is one of the definition's.
-use borrow.Author.Needs.{needs}
-use borrow.Author.Tests.{eq-eqb, ne-eqb}
+use Rattle.lent.proofs.Prelude.{needs, eq-eqb, ne-eqb}
 use Rattle.utf8.proofs.second_low.Statement.{statement}
 use Rattle.utf8.proofs.second_low.Tie as tie
 

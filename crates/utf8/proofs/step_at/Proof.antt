@@ -1,6 +1,5 @@
 -- The lead byte's row says how many bytes there may be, and as many begin it as are in its ranges.
-use borrow.Author.Needs.{needs}
-use native.Mathlib.Omega.{arith}
+use Rattle.lent.proofs.Prelude.{needs, arith}
 use Rattle.utf8.proofs.Rows.{step-none, step-led}
 use Rattle.utf8.proofs.step_at.Statement.{statement}
 use Rattle.utf8.proofs.step_at.Tie as tie

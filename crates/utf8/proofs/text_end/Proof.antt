@@ -1,8 +1,5 @@
 -- ASCII goes on with the text so far, and so does each well-formed sequence.
-use borrow.Author.Needs.{needs}
-use Prim.Native.Nat.{_-_}
-use native.Mathlib.Omega.{arith}
-use lib.ListN.{length}
+use Rattle.lent.proofs.Prelude.{needs, _-_, arith, length}
 use Rattle.utf8.specs.Text.{Text}
 use Rattle.utf8.proofs.Texts.{text-none, text-byte, text-join, step-least, step-most, text-step, text-stop, text-end}
 use Rattle.utf8.proofs.text_end.Statement.{statement}

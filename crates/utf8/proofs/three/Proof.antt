@@ -1,8 +1,5 @@
 -- A lead byte of a row of three, and the two bytes behind it in their ranges.
-use borrow.Author.Needs.{needs}
-use borrow.Author.Tests.{not-false}
-use native.Mathlib.Omega.{arith}
-use mathlib.Core.Path.{refl}
+use Rattle.lent.proofs.Prelude.{needs, not-false, arith, refl}
 use Rattle.utf8.proofs.Rows.{rows-led, begun-start, begun-more}
 use Rattle.utf8.proofs.Texts.{text-led}
 use Rattle.utf8.proofs.three.Statement.{statement}

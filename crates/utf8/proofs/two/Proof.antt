@@ -1,7 +1,5 @@
 -- A lead byte of a row of two, and the second byte in its range.
-use borrow.Author.Needs.{needs}
-use native.Mathlib.Omega.{arith}
-use mathlib.Core.Path.{refl}
+use Rattle.lent.proofs.Prelude.{needs, arith, refl}
 use Rattle.utf8.proofs.Rows.{rows-led, begun-start, begun-more}
 use Rattle.utf8.proofs.Texts.{text-led}
 use Rattle.utf8.proofs.two.Statement.{statement}

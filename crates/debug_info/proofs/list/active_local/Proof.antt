@@ -1,7 +1,5 @@
 -- The loop's invariant: whatever the locals from here lead to, all of them lead to.
-use borrow.Author.Needs.{needs}
-use native.Mathlib.Omega.{arith}
-use Prim.Native.Nat.{_-_}
+use Rattle.lent.proofs.Prelude.{needs, arith, _-_}
 use Rattle.format.proofs.Loops.{Loop, loop-start}
 use Rattle.debug_info.proofs.Lists.{Active, ends-over, ends-late, ends-found, goes-on}
 use Rattle.debug_info.proofs.list.active_local.Statement.{statement}

@@ -1,5 +1,5 @@
 -- Past the count there is no constant; before it, item i is one.
-use borrow.Author.Needs.{needs}
+use Rattle.lent.proofs.Prelude.{needs}
 use Rattle.format.specs.Store.{constantPiece}
 use Rattle.proto.proofs.Pieces.{constant-words}
 use Rattle.debug_info.proofs.Lists.{looked-past, looked-up}

@@ -1,5 +1,5 @@
 -- Each test is one of the two.
-use borrow.Author.Tests.{lt-ltb, le-ltb}
+use Rattle.lent.proofs.Prelude.{lt-ltb, le-ltb}
 use Rattle.debug_info.proofs.list.is_last.Statement.{statement}
 use Rattle.debug_info.proofs.list.is_last.Tie as tie
 

@@ -1,7 +1,5 @@
 -- An active local is counted; 0 stays 0.
-use borrow.Author.Needs.{needs}
-use native.Mathlib.Omega.{arith}
-use borrow.Author.Tests.{lt-ltb, le-ltb}
+use Rattle.lent.proofs.Prelude.{needs, arith, lt-ltb, le-ltb}
 use Rattle.debug_info.proofs.list.left.Statement.{statement}
 use Rattle.debug_info.proofs.list.left.Tie as tie
 

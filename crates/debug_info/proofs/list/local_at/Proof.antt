@@ -1,5 +1,5 @@
 -- A name, and behind it two words.
-use borrow.Author.Needs.{needs}
+use Rattle.lent.proofs.Prelude.{needs}
 use Rattle.debug_info.proofs.Lists.{local-is}
 use Rattle.debug_info.proofs.list.local_at.Statement.{statement}
 use Rattle.debug_info.proofs.list.local_at.Tie as tie

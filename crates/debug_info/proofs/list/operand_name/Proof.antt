@@ -1,7 +1,5 @@
 -- By the mark, and then by the constant.
-use borrow.Author.Needs.{needs}
-use mathlib.Core.Path.{sym, _∙_}
-use borrow.Author.Tests.{not-true, not-false}
+use Rattle.lent.proofs.Prelude.{needs, sym, _∙_, not-true, not-false}
 use Rattle.debug_info.specs.Names.{kname}
 use Rattle.debug_info.proofs.list.operand_name.Statement.{statement}
 use Rattle.debug_info.proofs.list.operand_name.Tie as tie

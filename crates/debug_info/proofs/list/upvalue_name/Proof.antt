@@ -1,6 +1,5 @@
 -- Past the count there is no name; before it, item i is one.
-use borrow.Author.Needs.{needs}
-use mathlib.Core.Path.{refl}
+use Rattle.lent.proofs.Prelude.{needs, refl}
 use Rattle.format.specs.Store.{string}
 use Rattle.debug_info.proofs.Lists.{looked-past, looked-up}
 use Rattle.debug_info.proofs.list.upvalue_name.Statement.{statement}

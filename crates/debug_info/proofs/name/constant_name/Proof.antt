@@ -1,5 +1,5 @@
 -- Each constant's line of the definition.
-use borrow.Author.Needs.{needs}
+use Rattle.lent.proofs.Prelude.{needs}
 use Rattle.debug_info.proofs.name.constant_name.Statement.{statement}
 use Rattle.debug_info.proofs.name.constant_name.Tie as tie
 

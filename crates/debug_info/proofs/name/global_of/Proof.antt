@@ -1,5 +1,5 @@
 -- Each constant's line of the definition.
-use borrow.Author.Needs.{needs}
+use Rattle.lent.proofs.Prelude.{needs}
 use Rattle.debug_info.proofs.name.global_of.Statement.{statement}
 use Rattle.debug_info.proofs.name.global_of.Tie as tie
 

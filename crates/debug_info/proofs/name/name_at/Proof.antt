@@ -1,6 +1,5 @@
 -- The two words are the name's place and length, and there it stands in the text.
-use borrow.Author.Needs.{needs}
-use mathlib.Core.Path.{refl}
+use Rattle.lent.proofs.Prelude.{needs, refl}
 use Rattle.proto.proofs.Items.{string-here}
 use Rattle.debug_info.proofs.name.name_at.Statement.{statement}
 use Rattle.debug_info.proofs.name.name_at.Tie as tie

@@ -1,5 +1,5 @@
 -- Over no space the name is counted.
-use borrow.Author.Needs.{needs}
+use Rattle.lent.proofs.Prelude.{needs}
 use Rattle.debug_info.proofs.Calls.{counts-nowhere}
 use Rattle.debug_info.proofs.name.name_len.Statement.{statement}
 use Rattle.debug_info.proofs.name.name_len.Tie as tie

@@ -1,5 +1,5 @@
 -- By the kind of name: ?, the text's bytes, or these repaired.
-use borrow.Author.Needs.{needs}
+use Rattle.lent.proofs.Prelude.{needs}
 use Rattle.debug_info.proofs.name.put_name.Statement.{statement}
 use Rattle.debug_info.proofs.name.put_name.Tie as tie
 

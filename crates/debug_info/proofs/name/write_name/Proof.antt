@@ -1,6 +1,5 @@
 -- The name is counted; where it fits, it is written.
-use borrow.Author.Needs.{needs}
-use native.Mathlib.Omega.{arith}
+use Rattle.lent.proofs.Prelude.{needs, arith}
 use Rattle.format.proofs.Writing.{written-short, written-all}
 use Rattle.debug_info.proofs.name.write_name.Statement.{statement}
 use Rattle.debug_info.proofs.name.write_name.Tie as tie

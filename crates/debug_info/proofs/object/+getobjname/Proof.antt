@@ -1,8 +1,5 @@
 -- Each call marks a register, so that fewer are left to search; that number is the measure, and bounds the definition's search.
-use borrow.Author.Needs.{needs}
-use native.Mathlib.Omega.{arith}
-use Prim.Native.Nat.{_<_}
-use mathlib.Core.Path.{_≡_, sym, _∙_}
+use Rattle.lent.proofs.Prelude.{needs, arith, _<_, _≡_, sym, _∙_}
 use Rattle.debug_info.specs.Searched.{unsearched}
 use Rattle.debug_info.proofs.Searches.{marked, moves-below, search-again, search-local, search-moved, search-wrote}
 use Rattle.instructions.proofs.Instruction.b.Reads as b

@@ -1,6 +1,5 @@
 -- Each test is one of the two.
-use borrow.Author.Needs.{needs}
-use borrow.Author.Tests.{eq-eqb, ne-eqb}
+use Rattle.lent.proofs.Prelude.{needs, eq-eqb, ne-eqb}
 use Rattle.debug_info.specs.Names.{movesUp}
 use Rattle.debug_info.proofs.object.moves_up.Statement.{statement}
 use Rattle.debug_info.proofs.object.moves_up.Tie as tie

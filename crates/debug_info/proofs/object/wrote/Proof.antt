@@ -1,7 +1,5 @@
 -- Each arm is a line of the definition.
-use borrow.Author.Needs.{needs}
-use mathlib.Core.Path.{sym, _∙_}
-use borrow.Author.Tests.{ne-eqb}
+use Rattle.lent.proofs.Prelude.{needs, sym, _∙_, ne-eqb}
 use Rattle.debug_info.specs.Names.{wrote}
 use Rattle.debug_info.proofs.object.wrote.Statement.{statement}
 use Rattle.debug_info.proofs.object.wrote.Tie as tie

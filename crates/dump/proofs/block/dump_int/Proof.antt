@@ -1,6 +1,4 @@
-use borrow.Author.Needs.{needs}
-use native.Mathlib.Omega.{arith}
-use lib.ListN.{length-set}
+use Rattle.lent.proofs.Prelude.{needs, arith, length-set}
 use Rattle.dump.proofs.Blocks.{int-stored}
 use Rattle.dump.proofs.block.dump_int.Statement.{statement}
 use Rattle.dump.proofs.block.dump_int.Tie as tie

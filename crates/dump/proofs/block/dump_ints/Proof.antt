@@ -1,9 +1,4 @@
-use borrow.Author.Needs.{needs}
-use native.Mathlib.Omega.{arith}
-use Prim.Native.Nat.{_-_, _≤_}
-use mathlib.Core.Path.{_≡_, _∙_}
-use lib.ListN.{length, take}
-use lib.Seq.{sets, take-length}
+use Rattle.lent.proofs.Prelude.{needs, arith, _-_, _≤_, _≡_, _∙_, length, take, sets, take-length}
 use Rattle.format.specs.Write.{dumpInt, each}
 use Rattle.dump.proofs.Blocks.{ints-start, ints-turn}
 use Rattle.dump.proofs.block.dump_ints.Statement.{statement}

@@ -1,6 +1,5 @@
 -- The size, the bytes and the zero are stored one behind the other.
-use borrow.Author.Needs.{needs}
-use mathlib.Core.Path.{_∙_}
+use Rattle.lent.proofs.Prelude.{needs, _∙_}
 use Rattle.dump.proofs.Blocks.{string-stored}
 use Rattle.dump.proofs.block.dump_string.Statement.{statement}
 use Rattle.dump.proofs.block.dump_string.Tie as tie

@@ -1,9 +1,6 @@
 -- The parts of a function one behind the other, counted. The loop's invariant: whatever counts the other functions from here counts all of them.
 -- The measure is twice the allowance, and one more for count_constants, which calls count_function at the same allowance.
-use Prim.Native.Nat.{ℕ, _+_, _-_, _<_}
-use borrow.Author.Needs.{needs}
-use native.Mathlib.Omega.{arith}
-use mathlib.Core.List.{[]}
+use Rattle.lent.proofs.Prelude.{ℕ, _+_, _-_, _<_, needs, arith, []}
 use Rattle.format.specs.Store.{functionPiece}
 use Rattle.format.specs.Valid.{Valid}
 use Rattle.format.specs.Write.{dumpFunction}

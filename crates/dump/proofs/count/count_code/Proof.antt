@@ -1,5 +1,5 @@
 -- The count, then four bytes for each item.
-use borrow.Author.Needs.{needs}
+use Rattle.lent.proofs.Prelude.{needs}
 use Rattle.dump.proofs.Lists.{code-counted}
 use Rattle.dump.proofs.count.count_code.Statement.{statement}
 use Rattle.dump.proofs.count.count_code.Tie as tie

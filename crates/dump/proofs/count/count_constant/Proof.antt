@@ -1,7 +1,5 @@
 -- The first word tells the kind, and the third the length of a string.
-use borrow.Author.Needs.{needs}
-use native.Mathlib.Omega.{arith}
-use Prim.Native.Nat.{_+_}
+use Rattle.lent.proofs.Prelude.{needs, arith, _+_}
 use Rattle.dump.proofs.Lists.{constant-counted}
 use Rattle.dump.proofs.count.count_constant.Statement.{statement}
 use Rattle.dump.proofs.count.count_constant.Tie as tie

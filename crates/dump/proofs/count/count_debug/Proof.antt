@@ -1,5 +1,5 @@
 -- Three counts of 0, or the three lists one behind the other.
-use borrow.Author.Needs.{needs}
+use Rattle.lent.proofs.Prelude.{needs}
 use Rattle.dump.proofs.Steps.{debug-stripped, debug-dumped}
 use Rattle.dump.proofs.Lists.{no-debug-counted}
 use Rattle.dump.proofs.count.count_debug.Statement.{statement}

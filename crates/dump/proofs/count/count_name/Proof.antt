@@ -1,7 +1,5 @@
 -- The second word is the length.
-use borrow.Author.Needs.{needs}
-use native.Mathlib.Omega.{arith}
-use Prim.Native.Nat.{_+_}
+use Rattle.lent.proofs.Prelude.{needs, arith, _+_}
 use Rattle.dump.proofs.Lists.{name-counted}
 use Rattle.dump.proofs.count.count_name.Statement.{statement}
 use Rattle.dump.proofs.count.count_name.Tie as tie

@@ -1,6 +1,5 @@
 -- The loop's invariant: whatever counts the other items from here counts the whole list from the start.
-use borrow.Author.Needs.{needs}
-use Prim.Native.Nat.{_-_}
+use Rattle.lent.proofs.Prelude.{needs, _-_}
 use Rattle.format.specs.Store.{string}
 use Rattle.format.specs.Write.{dumpText}
 use Rattle.dump.proofs.Lists.{Counting, counting-none, counting-start, counting-turn, counting-end}

@@ -1,5 +1,5 @@
 -- What is elided is what the definition elides.
-use borrow.Author.Needs.{needs}
+use Rattle.lent.proofs.Prelude.{needs}
 use Rattle.dump.proofs.Functions.{elided-counted, own-counted}
 use Rattle.dump.proofs.count.count_source.Statement.{statement}
 use Rattle.dump.proofs.count.count_source.Tie as tie

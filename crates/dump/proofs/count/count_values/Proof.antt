@@ -1,6 +1,5 @@
 -- The loop's invariant: whatever counts the other items from here counts the whole list from the start.
-use borrow.Author.Needs.{needs}
-use Prim.Native.Nat.{_-_}
+use Rattle.lent.proofs.Prelude.{needs, _-_}
 use Rattle.proto.proofs.Pieces.{constant-words}
 use Rattle.format.specs.Store.{constantPiece}
 use Rattle.format.specs.Write.{dumpConstant}

@@ -1,9 +1,6 @@
 -- The parts of a function one behind the other. The loop's invariant: whatever writes the other functions from here writes all of them, and there is room for them.
 -- The measure is twice the allowance, and one more for dump_constants, which calls dump_function at the same allowance.
-use Prim.Native.Nat.{ℕ, _+_, _-_, _<_}
-use borrow.Author.Needs.{needs}
-use native.Mathlib.Omega.{arith}
-use mathlib.Core.Path.{_∙_}
+use Rattle.lent.proofs.Prelude.{ℕ, _+_, _-_, _<_, needs, arith, _∙_}
 use Rattle.format.specs.Store.{functionPiece}
 use Rattle.format.specs.Valid.{Valid}
 use Rattle.format.specs.Write.{dumpFunction}

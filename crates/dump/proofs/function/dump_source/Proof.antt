@@ -1,6 +1,5 @@
 -- What is elided is what the definition elides.
-use borrow.Author.Needs.{needs}
-use native.Mathlib.Omega.{arith}
+use Rattle.lent.proofs.Prelude.{needs, arith}
 use Rattle.proto.proofs.Items.{skips-on}
 use Rattle.dump.proofs.Functions.{source-room, source-within, source-dumped}
 use Rattle.dump.proofs.function.dump_source.Statement.{statement}

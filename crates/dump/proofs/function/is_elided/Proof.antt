@@ -1,5 +1,5 @@
 -- At the root the source is compared with the empty string, elsewhere with the one around it, which an inherited one is.
-use borrow.Author.Needs.{needs}
+use Rattle.lent.proofs.Prelude.{needs}
 use Rattle.dump.proofs.Functions.{elided-root, elided-inherited, elided-compared}
 use Rattle.dump.proofs.function.is_elided.Statement.{statement}
 use Rattle.dump.proofs.function.is_elided.Tie as tie

@@ -1,6 +1,5 @@
 -- A size of 0, or the string.
-use borrow.Author.Needs.{needs}
-use native.Mathlib.Omega.{arith}
+use Rattle.lent.proofs.Prelude.{needs, arith}
 use Rattle.dump.proofs.Functions.{room-elided, room-own, elided-puts, own-puts}
 use Rattle.dump.proofs.function.put_source.Statement.{statement}
 use Rattle.dump.proofs.function.put_source.Tie as tie

@@ -1,5 +1,5 @@
 -- The count, then the items behind it.
-use borrow.Author.Needs.{needs}
+use Rattle.lent.proofs.Prelude.{needs}
 use Rattle.dump.proofs.Steps.{code-dumped}
 use Rattle.dump.proofs.list.dump_code.Statement.{statement}
 use Rattle.dump.proofs.list.dump_code.Tie as tie

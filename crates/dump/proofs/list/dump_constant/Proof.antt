@@ -1,6 +1,5 @@
 -- The constant that stands there is the one written.
-use borrow.Author.Needs.{needs}
-use native.Mathlib.Omega.{arith}
+use Rattle.lent.proofs.Prelude.{needs, arith}
 use Rattle.dump.proofs.Steps.{constant-within, constant-room, constant-dumped}
 use Rattle.dump.proofs.list.dump_constant.Statement.{statement}
 use Rattle.dump.proofs.list.dump_constant.Tie as tie

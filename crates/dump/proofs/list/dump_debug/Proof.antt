@@ -1,5 +1,5 @@
 -- Three counts of 0, or the three lists one behind the other.
-use borrow.Author.Needs.{needs}
+use Rattle.lent.proofs.Prelude.{needs}
 use Rattle.dump.proofs.Steps.{debug-stripped, debug-dumped, no-debug-fits, lines-ready, locals-ready, names-ready}
 use Rattle.dump.proofs.list.dump_debug.Statement.{statement}
 use Rattle.dump.proofs.list.dump_debug.Tie as tie

@@ -1,6 +1,5 @@
 -- The string that stands there is the one written, and no longer than its length says.
-use borrow.Author.Needs.{needs}
-use native.Mathlib.Omega.{arith}
+use Rattle.lent.proofs.Prelude.{needs, arith}
 use Rattle.dump.proofs.Steps.{name-room, name-dumped}
 use Rattle.dump.proofs.list.dump_name.Statement.{statement}
 use Rattle.dump.proofs.list.dump_name.Tie as tie

@@ -1,6 +1,5 @@
 -- The word's bytes are the four numbers.
-use borrow.Author.Needs.{needs}
-use native.Mathlib.Omega.{arith}
+use Rattle.lent.proofs.Prelude.{needs, arith}
 use Rattle.dump.proofs.Steps.{packed-dumped}
 use Rattle.dump.proofs.list.dump_packed.Statement.{statement}
 use Rattle.dump.proofs.list.dump_packed.Tie as tie

@@ -1,5 +1,5 @@
 -- The word that stands there is the one written.
-use borrow.Author.Needs.{needs}
+use Rattle.lent.proofs.Prelude.{needs}
 use Rattle.dump.proofs.Steps.{word-dumped}
 use Rattle.dump.proofs.list.dump_word.Statement.{statement}
 use Rattle.dump.proofs.list.dump_word.Tie as tie

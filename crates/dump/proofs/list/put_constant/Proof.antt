@@ -1,8 +1,5 @@
 -- The tag of each kind, then what it holds; there is room for it.
-use borrow.Author.Needs.{needs}
-use native.Mathlib.Omega.{arith}
-use mathlib.Core.Path.{_∙_}
-use lib.ListN.{length-set}
+use Rattle.lent.proofs.Prelude.{needs, arith, _∙_, length-set}
 use Rattle.dump.proofs.Steps.{tag-fits, nil-puts, bool-fits, bool-puts, low-fits, high-fits, num-puts, str-room, str-fits, str-puts}
 use Rattle.dump.proofs.list.put_constant.Statement.{statement}
 use Rattle.dump.proofs.list.put_constant.Tie as tie

@@ -1,5 +1,5 @@
 -- Three counts of 0, and no items.
-use borrow.Author.Needs.{needs}
+use Rattle.lent.proofs.Prelude.{needs}
 use Rattle.dump.proofs.Steps.{no-debug}
 use Rattle.dump.proofs.list.put_no_debug.Statement.{statement}
 use Rattle.dump.proofs.list.put_no_debug.Tie as tie

@@ -1,5 +1,5 @@
 -- No CLOSURE, or no such child; else the child is found from the one kept.
-use borrow.Author.Needs.{needs}
+use Rattle.lent.proofs.Prelude.{needs}
 use Rattle.listing.proofs.Closures.{closure-past, closure-found}
 use Rattle.listing.proofs.code.closure_child.Statement.{statement}
 use Rattle.listing.proofs.code.closure_child.Tie as tie

@@ -1,8 +1,5 @@
 -- What is left to write are the lines from pc on, and kept is a child; closure_child gives the child that a CLOSURE names.
-use borrow.Author.Needs.{needs}
-use Prim.Native.Nat.{_-_}
-use mathlib.Core.Path.{_≡_, refl}
-use lib.ListN.{length}
+use Rattle.lent.proofs.Prelude.{needs, _-_, _≡_, refl, length}
 use Rattle.listing.proofs.Codes.{Codes, codes-start, codes-turn, codes-end}
 use Rattle.listing.proofs.code.format_code.Statement.{statement}
 use Rattle.listing.proofs.code.format_code.Tie as tie

@@ -1,9 +1,5 @@
 -- The loop's invariant: whatever lists the other functions from here lists all of them from the start. The allowance falls.
-use borrow.Author.Needs.{needs}
-use native.Mathlib.Omega.{arith}
-use Prim.Native.Nat.{ℕ, suc, _-_, _<_}
-use mathlib.Core.Path.{_≡_, _∙_}
-use lib.ListN.{length}
+use Rattle.lent.proofs.Prelude.{needs, arith, ℕ, suc, _-_, _<_, _≡_, _∙_, length}
 use Rattle.format.proofs.Loops.{Loop, loop-start, loop-turn, loop-end}
 use Rattle.proto.proofs.Walks.{none-deep}
 use Rattle.proto.specs.Lists.{LinesKept}

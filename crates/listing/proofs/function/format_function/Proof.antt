@@ -1,5 +1,5 @@
 -- The lists of the function stand where lists_on_way says.
-use borrow.Author.Needs.{needs}
+use Rattle.lent.proofs.Prelude.{needs}
 use Rattle.lent.proofs.Writes.{put-then}
 use Rattle.proto.proofs.ListPlaces.{lists-stand}
 use Rattle.listing.proofs.function.format_function.Statement.{statement}

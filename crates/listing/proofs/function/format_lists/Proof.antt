@@ -1,5 +1,5 @@
 -- The lists one after the other, or nothing.
-use borrow.Author.Needs.{needs}
+use Rattle.lent.proofs.Prelude.{needs}
 use Rattle.lent.proofs.Writes.{put-then, put-none}
 use Rattle.listing.proofs.function.format_lists.Statement.{statement}
 use Rattle.listing.proofs.function.format_lists.Tie as tie

@@ -1,6 +1,5 @@
 -- The first byte tells whether there is an @.
-use borrow.Author.Needs.{needs}
-use native.Mathlib.Omega.{arith}
+use Rattle.lent.proofs.Prelude.{needs, arith}
 use Rattle.listing_headers.proofs.Headers.{display-cut, display-whole}
 use Rattle.listing_headers.proofs.header.display_source.Statement.{statement}
 use Rattle.listing_headers.proofs.header.display_source.Tie as tie

@@ -1,5 +1,5 @@
 -- Line one, then line two.
-use borrow.Author.Needs.{needs}
+use Rattle.lent.proofs.Prelude.{needs}
 use Rattle.lent.proofs.Writes.{put-then}
 use Rattle.listing_headers.proofs.header.format_header.Statement.{statement}
 use Rattle.listing_headers.proofs.header.format_header.Tie as tie

@@ -1,6 +1,5 @@
 -- Six counts, three of the head and three that stand before lists, then a newline.
-use borrow.Author.Needs.{needs}
-use mathlib.Core.Path.{ap, _∙_}
+use Rattle.lent.proofs.Prelude.{needs, ap, _∙_}
 use Rattle.format.specs.Tree.{count}
 use Rattle.format.specs.Store.{constantPiece, localPiece}
 use Rattle.proto.specs.declared.head.Head.{Head}

@@ -1,6 +1,5 @@
 -- The numbers are those of the head, and the count of the code stands before it.
-use borrow.Author.Needs.{needs}
-use mathlib.Core.Path.{ap, _∙_}
+use Rattle.lent.proofs.Prelude.{needs, ap, _∙_}
 use Rattle.proto.specs.declared.head.Head.{Head}
 use Rattle.proto.proofs.Items.{ints-count}
 use Rattle.lent.proofs.Writes.{put-then}

@@ -1,5 +1,5 @@
 -- The number, then the noun.
-use borrow.Author.Needs.{needs}
+use Rattle.lent.proofs.Prelude.{needs}
 use Rattle.lent.proofs.Writes.{put-then}
 use Rattle.listing_headers.proofs.header.put_amount.Statement.{statement}
 use Rattle.listing_headers.proofs.header.put_amount.Tie as tie

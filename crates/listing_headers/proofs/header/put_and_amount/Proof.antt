@@ -1,5 +1,5 @@
 -- A comma and a space, then the amount.
-use borrow.Author.Needs.{needs}
+use Rattle.lent.proofs.Prelude.{needs}
 use Rattle.lent.proofs.Writes.{put-then}
 use Rattle.listing_headers.proofs.header.put_and_amount.Statement.{statement}
 use Rattle.listing_headers.proofs.header.put_and_amount.Tie as tie

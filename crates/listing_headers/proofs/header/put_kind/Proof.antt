@@ -1,6 +1,5 @@
 -- Line 0 is main's.
-use borrow.Author.Needs.{needs}
-use borrow.Author.Tests.{eq-eqb, ne-eqb}
+use Rattle.lent.proofs.Prelude.{needs, eq-eqb, ne-eqb}
 use Rattle.listing_headers.proofs.header.put_kind.Statement.{statement}
 use Rattle.listing_headers.proofs.header.put_kind.Tie as tie
 

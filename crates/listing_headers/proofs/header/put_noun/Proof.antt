@@ -1,7 +1,6 @@
 -- One has no s, any other number has.
-use borrow.Author.Needs.{needs}
+use Rattle.lent.proofs.Prelude.{needs, eq-eqb, ne-eqb}
 use Rattle.lent.proofs.Writes.{put-then, put-none}
-use borrow.Author.Tests.{eq-eqb, ne-eqb}
 use Rattle.listing_headers.proofs.header.put_noun.Statement.{statement}
 use Rattle.listing_headers.proofs.header.put_noun.Tie as tie
 

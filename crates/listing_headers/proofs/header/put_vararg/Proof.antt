@@ -1,6 +1,5 @@
 -- The bit is set, or nothing is written.
-use borrow.Author.Needs.{needs}
-use borrow.Author.Tests.{eq-eqb, ne-eqb}
+use Rattle.lent.proofs.Prelude.{needs, eq-eqb, ne-eqb}
 use Rattle.lent.proofs.Writes.{put-none}
 use Rattle.listing_headers.proofs.header.put_vararg.Statement.{statement}
 use Rattle.listing_headers.proofs.header.put_vararg.Tie as tie

@@ -1,6 +1,5 @@
 -- The index, the constant that stands there, a newline.
-use borrow.Author.Needs.{needs}
-use mathlib.Core.Option.{some}
+use Rattle.lent.proofs.Prelude.{needs, some}
 use Rattle.listing_operands.specs.Operands.{constantText}
 use Rattle.listing_operands.proofs.ShownLists.{shows-put, shows-then, constant-shown}
 use Rattle.listing_headers.proofs.list.format_constant_at.Statement.{statement}

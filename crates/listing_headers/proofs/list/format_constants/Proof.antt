@@ -1,6 +1,5 @@
 -- What is left to write are the constants from i on; i is below the count, so constant i stands where item_at says.
-use borrow.Author.Needs.{needs}
-use Prim.Native.Nat.{_-_}
+use Rattle.lent.proofs.Prelude.{needs, _-_}
 use Rattle.instructions.specs.OpCodes.{ascii}
 use Rattle.format.specs.Store.{constantPiece}
 use Rattle.proto.proofs.Pieces.{constant-words}

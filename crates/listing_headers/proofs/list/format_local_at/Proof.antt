@@ -1,6 +1,5 @@
 -- The name stands first, and start and end are words 2 and 3.
-use borrow.Author.Needs.{needs}
-use native.Mathlib.Omega.{arith}
+use Rattle.lent.proofs.Prelude.{needs, arith}
 use Rattle.lent.proofs.Writes.{put-then}
 use Rattle.listing_headers.proofs.Locals.{local-name, local-word}
 use Rattle.listing_headers.proofs.list.format_local_at.Statement.{statement}

@@ -1,5 +1,5 @@
 -- The index, the name that stands there, a newline.
-use borrow.Author.Needs.{needs}
+use Rattle.lent.proofs.Prelude.{needs}
 use Rattle.listing_operands.proofs.ShownLists.{shows-put, shows-then, string-shown}
 use Rattle.listing_headers.proofs.list.format_upvalue_at.Statement.{statement}
 use Rattle.listing_headers.proofs.list.format_upvalue_at.Tie as tie

@@ -1,5 +1,5 @@
 -- The sum wraps as the definition says.
-use borrow.Author.Needs.{needs}
+use Rattle.lent.proofs.Prelude.{needs}
 use Rattle.lent.proofs.Writes.{put-then}
 use Rattle.listing_headers.proofs.list.put_raised.Statement.{statement}
 use Rattle.listing_headers.proofs.list.put_raised.Tie as tie

@@ -1,5 +1,5 @@
 -- Each kind has its text.
-use borrow.Author.Needs.{needs}
+use Rattle.lent.proofs.Prelude.{needs}
 use Rattle.listing_operands.proofs.constant.put_constant.Statement.{statement}
 use Rattle.listing_operands.proofs.constant.put_constant.Tie as tie
 

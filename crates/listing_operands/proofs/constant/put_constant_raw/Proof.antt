@@ -1,5 +1,5 @@
 -- A string is repaired, any other kind is written as ever.
-use borrow.Author.Needs.{needs}
+use Rattle.lent.proofs.Prelude.{needs}
 use Rattle.listing_operands.proofs.ShownLists.{raw-other}
 use Rattle.listing_operands.proofs.constant.put_constant_raw.Statement.{statement}
 use Rattle.listing_operands.proofs.constant.put_constant_raw.Tie as tie

@@ -1,5 +1,5 @@
 -- The parts one after the other.
-use borrow.Author.Needs.{needs}
+use Rattle.lent.proofs.Prelude.{needs}
 use Rattle.digits.proofs.Rooms.{width-end}
 use Rattle.listing_operands.proofs.operand.abc_width.Statement.{statement}
 use Rattle.listing_operands.proofs.operand.abc_width.Tie as tie

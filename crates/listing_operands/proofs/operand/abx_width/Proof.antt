@@ -1,5 +1,5 @@
 -- The parts one after the other.
-use borrow.Author.Needs.{needs}
+use Rattle.lent.proofs.Prelude.{needs}
 use Rattle.digits.proofs.Rooms.{width-byte, width-then}
 use Rattle.listing_operands.proofs.operand.abx_width.Statement.{statement}
 use Rattle.listing_operands.proofs.operand.abx_width.Tie as tie

@@ -1,5 +1,5 @@
 -- The mode is N, or the operand is written.
-use borrow.Author.Needs.{needs}
+use Rattle.lent.proofs.Prelude.{needs}
 use Rattle.digits.proofs.Rooms.{width-none, width-byte, width-within, width-else, width-end}
 use Rattle.listing_operands.proofs.operand.arg_width.Statement.{statement}
 use Rattle.listing_operands.proofs.operand.arg_width.Tie as tie

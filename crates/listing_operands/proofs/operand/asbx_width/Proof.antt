@@ -1,6 +1,5 @@
 -- JMP has no A, the others have.
-use borrow.Author.Needs.{needs}
-use borrow.Author.Tests.{eq-eqb, ne-eqb}
+use Rattle.lent.proofs.Prelude.{needs, eq-eqb, ne-eqb}
 use Rattle.digits.proofs.Rooms.{width-byte, width-then, width-within}
 use Rattle.listing_operands.proofs.operand.asbx_width.Statement.{statement}
 use Rattle.listing_operands.proofs.operand.asbx_width.Tie as tie

@@ -1,6 +1,5 @@
 -- The difference is negative, or not.
-use borrow.Author.Needs.{needs}
-use borrow.Author.Tests.{lt-ltb, le-ltb}
+use Rattle.lent.proofs.Prelude.{needs, lt-ltb, le-ltb}
 use Rattle.listing_operands.proofs.operand.put_difference.Statement.{statement}
 use Rattle.listing_operands.proofs.operand.put_difference.Tie as tie
 

@@ -1,5 +1,5 @@
 -- The operand is a constant, or not.
-use borrow.Author.Needs.{needs}
+use Rattle.lent.proofs.Prelude.{needs}
 use Rattle.digits.proofs.Rooms.{width-within, width-if, width-else, width-negative}
 use Rattle.listing_operands.proofs.operand.rk_width.Statement.{statement}
 use Rattle.listing_operands.proofs.operand.rk_width.Tie as tie

@@ -1,5 +1,5 @@
 -- The parts one after the other.
-use borrow.Author.Needs.{needs}
+use Rattle.lent.proofs.Prelude.{needs}
 use Rattle.digits.proofs.Rooms.{fit-then}
 use Rattle.listing_operands.proofs.operand.store_abc.Statement.{statement}
 use Rattle.listing_operands.proofs.operand.store_abc.Tie as tie

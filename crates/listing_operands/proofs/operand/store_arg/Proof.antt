@@ -1,6 +1,5 @@
 -- The mode is N, or the operand is written.
-use borrow.Author.Needs.{needs}
-use native.Mathlib.Omega.{arith}
+use Rattle.lent.proofs.Prelude.{needs, arith}
 use Rattle.digits.proofs.Rooms.{fit-none, fit-within, fit-else, fit-end}
 use Rattle.listing_operands.proofs.operand.store_arg.Statement.{statement}
 use Rattle.listing_operands.proofs.operand.store_arg.Tie as tie

@@ -1,6 +1,5 @@
 -- JMP has no A, the others have.
-use borrow.Author.Needs.{needs}
-use borrow.Author.Tests.{eq-eqb, ne-eqb}
+use Rattle.lent.proofs.Prelude.{needs, eq-eqb, ne-eqb}
 use Rattle.digits.proofs.Rooms.{fit-then, fit-within}
 use Rattle.listing_operands.proofs.operand.store_asbx.Statement.{statement}
 use Rattle.listing_operands.proofs.operand.store_asbx.Tie as tie

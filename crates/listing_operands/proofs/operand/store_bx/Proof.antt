@@ -1,6 +1,5 @@
 -- Bx is a constant's index, or not.
-use borrow.Author.Needs.{needs}
-use native.Mathlib.Omega.{arith}
+use Rattle.lent.proofs.Prelude.{needs, arith}
 use Rattle.digits.proofs.Rooms.{fit-within, fit-if}
 use Rattle.listing_operands.proofs.operand.store_bx.Statement.{statement}
 use Rattle.listing_operands.proofs.operand.store_bx.Tie as tie

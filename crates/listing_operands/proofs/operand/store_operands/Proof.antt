@@ -1,5 +1,5 @@
 -- The mode is the one that the table gives the opcode.
-use borrow.Author.Needs.{needs}
+use Rattle.lent.proofs.Prelude.{needs}
 use Rattle.listing_operands.proofs.ShownLists.{fit-operands}
 use Rattle.listing_operands.proofs.operand.store_operands.Statement.{statement}
 use Rattle.listing_operands.proofs.operand.store_operands.Tie as tie

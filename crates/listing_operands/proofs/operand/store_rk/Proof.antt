@@ -1,5 +1,5 @@
 -- The operand is a constant, or not.
-use borrow.Author.Needs.{needs}
+use Rattle.lent.proofs.Prelude.{needs}
 use Rattle.digits.proofs.Rooms.{fit-within, fit-if, fit-else}
 use Rattle.listing_operands.proofs.operand.store_rk.Statement.{statement}
 use Rattle.listing_operands.proofs.operand.store_rk.Tie as tie

@@ -1,6 +1,5 @@
 -- By the tag that was read, what the definition reads for it.
-use borrow.Author.Needs.{needs}
-use native.Mathlib.Omega.{arith}
+use Rattle.lent.proofs.Prelude.{needs, arith}
 use Rattle.load.proofs.Strings.{constant-refused, constant-nil, constant-bool, constant-num, constant-str, constant-bad}
 use Rattle.load.proofs.cursor.load_constant.Statement.{statement}
 use Rattle.load.proofs.cursor.load_constant.Tie as tie

@@ -1,6 +1,5 @@
 -- An integer that was read is a count, or 6 where it is above the limit.
-use borrow.Author.Needs.{needs}
-use native.Mathlib.Omega.{arith}
+use Rattle.lent.proofs.Prelude.{needs, arith}
 use Rattle.load.proofs.Steps.{count-refused, count-large, count-taken}
 use Rattle.load.proofs.cursor.load_count.Statement.{statement}
 use Rattle.load.proofs.cursor.load_count.Tie as tie

@@ -1,7 +1,5 @@
 -- By the size that was read: none, 2 where fewer bytes stand there, or the bytes but the last.
-use borrow.Author.Needs.{needs}
-use native.Mathlib.Omega.{arith}
-use mathlib.Core.Path.{refl}
+use Rattle.lent.proofs.Prelude.{needs, arith, refl}
 use Rattle.load.proofs.Strings.{string-refused, string-none, string-short, string-own}
 use Rattle.load.proofs.cursor.load_string.Statement.{statement}
 use Rattle.load.proofs.cursor.load_string.Tie as tie

@@ -1,10 +1,5 @@
 -- i integers are stored so far; each turn stores the next.
-use borrow.Author.Needs.{needs}
-use native.Mathlib.Omega.{arith}
-use Prim.Native.Nat.{_-_, _≤_}
-use mathlib.Core.Path.{_≡_, refl}
-use lib.ListN.{length, length-set}
-use lib.Seq.{sets}
+use Rattle.lent.proofs.Prelude.{needs, arith, _-_, _≤_, _≡_, refl, length, length-set, sets}
 use Rattle.load.specs.Loads.{fours}
 use Rattle.load.proofs.Fours.{fill-more}
 use Rattle.load.proofs.ints.fill.Statement.{statement}

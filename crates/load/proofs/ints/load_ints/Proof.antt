@@ -1,7 +1,5 @@
 -- After the count one test tells whether all integers are there; then they are stored in a row.
-use borrow.Author.Needs.{needs}
-use native.Mathlib.Omega.{arith}
-use mathlib.Core.Path.{refl}
+use Rattle.lent.proofs.Prelude.{needs, arith, refl}
 use Rattle.load.proofs.Fours.{ints-refused, ints-short, ints-loaded}
 use Rattle.load.proofs.ints.load_ints.Statement.{statement}
 use Rattle.load.proofs.ints.load_ints.Tie as tie

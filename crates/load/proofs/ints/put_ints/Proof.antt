@@ -1,9 +1,6 @@
 -- As many integers are stored as there is room for, and the others are past the end.
-use borrow.Author.Needs.{needs}
-use native.Mathlib.Omega.{arith}
+use Rattle.lent.proofs.Prelude.{needs, arith, ap, _∙_, length}
 use mathlib.Core.Logic.{⊎-elim}
-use mathlib.Core.Path.{ap, _∙_}
-use lib.ListN.{length}
 use Rattle.load.proofs.Fours.{ints-stored, ints-lost}
 use Rattle.load.proofs.ints.put_ints.Statement.{statement}
 use Rattle.load.proofs.ints.put_ints.Tie as tie

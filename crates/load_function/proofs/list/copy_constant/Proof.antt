@@ -1,5 +1,5 @@
 -- The constant that was read is the one that is stored.
-use borrow.Author.Needs.{needs}
+use Rattle.lent.proofs.Prelude.{needs}
 use Rattle.load.proofs.Stores.{constant-loaded}
 use Rattle.load_function.proofs.list.copy_constant.Statement.{statement}
 use Rattle.load_function.proofs.list.copy_constant.Tie as tie

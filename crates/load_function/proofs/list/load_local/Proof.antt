@@ -1,5 +1,5 @@
 -- A name and two integers, as the definition reads a local.
-use borrow.Author.Needs.{needs}
+use Rattle.lent.proofs.Prelude.{needs}
 use Rattle.load_function.proofs.Lists.{local-loaded}
 use Rattle.load_function.proofs.list.load_local.Statement.{statement}
 use Rattle.load_function.proofs.list.load_local.Tie as tie

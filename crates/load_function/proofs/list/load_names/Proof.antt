@@ -1,7 +1,5 @@
 -- Reading the names that are left ends the whole list; a refusal ends it at once.
-use borrow.Author.Needs.{needs}
-use native.Mathlib.Omega.{arith}
-use Prim.Native.Nat.{_-_}
+use Rattle.lent.proofs.Prelude.{needs, arith, _-_}
 use Rattle.format.specs.Read.{loadText}
 use Rattle.format.specs.Store.{string}
 use Rattle.utf8.specs.Utf8.{repair}

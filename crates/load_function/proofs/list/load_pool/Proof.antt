@@ -1,8 +1,5 @@
 -- Reading the constants that are left ends the whole list; a refusal ends it at once.
-use borrow.Author.Needs.{needs}
-use native.Mathlib.Omega.{arith}
-use Prim.Native.Nat.{_-_}
-use lib.ListN.{length}
+use Rattle.lent.proofs.Prelude.{needs, arith, _-_, length}
 use Rattle.format.specs.Read.{many, loadConstant}
 use Rattle.format.specs.Store.{pieces, constantPiece}
 use Rattle.load.specs.Loads.{world}

@@ -1,6 +1,5 @@
 -- By the constant's kind, the three words and the text of its piece.
-use borrow.Author.Needs.{needs}
-use native.Mathlib.Omega.{arith}
+use Rattle.lent.proofs.Prelude.{needs, arith}
 use Rattle.load.proofs.Stores.{string-part}
 use Rattle.load_function.proofs.list.put_constant.Statement.{statement}
 use Rattle.load_function.proofs.list.put_constant.Tie as tie

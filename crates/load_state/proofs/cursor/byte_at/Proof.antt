@@ -1,7 +1,5 @@
 -- The byte at the place, or 2 past the end.
-use borrow.Author.Needs.{needs}
-use native.Mathlib.Omega.{arith}
-use mathlib.Core.Path.{refl}
+use Rattle.lent.proofs.Prelude.{needs, arith, refl}
 use Rattle.load_state.proofs.Bytes.{byte-taken, byte-missing}
 use Rattle.load_state.proofs.cursor.byte_at.Statement.{statement}
 use Rattle.load_state.proofs.cursor.byte_at.Tie as tie

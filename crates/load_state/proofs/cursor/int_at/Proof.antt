@@ -1,7 +1,5 @@
 -- Four bytes, or 2 where fewer stand there.
-use borrow.Author.Needs.{needs}
-use native.Mathlib.Omega.{arith}
-use mathlib.Core.Path.{refl}
+use Rattle.lent.proofs.Prelude.{needs, arith, refl}
 use Rattle.load_state.proofs.Bytes.{int-taken, int-missing}
 use Rattle.load_state.proofs.cursor.int_at.Statement.{statement}
 use Rattle.load_state.proofs.cursor.int_at.Tie as tie

@@ -1,7 +1,5 @@
 -- Eight bytes, as two numbers of four, or 2 where fewer stand there.
-use borrow.Author.Needs.{needs}
-use native.Mathlib.Omega.{arith}
-use mathlib.Core.Path.{refl}
+use Rattle.lent.proofs.Prelude.{needs, arith, refl}
 use Rattle.load_state.proofs.Bytes.{size-taken, size-missing}
 use Rattle.load_state.proofs.cursor.size_at.Statement.{statement}
 use Rattle.load_state.proofs.cursor.size_at.Tie as tie

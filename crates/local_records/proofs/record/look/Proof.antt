@@ -1,6 +1,5 @@
 -- By the tests, in their order.
-use borrow.Author.Needs.{needs}
-use native.Mathlib.Omega.{arith}
+use Rattle.lent.proofs.Prelude.{needs, arith}
 use Rattle.local_records.proofs.Records.{look-late, look-over, look-found, look-more}
 use Rattle.local_records.proofs.record.look.Statement.{statement}
 use Rattle.local_records.proofs.record.look.Tie as tie

@@ -1,6 +1,5 @@
 -- From the one to start from, the functions up to index i are passed.
-use borrow.Author.Needs.{needs}
-use mathlib.Core.Path.{refl}
+use Rattle.lent.proofs.Prelude.{needs, refl}
 use Rattle.proto.proofs.Children.{child-further}
 use Rattle.proto.proofs.child.child_at.Statement.{statement}
 use Rattle.proto.proofs.child.child_at.Tie as tie

@@ -1,5 +1,5 @@
 -- It stands behind the count, and its number is the next one.
-use borrow.Author.Needs.{needs}
+use Rattle.lent.proofs.Prelude.{needs}
 use Rattle.proto.proofs.Children.{child-first}
 use Rattle.proto.proofs.child.first_child.Statement.{statement}
 use Rattle.proto.proofs.child.first_child.Tie as tie

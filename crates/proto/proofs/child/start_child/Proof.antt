@@ -1,6 +1,5 @@
 -- The one kept is not behind index i; nor is the first.
-use borrow.Author.Needs.{needs}
-use native.Mathlib.Omega.{arith}
+use Rattle.lent.proofs.Prelude.{needs, arith}
 use Rattle.proto.proofs.child.start_child.Statement.{statement}
 use Rattle.proto.proofs.child.start_child.Tie as tie
 

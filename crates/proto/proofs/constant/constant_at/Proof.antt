@@ -1,7 +1,5 @@
 -- The first word tells which constant stands there, and the other two are its parts; none stands where there are not three.
-use borrow.Author.Needs.{needs, scaled-fits}
-use native.Mathlib.Omega.{arith}
-use Prim.Native.Nat.{_+_}
+use Rattle.lent.proofs.Prelude.{needs, scaled-fits, arith, _+_}
 use Rattle.proto.proofs.Checks.{room-first, room-at, room-fits}
 use Rattle.proto.proofs.Items.{constant-none, constant-nil, constant-bool, constant-num, constant-str}
 use Rattle.proto.proofs.constant.constant_at.Statement.{statement}

@@ -1,9 +1,6 @@
 -- A function is its parts, one behind the other. The loop's invariant: whatever checks the other functions from here checks all of them from the start.
 -- The measure is twice the allowance, and one more for check_functions, which calls check_function at the same allowance.
-use borrow.Author.Needs.{needs}
-use native.Mathlib.Omega.{arith}
-use Prim.Native.Nat.{_+_, _-_, _<_}
-use mathlib.Core.Path.{_≡_}
+use Rattle.lent.proofs.Prelude.{needs, arith, _+_, _-_, _<_, _≡_}
 use Rattle.format.specs.Store.{functionPiece}
 use Rattle.format.specs.Valid.{Valid}
 use Rattle.format.proofs.Loops.{Loop, loop-start}

@@ -1,5 +1,5 @@
 -- The first word tells the kind; one above 1 that is not 3 must be 4.
-use borrow.Author.Needs.{needs}
+use Rattle.lent.proofs.Prelude.{needs}
 use Rattle.proto.proofs.Stores.{constant-plain, constant-num, constant-str}
 use Rattle.proto.proofs.formed.check_constant.Statement.{statement}
 use Rattle.proto.proofs.formed.check_constant.Tie as tie

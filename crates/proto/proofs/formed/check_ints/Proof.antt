@@ -1,6 +1,5 @@
 -- Every word of a slice is a word, so the list is well formed if it is short and does not go past the end.
-use borrow.Author.Needs.{needs}
-use native.Mathlib.Omega.{arith}
+use Rattle.lent.proofs.Prelude.{needs, arith}
 use mathlib.Core.Logic.{⊎-elim}
 use Rattle.proto.proofs.Checks.{never, ints-within, ints-good, ints-bad}
 use Rattle.proto.proofs.formed.check_ints.Statement.{statement}

@@ -1,5 +1,5 @@
 -- A name and two words, one behind the other.
-use borrow.Author.Needs.{needs}
+use Rattle.lent.proofs.Prelude.{needs}
 use Rattle.proto.proofs.Stores.{local-checked}
 use Rattle.proto.proofs.formed.check_local.Statement.{statement}
 use Rattle.proto.proofs.formed.check_local.Tie as tie

@@ -1,5 +1,5 @@
 -- Where the text is ASCII, a string of it is UTF-8.
-use borrow.Author.Needs.{needs}
+use Rattle.lent.proofs.Prelude.{needs}
 use Rattle.proto.proofs.Checks.{ascii-name}
 use Rattle.proto.proofs.formed.check_name.Statement.{statement}
 use Rattle.proto.proofs.formed.check_name.Tie as tie

@@ -1,7 +1,5 @@
 -- The loop's invariant: whatever checks the other items from here checks the whole list from the start.
-use borrow.Author.Needs.{needs}
-use native.Mathlib.Omega.{arith}
-use Prim.Native.Nat.{_-_}
+use Rattle.lent.proofs.Prelude.{needs, arith, _-_}
 use Rattle.format.specs.Store.{string}
 use Rattle.format.specs.Valid.{Name}
 use Rattle.format.proofs.Loops.{Loop, loop-start}

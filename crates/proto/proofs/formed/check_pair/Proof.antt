@@ -1,7 +1,5 @@
 -- Two words stand where there is room for them.
-use borrow.Author.Needs.{needs}
-use native.Mathlib.Omega.{arith}
-use borrow.Author.Tests.{not-true, not-false}
+use Rattle.lent.proofs.Prelude.{needs, arith, not-true, not-false}
 use Rattle.proto.proofs.Checks.{room-fits, room-ends, check-stopped, check-room, pair-good}
 use Rattle.proto.proofs.formed.check_pair.Statement.{statement}
 use Rattle.proto.proofs.formed.check_pair.Tie as tie

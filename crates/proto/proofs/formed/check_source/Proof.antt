@@ -1,5 +1,5 @@
 -- The first word tells an inherited source from an own one.
-use borrow.Author.Needs.{needs}
+use Rattle.lent.proofs.Prelude.{needs}
 use Rattle.proto.proofs.Stores.{source-inherited, source-own}
 use Rattle.proto.proofs.formed.check_source.Statement.{statement}
 use Rattle.proto.proofs.formed.check_source.Tie as tie

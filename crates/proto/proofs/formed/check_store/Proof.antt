@@ -1,7 +1,5 @@
 -- A store that holds a tree is passed to its end, and one that is passed to its end holds the tree found.
-use borrow.Author.Needs.{needs}
-use native.Mathlib.Omega.{arith}
-use mathlib.Core.Path.{sym, _∙_}
+use Rattle.lent.proofs.Prelude.{needs, arith, sym, _∙_}
 use Rattle.proto.proofs.Checks.{never}
 use Rattle.proto.proofs.Stores.{held-no, store-passed, store-held}
 use Rattle.proto.proofs.formed.check_store.Statement.{statement}

@@ -1,8 +1,5 @@
 -- The two words are the place reached and a length that the text has from there on, or no string stands there.
-use borrow.Author.Needs.{needs, scaled-fits}
-use native.Mathlib.Omega.{arith}
-use Prim.Native.Nat.{_+_}
-use borrow.Author.Tests.{not-true, not-false}
+use Rattle.lent.proofs.Prelude.{needs, scaled-fits, arith, _+_, not-true, not-false}
 use Rattle.proto.proofs.Checks.{room-is, room-first, room-at, room-fits, room-ends, check-stopped, check-room, string-good, string-bad}
 use Rattle.proto.proofs.formed.check_string.Statement.{statement}
 use Rattle.proto.proofs.formed.check_string.Tie as tie

@@ -1,7 +1,5 @@
 -- Each way out but the last leaves a word that does not fit, or has no room for three.
-use borrow.Author.Needs.{needs, scaled-fits}
-use borrow.Author.Tests.{not-true, not-false}
-use native.Mathlib.Omega.{arith}
+use Rattle.lent.proofs.Prelude.{needs, scaled-fits, not-true, not-false, arith}
 use Rattle.proto.proofs.Checks.{room-first, room-at, room-fits, room-ends, check-stopped, check-room, three-good, three-bad}
 use Rattle.proto.proofs.formed.check_three.Statement.{statement}
 use Rattle.proto.proofs.formed.check_three.Tie as tie

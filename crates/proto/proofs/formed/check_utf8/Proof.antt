@@ -1,5 +1,5 @@
 -- What was checked is the text from the place reached before it to the one reached behind it.
-use borrow.Author.Needs.{needs}
+use Rattle.lent.proofs.Prelude.{needs}
 use mathlib.Core.Logic.{⊎-elim}
 use Rattle.proto.proofs.Checks.{string-within, name-good, name-bad, name-stopped}
 use Rattle.proto.proofs.formed.check_utf8.Statement.{statement}

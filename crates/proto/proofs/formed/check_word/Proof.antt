@@ -1,8 +1,6 @@
 -- A word within limits stands where the place is in the words and the word at it is; else none does.
-use borrow.Author.Needs.{needs}
-use native.Mathlib.Omega.{arith}
+use Rattle.lent.proofs.Prelude.{needs, arith, not-true, not-false}
 use mathlib.Core.Logic.{⊎-elim}
-use borrow.Author.Tests.{not-true, not-false}
 use Rattle.proto.proofs.Checks.{check-stopped, word-good, word-bad}
 use Rattle.proto.proofs.formed.check_word.Statement.{statement}
 use Rattle.proto.proofs.formed.check_word.Tie as tie

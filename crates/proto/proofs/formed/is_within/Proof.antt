@@ -1,7 +1,5 @@
 -- By what is left behind the place.
-use native.Mathlib.Omega.{arith}
-use mathlib.Core.Bool.{false≢true}
-use mathlib.Core.Path.{sym}
+use Rattle.lent.proofs.Prelude.{arith, false≢true, sym}
 use Rattle.proto.proofs.formed.is_within.Statement.{statement}
 use Rattle.proto.proofs.formed.is_within.Tie as tie
 

@@ -1,5 +1,5 @@
 -- Behind the source's three words stand three more, the last of which packs four bytes.
-use borrow.Author.Needs.{needs}
+use Rattle.lent.proofs.Prelude.{needs}
 use Rattle.proto.proofs.Items.{head-here}
 use Rattle.proto.proofs.head.head_at.Statement.{statement}
 use Rattle.proto.proofs.head.head_at.Tie as tie

@@ -1,7 +1,5 @@
 -- There is no function in it, or the first is walked through and the others are passed. The allowance falls.
-use borrow.Author.Needs.{needs}
-use Prim.Native.Nat.{_<_}
-use mathlib.Core.Path.{_≡_}
+use Rattle.lent.proofs.Prelude.{needs, _<_, _≡_}
 use Rattle.proto.proofs.Walks.{to-lines}
 use Rattle.proto.proofs.ListPlaces.{walked-kept, all-zero, all-deep, all-first}
 use Rattle.lent.proofs.further.Reads as further

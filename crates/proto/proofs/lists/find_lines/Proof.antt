@@ -1,5 +1,5 @@
 -- They are kept, or found by a walk.
-use borrow.Author.Needs.{needs}
+use Rattle.lent.proofs.Prelude.{needs}
 use Rattle.proto.proofs.ListPlaces.{walked}
 use Rattle.proto.proofs.lists.find_lines.Statement.{statement}
 use Rattle.proto.proofs.lists.find_lines.Tie as tie

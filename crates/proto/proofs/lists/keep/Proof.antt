@@ -1,5 +1,5 @@
 -- One thing more is known.
-use borrow.Author.Needs.{needs}
+use Rattle.lent.proofs.Prelude.{needs}
 use Rattle.proto.proofs.ListPlaces.{kept-more}
 use Rattle.proto.proofs.lists.keep.Statement.{statement}
 use Rattle.proto.proofs.lists.keep.Tie as tie

@@ -1,5 +1,5 @@
 -- What is kept there is of this function.
-use borrow.Author.Needs.{needs}
+use Rattle.lent.proofs.Prelude.{needs}
 use Rattle.proto.proofs.lists.kept_lines.Statement.{statement}
 use Rattle.proto.proofs.lists.kept_lines.Tie as tie
 

@@ -1,5 +1,5 @@
 -- Each list stands behind the one before it, and the lines where find_lines says.
-use borrow.Author.Needs.{needs}
+use Rattle.lent.proofs.Prelude.{needs}
 use Rattle.proto.proofs.ListPlaces.{lists-found}
 use Rattle.proto.proofs.lists.lists_on_way.Statement.{statement}
 use Rattle.proto.proofs.lists.lists_on_way.Tie as tie

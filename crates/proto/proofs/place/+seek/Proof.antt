@@ -1,8 +1,5 @@
 -- The loop's invariant: whatever the search answers for the other functions from here, it answers for all of them. The allowance falls.
-use borrow.Author.Needs.{needs}
-use native.Mathlib.Omega.{arith}
-use Prim.Native.Nat.{_-_, _<_}
-use mathlib.Core.Path.{_≡_, refl}
+use Rattle.lent.proofs.Prelude.{needs, arith, _-_, _<_, _≡_, refl}
 use Rattle.format.proofs.Loops.{Loop, loop-start, loop-turn}
 use Rattle.proto.proofs.Walks.{none-deep}
 use Rattle.proto.proofs.Places.{SearchAll, search-more, search-here, search-inside, search-outside}

@@ -1,5 +1,5 @@
 -- The words behind a first word other than 0 are the place and the length of the source.
-use borrow.Author.Needs.{needs}
+use Rattle.lent.proofs.Prelude.{needs}
 use Rattle.proto.proofs.Places.{span-inherited, span-own}
 use Rattle.proto.proofs.place.own_span.Statement.{statement}
 use Rattle.proto.proofs.place.own_span.Tie as tie

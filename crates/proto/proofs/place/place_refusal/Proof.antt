@@ -1,5 +1,5 @@
 -- The check tells whether there is a tree, and the search whether one of its functions begins there.
-use borrow.Author.Needs.{needs}
+use Rattle.lent.proofs.Prelude.{needs}
 use Rattle.proto.proofs.Sources.{place-10, place-12, place-0}
 use Rattle.proto.proofs.place.place_refusal.Statement.{statement}
 use Rattle.proto.proofs.place.place_refusal.Tie as tie

@@ -1,5 +1,5 @@
 -- The source stands where source_at says, in the text or in the chunk name.
-use borrow.Author.Needs.{needs}
+use Rattle.lent.proofs.Prelude.{needs}
 use Rattle.proto.proofs.Sources.{source-ordered, source-text, source-name}
 use Rattle.proto.proofs.place.source.Statement.{statement}
 use Rattle.proto.proofs.place.source.Tie as tie

@@ -1,5 +1,5 @@
 -- The three tests, in the order of the refusals; the search gives the span of the function that it finds.
-use borrow.Author.Needs.{needs}
+use Rattle.lent.proofs.Prelude.{needs}
 use Rattle.proto.proofs.Sources.{source-1, source-10, source-12, source-found}
 use Rattle.proto.proofs.place.source_at.Statement.{statement}
 use Rattle.proto.proofs.place.source_at.Tie as tie

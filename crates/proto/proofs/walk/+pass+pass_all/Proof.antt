@@ -1,9 +1,6 @@
 -- The loop's invariant: whatever passes the other functions from here passes all of them from the start.
 -- The measure is twice the allowance, and one more for pass_all, which calls pass at the same allowance.
-use borrow.Author.Needs.{needs}
-use native.Mathlib.Omega.{arith}
-use Prim.Native.Nat.{_+_, _-_, _<_}
-use mathlib.Core.Path.{_≡_}
+use Rattle.lent.proofs.Prelude.{needs, arith, _+_, _-_, _<_, _≡_}
 use Rattle.proto.specs.Walk.{PassesAll}
 use Rattle.format.proofs.Loops.{Loop, loop-start, loop-turn, loop-end}
 use Rattle.proto.proofs.Walks.{all-none, all-more, none-deep, pass-inside, to-lines}

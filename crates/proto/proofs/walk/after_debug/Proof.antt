@@ -1,5 +1,5 @@
 -- Three lists, one behind the other.
-use borrow.Author.Needs.{needs}
+use Rattle.lent.proofs.Prelude.{needs}
 use Rattle.proto.proofs.Walks.{past-debug}
 use Rattle.proto.proofs.walk.after_debug.Statement.{statement}
 use Rattle.proto.proofs.walk.after_debug.Tie as tie

@@ -1,7 +1,5 @@
 -- The word at the place is the count, and k times a count fits for k up to 4.
-use borrow.Author.Needs.{needs}
-use native.Mathlib.Omega.{arith}
-use native.Mathlib.Nat.{mul-le-mul-right}
+use Rattle.lent.proofs.Prelude.{needs, arith, mul-le-mul-right}
 use Rattle.proto.proofs.Walks.{skip-items}
 use Rattle.proto.proofs.walk.after_list.Statement.{statement}
 use Rattle.proto.proofs.walk.after_list.Tie as tie

@@ -1,5 +1,5 @@
 -- Six words stand before the code.
-use borrow.Author.Needs.{needs}
+use Rattle.lent.proofs.Prelude.{needs}
 use Rattle.proto.proofs.Walks.{past-head}
 use Rattle.proto.proofs.walk.code_at.Statement.{statement}
 use Rattle.proto.proofs.walk.code_at.Tie as tie

@@ -1,5 +1,5 @@
 -- The constants stand behind the code.
-use borrow.Author.Needs.{needs}
+use Rattle.lent.proofs.Prelude.{needs}
 use Rattle.proto.proofs.Walks.{past-then, past-ints}
 use Rattle.proto.proofs.walk.constants_at.Statement.{statement}
 use Rattle.proto.proofs.walk.constants_at.Tie as tie

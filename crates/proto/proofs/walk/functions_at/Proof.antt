@@ -1,5 +1,5 @@
 -- The functions stand behind the constants.
-use borrow.Author.Needs.{needs}
+use Rattle.lent.proofs.Prelude.{needs}
 use Rattle.format.specs.Store.{constantPiece}
 use Rattle.proto.proofs.Pieces.{constant-words}
 use Rattle.proto.proofs.Walks.{past-then, past-list}

@@ -1,5 +1,5 @@
 -- The count stands first, and the items behind it.
-use borrow.Author.Needs.{needs}
+use Rattle.lent.proofs.Prelude.{needs}
 use Rattle.proto.proofs.Items.{ints-here}
 use Rattle.proto.proofs.walk.ints_at.Statement.{statement}
 use Rattle.proto.proofs.walk.ints_at.Tie as tie

@@ -1,7 +1,5 @@
 -- The product of two 32-bit numbers and 1 fits.
-use borrow.Author.Needs.{needs}
-use native.Mathlib.Omega.{arith}
-use native.Mathlib.Nat.{mul-le-mul}
+use Rattle.lent.proofs.Prelude.{needs, arith, mul-le-mul}
 use Rattle.proto.proofs.walk.item_at.Statement.{statement}
 use Rattle.proto.proofs.walk.item_at.Tie as tie
 

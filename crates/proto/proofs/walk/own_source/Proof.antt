@@ -1,5 +1,5 @@
 -- A first word of 0 is that of an inherited source; behind any other stands the string.
-use borrow.Author.Needs.{needs}
+use Rattle.lent.proofs.Prelude.{needs}
 use Rattle.proto.proofs.Items.{source-inherited, source-own}
 use Rattle.proto.proofs.walk.own_source.Statement.{statement}
 use Rattle.proto.proofs.walk.own_source.Tie as tie

@@ -1,5 +1,5 @@
 -- Start and length, cut to what there is, give the part that take and drop give.
-use borrow.Author.Needs.{needs}
+use Rattle.lent.proofs.Prelude.{needs}
 use Rattle.proto.proofs.Sublists.{part-clamped}
 use Rattle.proto.proofs.walk.part.Statement.{statement}
 use Rattle.proto.proofs.walk.part.Tie as tie

@@ -1,6 +1,5 @@
 -- Where n words stand at a place, there are so many from it to the end, so the place moves on by n.
-use borrow.Author.Needs.{needs}
-use native.Mathlib.Omega.{arith}
+use Rattle.lent.proofs.Prelude.{needs, arith}
 use Rattle.proto.proofs.Sublists.{here-length}
 use Rattle.proto.proofs.walk.skip.Statement.{statement}
 use Rattle.proto.proofs.walk.skip.Tie as tie

@@ -1,5 +1,5 @@
 -- A function's source stands where it begins.
-use borrow.Author.Needs.{needs}
+use Rattle.lent.proofs.Prelude.{needs}
 use Rattle.proto.proofs.Items.{source-stands}
 use Rattle.proto.proofs.walk.source_of.Statement.{statement}
 use Rattle.proto.proofs.walk.source_of.Tie as tie

@@ -1,5 +1,5 @@
 -- The two words are the string's place and length, and there it stands in the text.
-use borrow.Author.Needs.{needs}
+use Rattle.lent.proofs.Prelude.{needs}
 use Rattle.proto.proofs.Items.{string-here}
 use Rattle.proto.proofs.walk.string_at.Statement.{statement}
 use Rattle.proto.proofs.walk.string_at.Tie as tie

@@ -1,7 +1,5 @@
 -- Past the end of the words, getD gives 0 too.
-use borrow.Author.Needs.{needs}
-use mathlib.Core.Path.{sym}
-use lib.ListN.{List·getD-eq-default}
+use Rattle.lent.proofs.Prelude.{needs, sym, List·getD-eq-default}
 use Rattle.proto.proofs.walk.word_at.Statement.{statement}
 use Rattle.proto.proofs.walk.word_at.Tie as tie
 

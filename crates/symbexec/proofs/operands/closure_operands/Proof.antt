@@ -1,5 +1,5 @@
 -- Past the count there is no such function; before it, the head of the function found has its upvalues.
-use borrow.Author.Needs.{needs}
+use Rattle.lent.proofs.Prelude.{needs}
 use Rattle.symbexec.proofs.Upvalues.{behind-none, behind-child}
 use Rattle.symbexec.proofs.operands.closure_operands.Statement.{statement}
 use Rattle.symbexec.proofs.operands.closure_operands.Tie as tie

@@ -1,6 +1,5 @@
 -- Each test is one of the definition's.
-use borrow.Author.Needs.{needs}
-use borrow.Author.Tests.{eq-eqb, ne-eqb}
+use Rattle.lent.proofs.Prelude.{needs, eq-eqb, ne-eqb}
 use Rattle.symbexec.specs.SymbExec.{operands}
 use Rattle.symbexec.proofs.Upvalues.{behind-kept, behind-is}
 use Rattle.symbexec.proofs.operands.operands.Statement.{statement}

@@ -1,7 +1,5 @@
 -- Each arm is a line of the definition.
-use borrow.Author.Needs.{needs}
-use mathlib.Core.Path.{sym, _∙_}
-use borrow.Author.Tests.{ne-eqb}
+use Rattle.lent.proofs.Prelude.{needs, sym, _∙_, ne-eqb}
 use Rattle.symbexec.specs.SymbExec.{alsoWrites}
 use Rattle.symbexec.proofs.step.also_writes.Statement.{statement}
 use Rattle.symbexec.proofs.step.also_writes.Tie as tie

@@ -1,5 +1,5 @@
 -- Each test is one of the two.
-use borrow.Author.Tests.{le-leb, lt-leb}
+use Rattle.lent.proofs.Prelude.{le-leb, lt-leb}
 use Rattle.symbexec.proofs.step.between.Statement.{statement}
 use Rattle.symbexec.proofs.step.between.Tie as tie
 

@@ -1,7 +1,5 @@
 -- The tests are the definition's, in its order.
-use borrow.Author.Needs.{needs}
-use borrow.Author.Tests.{eq-eqb, ne-eqb, lt-ltb, le-ltb, not-true, not-false}
-use mathlib.Core.Path.{sym, _∙_}
+use Rattle.lent.proofs.Prelude.{needs, eq-eqb, ne-eqb, lt-ltb, le-ltb, not-true, not-false, sym, _∙_}
 use Rattle.symbexec.specs.SymbExec.{followed}
 use Rattle.symbexec.proofs.step.followed.Statement.{statement}
 use Rattle.symbexec.proofs.step.followed.Tie as tie

@@ -1,5 +1,5 @@
 -- By what writes answers.
-use borrow.Author.Needs.{needs}
+use Rattle.lent.proofs.Prelude.{needs}
 use Rattle.symbexec.proofs.step.latest.Statement.{statement}
 use Rattle.symbexec.proofs.step.latest.Tie as tie
 

@@ -1,7 +1,5 @@
 -- A followed jump goes forward; anything else goes on behind the words that are none.
-use borrow.Author.Needs.{needs}
-use native.Mathlib.Omega.{arith}
-use mathlib.Core.Path.{sym, _∙_}
+use Rattle.lent.proofs.Prelude.{needs, arith, sym, _∙_}
 use Rattle.symbexec.proofs.Steps.{goes-forward, next-jump, next-on}
 use Rattle.symbexec.proofs.step.next_pc.Statement.{statement}
 use Rattle.symbexec.proofs.step.next_pc.Tie as tie

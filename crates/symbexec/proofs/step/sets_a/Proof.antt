@@ -1,6 +1,5 @@
 -- A is another register, or the attributes decide.
-use borrow.Author.Needs.{needs}
-use borrow.Author.Tests.{eq-eqb, ne-eqb}
+use Rattle.lent.proofs.Prelude.{needs, eq-eqb, ne-eqb}
 use Rattle.symbexec.specs.SymbExec.{setsA}
 use Rattle.symbexec.proofs.step.sets_a.Statement.{statement}
 use Rattle.symbexec.proofs.step.sets_a.Tie as tie

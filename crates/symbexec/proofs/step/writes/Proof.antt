@@ -1,5 +1,5 @@
 -- By what the two answer.
-use borrow.Author.Needs.{needs}
+use Rattle.lent.proofs.Prelude.{needs}
 use Rattle.symbexec.specs.SymbExec.{writes}
 use Rattle.symbexec.proofs.step.writes.Statement.{statement}
 use Rattle.symbexec.proofs.step.writes.Tie as tie

@@ -1,7 +1,5 @@
 -- The bytes are there and are those wanted, or 2, or the refusal given.
-use borrow.Author.Needs.{needs}
-use native.Mathlib.Omega.{arith}
-use mathlib.Core.Path.{refl}
+use Rattle.lent.proofs.Prelude.{needs, arith, refl}
 use Rattle.load.proofs.Steps.{passed}
 use Rattle.undump.proofs.Calls.{exactly-short, exactly-others, exactly-these}
 use Rattle.undump.proofs.header.load_exactly.Statement.{statement}

@@ -1,5 +1,5 @@
 -- The signature, then the other eight bytes.
-use borrow.Author.Needs.{needs}
+use Rattle.lent.proofs.Prelude.{needs}
 use Rattle.undump.proofs.Calls.{header-loaded}
 use Rattle.undump.proofs.header.load_header.Statement.{statement}
 use Rattle.undump.proofs.header.load_header.Tie as tie
