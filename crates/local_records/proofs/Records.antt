@@ -1,5 +1,5 @@
 -- Records: one is filled after the other, and each tells how the search goes on.
-use Rattle.lent.proofs.Prelude.{ℕ, zero, suc, _+_, _-_, _*_, _≤_, _<_, _≡_, refl, sym, ap, _∙_, List, _∷_, arith, add-one, length, take, drop, getD, set, drop-of-length-le, paste, paste-zero, paste-suc, drop-cons, getD-take, length-take-le, take-all, eq-eqb, ne-eqb, lt-ltb, le-ltb}
+use Rattle.lent.proofs.Prelude.{ℕ, zero, suc, _+_, _-_, _*_, _≤_, _<_, _≡_, refl, sym, ap, _∙_, List, _∷_, arith, add-one, length, take, drop, getD, set, drop-of-length-le, paste, paste-suc, drop-cons, getD-take, length-take-le, take-all, eq-eqb, ne-eqb, lt-ltb, le-ltb}
 use Rattle.local_records.specs.declared.record.LocalRecord.{LocalRecord}
 use Rattle.debug_info.specs.declared.name.Known.{Known}
 use Rattle.local_records.specs.declared.record.Seen.{Seen}
@@ -27,9 +27,6 @@ abbrev pub Filling : List LocalRecord → List ℕ → ℕ → ℕ → ℕ → L
 Filling before words at n i records = records ≡ paste before 0 (recordsAt words at n) i
 
 module _ (before : List LocalRecord) (words : List ℕ) (at n : ℕ) where
-  pub filling-none : Filling before words at n 0 before
-  filling-none = paste-zero before 0 (recordsAt words at n)
-
   pub filling-more : {i to : ℕ} {records : List LocalRecord} {r : LocalRecord} → i < n → n ≤ length before → to ≡ at + 4 * i → Filling before words at n i records → r ≡ recordAt words to
       → Filling before words at n (i + 1) (set records i r)
   filling-more {i} {to} {records} {r} h k t f e =
