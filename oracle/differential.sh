@@ -2,7 +2,7 @@
 # differential.sh CORPUS: compares every call with the Rust over the chunks that corpus.sh made, damaged copies of them, made-up trees,
 # trees at the limits and all chunks of at most three bytes, and the listings with luac's own; UTF-8 with Rust's library, and instructions
 # with the Rust. Prints the number of cases for each call, and fails on a difference.
-set -eu
+set -euo pipefail
 here=$(cd "$(dirname "$0")" && pwd)
 corpus=$(cd "$1" && pwd)
 work=$(mktemp -d)
