@@ -11,7 +11,7 @@ in the repository, then `rt fmt`. A change of what such a function calls, or in 
 """
 import os
 
-NUMBERS = [('byte', 'Byte', 'loadByte'), ('int', 'Int', 'loadInt'), ('size', 'Size', 'loadSize')]
+NUMBERS = [('byte', 'Byte', 'loadByte'), ('int', 'Int', 'loadInt'), ('size', 'Size', 'loadNumber 8')]
 
 USES = '''use contract.Running.{givenOf, tables, tablesOf}
 use denote.Triple.Spec.{tripleOf}
@@ -66,9 +66,9 @@ xSays bs at r = ReadAt bs READER at (r .value) (r .cursor)
 
 proofs = os.path.join(os.path.dirname(os.path.abspath(__file__)), '../crates/load_state/proofs')
 with open(os.path.join(proofs, 'Numbers.antt'), 'w') as f:
-    f.write(NUMBERS_LAWS.replace('READERS', ', '.join(r for _, _, r in NUMBERS)))
+    f.write(NUMBERS_LAWS.replace('READERS', ', '.join(r.split()[0] for _, _, r in NUMBERS)))
     f.writelines(f'use Rattle.load_state.specs.declared.cursor.{a}.{{{a}}}\n' for _, a, _ in NUMBERS)
-    f.writelines(SAYS.replace('xSays', f'{x}Says').replace('ANSWER', a).replace('READER', r) for x, a, r in NUMBERS)
+    f.writelines(SAYS.replace('xSays', f'{x}Says').replace('ANSWER', a).replace('READER', f'({r})' if ' ' in r else r) for x, a, r in NUMBERS)
 for x, answer, reader in NUMBERS:
     for verb, text in (('load', THIN), ('read', ABOVE)):
         for old, new in (('ANSWER', answer), ('READER', reader), ('FN', f'{verb}_{x}'), ('NAME', f'{verb}-{x}'),

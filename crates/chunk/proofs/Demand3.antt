@@ -1,76 +1,75 @@
 -- The proof of demand 3. Reading a dump finds the tree that was written and ends where the dump ends, whatever stands behind it,
 -- so a call that is not refused moves on by the dump, one that is refused stays, and the dumps that are left are those that stand there.
-use Rattle.lent.proofs.Prelude.{ℕ, _+_, _-_, _<_, _≡_, refl, sym, ap, _∙_, Option, none, some, List, [], _∷_, _++_, map, append-assoc, append-nil, append-cancel-right, Bool, true, false, cond, and-eq-true-iff, arith, length, take, drop, length-append, take-at, drop-at, drop-drop, leb, eqb, leb-true, eq-eqb, ne-eqb, eqb-true, eqb-false}
+use Rattle.lent.proofs.Prelude.{ℕ, _+_, _-_, _<_, _≡_, refl, sym, ap, _∙_, none, some, List, [], _∷_, _++_, map, append-assoc, append-nil, append-cancel-right, Bool, true, false, cond, and-eq-true-iff, arith, length, take, drop, length-append, take-at, drop-at, drop-drop, leb, eqb, leb-true, eq-eqb, ne-eqb, eqb-true, eqb-false}
 use mathlib.Core.Logic.{_⊎_, inl, inr}
 use Rattle.lent.specs.Memory.{Every}
 use Rattle.utf8.specs.Utf8.{isUtf8}
 use Rattle.format.specs.Tree.{Function, rootSource, stripped, fill}
-use Rattle.format.specs.Read.{got, refused}
+use Rattle.format.specs.Read.{got, refused, widthOf}
 use Rattle.format.specs.Write.{dumpChunk}
 use Rattle.format.specs.Valid.{depth, most, Name, Holds, HoldOne}
 use Rattle.format.specs.Agree.{Agree}
 use Rattle.format.specs.Stored.{treeOf}
-use Rattle.format.specs.Undump.{loadChunk, UndumpLeft, undumpRefused, Refuses, wordsUsed, textUsed}
+use Rattle.format.specs.Undump.{Chunk, loadChunk, UndumpLeft, undumpRefused, Refuses, wordsUsed, textUsed}
 use Rattle.format.specs.Dump.{WriteLeft, writeLeft}
 use Rattle.chunk.specs.Demand3.{DumpCall, Accepted, bytesOf, dumpsOf, endToEnd, dumpedSource, UndumpCall, leftBy, Calls, FindsStripped, Takes, CallOnDump, dumpsLeft, Session, Demand3}
 use Rattle.utf8.proofs.Rows.{by-test}
 use Rattle.format.proofs.RoundTrip.{Reads, either, readBack, chunk-law, found-valid, found-filled}
 use Rattle.format.proofs.Stored.{tree-holds, holds-tree, holds-one}
 use Rattle.format.proofs.Filled.{stripped-not, fill-one}
-use Rattle.format.proofs.Calls.{Outcome, Stores, undump-outcome, undump-refused, refusal-is, stored-holds, DumpRefuses, DumpOutcome, dump-outcome}
+use Rattle.format.proofs.Calls.{Outcome, Stores, undump-outcome, undump-refused, refusal-is, stored-holds, DumpOutcome, dump-positive, dump-outcome}
 
 got-both : {A : Type 0} {a b : A} {s t : List ℕ} → got a s ≡ got b t → (a ≡ b) × (s ≡ t)
 got-both e = (cc, cc)
 
 -- ---- a dump
 
+-- what reading finds where a tree was dumped
+abbrev chunkOf : DumpCall → Function → Chunk
+chunkOf d f = record { size4 = d .size4; root = readBack f (d .strip) [] (d .name) }
+
 -- the tree that was dumped, its bytes, and what reading them finds
 record Dump (d : DumpCall) : Type 0 where
   tree : Function
   held : treeOf (d .words) (d .text) ≡ some tree
   holds : Holds (d .words) (d .text) tree
-  bytes : bytesOf d ≡ dumpChunk (d .strip) (d .name) tree
+  bytes : bytesOf d ≡ dumpChunk (d .strip) (d .size4) (d .name) tree
   named : Name (d .name)
-  reads : Reads loadChunk (bytesOf d) (readBack tree (d .strip) [] (d .name))
+  reads : Reads loadChunk (bytesOf d) (chunkOf d tree)
 
 abbrev wrote : WriteLeft → List ℕ
 wrote u = take (u .answer .len) (u .out)
 
 -- what its contract says
-outcome-of : (d : DumpCall) → DumpOutcome (d .name) (d .strip) (d .out) (treeOf (d .words) (d .text)) (writeLeft (d .answer) (d .left))
-outcome-of d = rw (d .contract) (dump-outcome (d .words) (d .text) (d .name) (d .strip) (d .out))
+outcome-of : (d : DumpCall) → DumpOutcome (d .name) (d .strip) (d .size4) (d .out) (treeOf (d .words) (d .text)) (writeLeft (d .answer) (d .left))
+outcome-of d = rw (d .contract) (dump-outcome (d .words) (d .text) (d .name) (d .strip) (d .size4) (d .out))
 
 dump-of : (d : DumpCall) → Accepted d → Dump d
 dump-of d e = by (outcome-of d)
   where
-    nonzero : (n : ℕ) (x : Option Function) → DumpRefuses (d .name) (d .strip) (d .out) x n → 0 < n
-    nonzero n x (DumpRefuses.bad-name h) = omega arith
-    nonzero n x (DumpRefuses.not-well-formed h) = omega arith
-    nonzero n x (DumpRefuses.too-long h k) = omega arith
-
-    by : DumpOutcome (d .name) (d .strip) (d .out) (treeOf (d .words) (d .text)) (writeLeft (d .answer) (d .left)) → Dump d
+    by : DumpOutcome (d .name) (d .strip) (d .size4) (d .out) (treeOf (d .words) (d .text)) (writeLeft (d .answer) (d .left)) → Dump d
     by (DumpOutcome.refuses n r l) =
-        let p = nonzero n (treeOf (d .words) (d .text)) r in
+        let p = dump-positive r in
         let z : n ≡ 0 = ap (λ (u : WriteLeft). u .answer .refusal) (sym l) ∙ e in
         absurd (omega arith)
     by (DumpOutcome.dumps s) =
         let h = tree-holds (d .words) (d .text) (s .tree) (s .held) in
         let n = and-eq-true-iff (isUtf8 (d .name)) (leb (length (d .name)) most) .0 (s .named) in
-        let b : bytesOf d ≡ dumpChunk (d .strip) (d .name) (s .tree) = ap wrote (s .leaves) ∙ take-at (dumpChunk (d .strip) (d .name) (s .tree)) _ _ refl in
+        let b : bytesOf d ≡ dumpChunk (d .strip) (d .size4) (d .name) (s .tree) = ap wrote (s .leaves) ∙ take-at (dumpChunk (d .strip) (d .size4) (d .name) (s .tree)) _ _ refl in
         record {
           tree = s .tree;
           held = s .held;
           holds = h;
           bytes = b;
           named = n .0;
-          reads = rw b (chunk-law (s .tree) (d .strip) (d .name) (h .valid) (rw (h .text-is) (h .text-fits)) (n .0) (leb-true (length (d .name)) most (n .1)));
+          reads = rw b (chunk-law (s .tree) (d .strip) (d .size4) (d .name) (h .valid) (rw (h .text-is) (h .text-fits)) (n .0) (leb-true (length (d .name)) most (n .1)));
         }
 
 -- ---- what the words of the statement mean, of any dump call whose store holds f
 
 -- the bytes of a dump are the chunk of the tree
-pub bytes-written : (d : DumpCall) → Accepted d → (f : Function) → Holds (d .words) (d .text) f → bytesOf d ≡ dumpChunk (d .strip) (d .name) f
-bytes-written d a f h = dump-of d a .bytes ∙ ap (dumpChunk (d .strip) (d .name)) (holds-one (dump-of d a .holds) h)
+pub bytes-written : (d : DumpCall) → Accepted d → (f : Function) → Holds (d .words) (d .text) f → bytesOf d ≡ dumpChunk (d .strip) (d .size4) (d .name) f
+bytes-written d a f h = dump-of d a .bytes ∙ ap (dumpChunk (d .strip) (d .size4) (d .name)) (holds-one (dump-of d a .holds) h)
 
 -- the source dumped is the root's
 pub dumped-source : (d : DumpCall) (f : Function) → Holds (d .words) (d .text) f → dumpedSource d ≡ rootSource f (d .name)
@@ -98,7 +97,7 @@ two-dumps d e = rw append-nil
 pub refused-bytes : (d : DumpCall) → (Accepted d → ⊥) → bytesOf d ≡ []
 refused-bytes d e = by (outcome-of d)
   where
-    by : DumpOutcome (d .name) (d .strip) (d .out) (treeOf (d .words) (d .text)) (writeLeft (d .answer) (d .left)) → bytesOf d ≡ []
+    by : DumpOutcome (d .name) (d .strip) (d .size4) (d .out) (treeOf (d .words) (d .text)) (writeLeft (d .answer) (d .left)) → bytesOf d ≡ []
     by (DumpOutcome.refuses n r l) = ap wrote l
     by (DumpOutcome.dumps s) = absurd (e (ap (λ (u : WriteLeft). u .answer .refusal) (s .leaves)))
 
@@ -111,8 +110,8 @@ module _ (d : DumpCall) (a : Accepted d) (bytes behind : List ℕ) (is : bytes �
   abbrev dump : Dump d
   dump = dump-of d a
 
-  abbrev found : Function
-  found = readBack (dump .tree) (d .strip) [] (d .name)
+  abbrev found : Chunk
+  found = chunkOf d (dump .tree)
 
   reads : loadChunk bytes ≡ got found behind
   reads = rw is (dump .reads .run behind)
@@ -130,12 +129,15 @@ module _ (d : DumpCall) (a : Accepted d) (bytes behind : List ℕ) (is : bytes �
       let n : length bytes ≡ length (bytesOf d) + length behind = ap length is ∙ length-append (bytesOf d) behind in
       ap (λ (u : UndumpLeft). u .answer .read) (s .leaves) ∙ rw e (omega arith)
 
+  width-is : Stored → c .answer .width ≡ widthOf (d .size4)
+  width-is s = ap (λ (u : UndumpLeft). u .answer .width) (s .leaves) ∙ ap (λ (x : Chunk). widthOf (x .size4)) (sym (got-both (s .reads) .0))
+
   -- under a chunk name that an empty root source stands for
   finds-under : Stored → (name : List ℕ) → (rootSource (dump .tree) (d .name) ≡ [] → name ≡ rootSource (dump .tree) (d .name)) → FindsStripped d (leftBy c) name
   finds-under s name h =
-      let e : s .tree ≡ found = sym (got-both (s .reads) .0) in
+      let e : s .read .root ≡ found .root = ap (λ (x : Chunk). x .root) (sym (got-both (s .reads) .0)) in
       record {
-        tree = s .tree;
+        tree = s .read .root;
         tree′ = dump .tree;
         holds = stored-holds bytes (c .lent) (leftBy c) s (rw e (found-valid (dump .tree) depth (d .strip) [] (d .name) (dump .holds .valid) (dump .named)));
         holds′ = dump .holds;
@@ -150,6 +152,7 @@ module _ (d : DumpCall) (a : Accepted d) (bytes behind : List ℕ) (is : bytes �
   takes-law s =
       record {
         read = read-is s;
+        width = width-is s;
         finds = λ e h. one-tree e (finds-under s (c .lent .name) (under h));
         finds-stripped = λ h. finds-under s (c .lent .name) (under h);
         finds-unnamed = finds-under s [] (λ h. sym h);
@@ -184,7 +187,7 @@ module _ (d : DumpCall) (a : Accepted d) (bytes behind : List ℕ) (is : bytes �
   step-law : CallOnDump d bytes (c .lent) (leftBy c)
   step-law =
       record {
-        tree = found;
+        chunk = found;
         rest = behind;
         begins = sym is;
         reads = reads;
@@ -239,12 +242,15 @@ dumps-bytes (d ∷ ds) =
 
 -- two dumps that begin alike are read alike
 alike : (d e : DumpCall) (a : Accepted d) (b : Accepted e) (s t : List ℕ) → bytesOf d ++ s ≡ bytesOf e ++ t
-    → (readBack (dump-of d a .tree) (d .strip) [] (d .name) ≡ readBack (dump-of e b .tree) (e .strip) [] (e .name)) × (s ≡ t)
+    → (chunkOf d (dump-of d a .tree) ≡ chunkOf e (dump-of e b .tree)) × (s ≡ t)
 alike d e a b s t h = got-both (sym (dump-of d a .reads .run s) ∙ ap loadChunk h ∙ dump-of e b .reads .run t)
 
 -- under the empty name the tree read is the tree dumped
 refilled : (d : DumpCall) (a : Accepted d) → d .strip ≡ false → fill (readBack (dump-of d a .tree) (d .strip) [] (d .name)) [] ≡ fill (dump-of d a .tree) (d .name)
 refilled d a s = found-filled (dump-of d a .tree) (d .strip) [] (d .name) [] (λ h. sym h) ∙ rw (stripped-by (dump-of d a .tree) (d .strip) s)
+
+same-width-law : (d e : DumpCall) → Accepted d → Accepted e → bytesOf d ≡ bytesOf e → d .size4 ≡ e .size4
+same-width-law d e a b h = ap (λ (x : Chunk). x .size4) (alike d e a b [] [] (ap (λ (l : List ℕ). l ++ []) h) .0)
 
 differ-law : (d e : DumpCall) → Accepted d → Accepted e → d .strip ≡ false → e .strip ≡ false → bytesOf d ≡ bytesOf e → HoldOne (d .words) (d .text) (d .name) (e .words) (e .text) (e .name)
 differ-law d e a b sd se h =
@@ -253,7 +259,7 @@ differ-law d e a b sd se h =
       tree′ = dump-of e b .tree;
       holds = dump-of d a .holds;
       holds′ = dump-of e b .holds;
-      one = sym (refilled d a sd) ∙ ap (λ (f : Function). fill f []) (alike d e a b [] [] (ap (λ (l : List ℕ). l ++ []) h) .0) ∙ refilled e b se;
+      one = sym (refilled d a sd) ∙ ap (λ (x : Chunk). fill (x .root) []) (alike d e a b [] [] (ap (λ (l : List ℕ). l ++ []) h) .0) ∙ refilled e b se;
     }
 
 none-begins-law : (d e : DumpCall) (more : List ℕ) → Accepted d → Accepted e → bytesOf d ++ more ≡ bytesOf e → bytesOf d ≡ bytesOf e
@@ -278,6 +284,7 @@ pub demand3 : Demand3
 demand3 =
     record {
       session = λ ds behind cs. session-law cs (dumpsOf ds) behind (dumps-accepted ds) (rw dumps-bytes);
+      same-width = same-width-law;
       differ = differ-law;
       none-begins = none-begins-law;
       same-dumps = λ ds es h. same-law (dumpsOf ds) (dumpsOf es) (dumps-accepted ds) (dumps-accepted es) (dumps-bytes ds ∙ h ∙ sym (dumps-bytes es));

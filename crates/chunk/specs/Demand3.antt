@@ -9,10 +9,10 @@ use mathlib.Core.Bool.{Bool, false, cond}
 use lib.ListN.{length, take, drop}
 use lib.Dec.{eqb}
 use Rattle.format.specs.Tree.{Function, rootSource, stripped, fill}
-use Rattle.format.specs.Read.{got}
+use Rattle.format.specs.Read.{got, widthOf}
 use Rattle.format.specs.Valid.{Holds, HoldOne}
 use Rattle.format.specs.Stored.{treeOf}
-use Rattle.format.specs.Undump.{loadChunk, UndumpLeft, undumpRefused, undumped, UndumpLent, Refuses, wordsUsed, textUsed}
+use Rattle.format.specs.Undump.{Chunk, loadChunk, UndumpLeft, undumpRefused, undumped, UndumpLent, Refuses, wordsUsed, textUsed}
 use Rattle.format.specs.Dump.{writeLeft, dumped}
 use Rattle.format.specs.declared.Undumped.{Undumped}
 use Rattle.format.specs.declared.Written.{Written}
@@ -20,17 +20,18 @@ use Rattle.undump.specs.Undump.{undumpLeft}
 
 -- ---- dumps
 
--- a call of dump that has returned: the store as it stood then, the chunk name, strip, the space lent; the answer, and what it left there
+-- a call of dump that has returned: the store as it stood then, the chunk name, strip, the width, the space lent; the answer, and what it left there
 pub record DumpCall : Type 0 where
   pub words : List ℕ
   pub text : List ℕ
   pub name : List ℕ
   pub strip : Bool
+  pub size4 : Bool
   pub out : List ℕ
   pub answer : Written
   pub left : List ℕ
   -- the contract of lua_chunk_dump
-  pub contract : writeLeft answer left ≡ dumped words text name strip out
+  pub contract : writeLeft answer left ≡ dumped words text name strip size4 out
 
 abbrev pub Accepted : DumpCall → Type 0
 Accepted d = d .answer .refusal ≡ 0
@@ -85,20 +86,21 @@ pub record FindsStripped (d : DumpCall) (left : UndumpLeft) (name : List ℕ) : 
   pub holds′ : Holds (d .words) (d .text) tree′
   pub one : fill tree name ≡ fill (stripped tree′ (d .strip)) (d .name)
 
--- a call that is not refused. A root source that is empty is read back as the chunk name, so there the tree is found under the empty name
+-- a call that is not refused gives back the dump's width. A root source that is empty is read back as the chunk name, so there the tree is found under the empty name
 pub record Takes (d : DumpCall) (name : List ℕ) (left : UndumpLeft) : Type 0 where
   pub read : left .answer .read ≡ length (bytesOf d)
+  pub width : left .answer .width ≡ widthOf (d .size4)
   pub finds : d .strip ≡ false → (¬ (dumpedSource d ≡ [])) ⊎ (name ≡ []) → HoldOne (wordsUsed left) (textUsed left) name (d .words) (d .text) (d .name)
   pub finds-stripped : (¬ (dumpedSource d ≡ [])) ⊎ (name ≡ []) → FindsStripped d left name
   pub finds-unnamed : FindsStripped d left []
 
 -- any call: refused by 1, 8 and 9, each under its condition and not otherwise, with nothing written; or it takes the dump
 pub record CallOnDump (d : DumpCall) (bytes : List ℕ) (c : UndumpLent) (left : UndumpLeft) : Type 0 where
-  pub tree : Function
+  pub chunk : Chunk
   pub rest : List ℕ
   pub begins : bytesOf d ++ rest ≡ bytes
-  pub reads : loadChunk bytes ≡ got tree rest
-  pub refused : (n : ℕ) → 0 < n → (left .answer .refusal ≡ n) ↔ Refuses c (got tree rest) n
+  pub reads : loadChunk bytes ≡ got chunk rest
+  pub refused : (n : ℕ) → 0 < n → (left .answer .refusal ≡ n) ↔ Refuses c (got chunk rest) n
   pub untouched : (n : ℕ) → 0 < n → left .answer .refusal ≡ n → left ≡ undumpRefused n (c .words) (c .text)
   pub takes : left .answer .refusal ≡ 0 → Takes d (c .name) left
 
@@ -117,6 +119,8 @@ Session {slice} {place} (Calls.call c cs) (d ∷ ds) = CallOnDump d (drop place 
 pub record Demand3 : Type 0 where
   -- any dump calls, and any undump calls on their dumps with any bytes behind, refused ones included
   pub session : (dumps : List DumpCall) (behind : List ℕ) (calls : Calls (endToEnd dumps ++ behind) 0) → Session calls (dumpsOf dumps)
+  -- no two widths give one dump
+  pub same-width : (d e : DumpCall) → Accepted d → Accepted e → bytesOf d ≡ bytesOf e → d .size4 ≡ e .size4
   -- no two different trees give one dump without strip
   pub differ : (d e : DumpCall) → Accepted d → Accepted e → d .strip ≡ false → e .strip ≡ false → bytesOf d ≡ bytesOf e
       → HoldOne (d .words) (d .text) (d .name) (e .words) (e .text) (e .name)

@@ -34,11 +34,12 @@ pub extern "C" fn lua_chunk_dump<'a>(
     text: &'a [u8],
     name: &'a [u8],
     strip: bool,
+    size_4: bool,
     out: &mut [u8],
 ) -> Written
-    ensures { λ r. ⌜ writeLeft r (now (out .exit)) ≡ dumped (now (words .entry)) (now (text .entry)) (now (name .entry)) strip (now (out .entry)) ⌝ }
+    ensures { λ r. ⌜ writeLeft r (now (out .exit)) ≡ dumped (now (words .entry)) (now (text .entry)) (now (name .entry)) strip «size_4» (now (out .entry)) ⌝ }
 {
-    dump::dump(words, text, name, strip, out)
+    dump::dump(words, text, name, strip, size_4, out)
 }
 
 // Writes the listing of a store to lent memory: list_function.

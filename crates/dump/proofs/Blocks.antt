@@ -1,7 +1,9 @@
 -- The bytes of integers, sizes and strings: stored one by one, and in a loop.
-use Rattle.lent.proofs.Prelude.{ℕ, suc, _+_, _*_, _/_, _%_, _≤_, _<_, _≡_, refl, sym, _∙_, List, [], _∷_, _++_, append-assoc, append-nil, arith, add-one, length, take, getD, set, length-append, sets, take-suc, take-length, length-take-le}
+use Rattle.lent.proofs.Prelude.{ℕ, suc, _+_, _*_, _/_, _%_, _≤_, _<_, _≡_, refl, sym, ap, _∙_, List, [], _∷_, _++_, append-assoc, append-nil, Bool, true, false, arith, add-one, length, take, getD, set, length-append, sets, take-suc, take-length, length-take-le}
 use Rattle.lent.specs.Memory.{Puts}
 use Rattle.lent.proofs.Writes.{sets-append}
+use Rattle.format.specs.Read.{widthOf}
+use Rattle.format.proofs.RoundTrip.{dumped-length}
 use Rattle.format.specs.Write.{dumpNumber, dumpInt, dumpSize, dumpText, dumpList, each}
 
 -- ---- one integer
@@ -18,10 +20,10 @@ int-stored out at n =
     let f : (n / 65536 % 256 ≡ n / 256 / 256 % 256) × (n / 16777216 % 256 ≡ n / 256 / 256 / 256 % 256) = omega arith in
     rw (e .0, e .1, e .2, f .0, f .1)
 
--- a size is two integers, the low one first
-pub size-ints : (n : ℕ) → dumpSize n ≡ dumpInt (n % 4294967296) ++ dumpInt (n / 4294967296)
+-- a number of four bytes and w more: the low four are an integer
+number-int : (w n : ℕ) → dumpNumber (suc (suc (suc (suc w)))) n ≡ dumpInt (n % 4294967296) ++ dumpNumber w (n / 4294967296)
 unfolding dumpNumber
-size-ints n =
+number-int w n =
     let low = n % 4294967296 in
     let e : (n % 256 ≡ low % 256) × (n / 256 % 256 ≡ low / 256 % 256) × (n / 256 / 256 % 256 ≡ low / 256 / 256 % 256) × (n / 256 / 256 / 256 % 256 ≡ low / 256 / 256 / 256 % 256) = omega arith in
     let f : n / 256 / 256 / 256 / 256 ≡ n / 4294967296 = omega arith in
@@ -33,24 +35,32 @@ size-ints n =
 pub stored-then : {l m : List ℕ} (a b out : List ℕ) (at k : ℕ) → length a ≡ k → l ≡ sets out at a → m ≡ sets l (at + k) b → m ≡ sets out at (a ++ b)
 stored-then a b out at k n e f = f ∙ rw (e, ← n) (sets-append a out b at)
 
-pub size-length : (n : ℕ) → length (dumpSize n) ≡ 8
-unfolding dumpNumber
-size-length n = refl
+-- a size is an integer, or two
+module _ {out₁ : List ℕ} (size4 : Bool) (out : List ℕ) (at n : ℕ) (e : out₁ ≡ sets out at (dumpInt (n % 4294967296))) where
+  pub size-short : size4 ≡ true → out₁ ≡ sets out at (dumpSize size4 n)
+  unfolding dumpNumber
+  size-short h = e ∙ rw h (ap (λ (l : List ℕ). sets out at l) (sym (number-int 0 n)))
 
-pub size-stored : {out₁ out₂ : List ℕ} (out : List ℕ) (at n : ℕ) → out₁ ≡ sets out at (dumpInt (n % 4294967296)) → out₂ ≡ sets out₁ (at + 4) (dumpInt (n / 4294967296)) → out₂ ≡ sets out at (dumpSize n)
-size-stored out at n e f = rw (size-ints n) (stored-then (dumpInt (n % 4294967296)) (dumpInt (n / 4294967296)) out at 4 (int-length (n % 4294967296)) e f)
+  pub size-long : {out₂ : List ℕ} → size4 ≡ false → out₂ ≡ sets out₁ (at + 4) (dumpInt (n / 4294967296)) → out₂ ≡ sets out at (dumpSize size4 n)
+  size-long h f = rw (h, number-int 4 n) (stored-then (dumpInt (n % 4294967296)) (dumpInt (n / 4294967296)) out at 4 (int-length (n % 4294967296)) e f)
 
-pub string-length : (s : List ℕ) → length (dumpText s) ≡ length s + 9
-unfolding dumpNumber
-string-length s = simp length-append (omega arith)
+pub width-within : (size4 : Bool) → (4 ≤ widthOf size4) × (widthOf size4 ≤ 8)
+width-within true = omega arith
+width-within false = omega arith
 
-pub string-stored : {out₁ out₂ : List ℕ} (out s : List ℕ) (at : ℕ) → out₁ ≡ sets out at (dumpSize (length s + 1)) → out₂ ≡ sets out₁ (at + 8) (take (length s) s)
-    → set out₂ (at + 8 + length s) 0 ≡ sets out at (dumpText s)
-unfolding dumpNumber
-string-stored out s at e g =
-    let size = dumpSize (length s + 1) in
-    let i : at + 8 + length s ≡ at + (8 + length s) = omega arith in
-    stored-then (size ++ s) (0 ∷ []) out at (8 + length s) (omega arith) (stored-then size s out at 8 refl e (g ∙ rw (take-length s))) (rw i)
+pub size-length : (size4 : Bool) (n : ℕ) → length (dumpSize size4 n) ≡ widthOf size4
+size-length size4 n = dumped-length (widthOf size4) n
+
+pub string-length : (size4 : Bool) (s : List ℕ) → length (dumpText size4 s) ≡ widthOf size4 + length s + 1
+string-length size4 s = simp length-append (omega (arith, size-length size4 (length s + 1)))
+
+pub string-stored : {out₁ out₂ : List ℕ} {start : ℕ} (size4 : Bool) (out s : List ℕ) (at : ℕ) → start ≡ at + widthOf size4 → out₁ ≡ sets out at (dumpSize size4 (length s + 1)) → out₂ ≡ sets out₁ start (take (length s) s)
+    → set out₂ (start + length s) 0 ≡ sets out at (dumpText size4 s)
+string-stored {start = start} size4 out s at h e g =
+    let size = dumpSize size4 (length s + 1) in
+    let n : length size ≡ widthOf size4 = size-length size4 (length s + 1) in
+    let i : start + length s ≡ at + (widthOf size4 + length s) = omega arith in
+    stored-then (size ++ s) (0 ∷ []) out at (widthOf size4 + length s) (length-append size s ∙ rw n) (stored-then size s out at (widthOf size4) n e (g ∙ rw (h, take-length s))) (rw i)
 
 -- what is stored within the space is written
 pub puts-in : {b out out′ : List ℕ} {at r k : ℕ} → length b ≡ k → at + k ≤ length out → r ≡ at + k → out′ ≡ sets out at b → Puts b at out r out′

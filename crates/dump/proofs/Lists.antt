@@ -5,6 +5,7 @@ use mir.Val
 use Rattle.lent.specs.Memory.{Every, far, Puts}
 use Rattle.lent.proofs.Writes.{put-lost}
 use Rattle.format.specs.Store.{Piece, word, pieces, list, string, constantPiece, localPiece}
+use Rattle.format.specs.Read.{widthOf}
 use Rattle.format.specs.Write.{dumpInt, dumpList, each, dumpNumber, dumpText, dumpConstant, dumpLocal, dumpDebug}
 use Rattle.format.proofs.Loops.{Loop, loop-start, loop-turn, loop-end}
 use Rattle.format.specs.Tree.{Constant as Value}
@@ -123,9 +124,9 @@ module _ {A : Type 0} {words text : List ℕ} {piece : A → Piece} {bytes : A �
 pub puts-counted : {b : List ℕ} {at r : ℕ} → r ≡ min (at + length b) far → Puts b at [] r []
 puts-counted e = put-lost e zero-le refl
 
-pub no-debug-counted : {at r : ℕ} → r ≡ min (at + 12) far → Puts (dumpDebug noDebug) at [] r []
+pub no-debug-counted : {at r : ℕ} → r ≡ min (at + 12) far → (size4 : Bool) → Puts (dumpDebug size4 noDebug) at [] r []
 unfolding each dumpNumber
-no-debug-counted e = puts-counted e
+no-debug-counted e size4 = puts-counted e
 
 module _ {words : List ℕ} {s r : DumpState} where
   -- past a piece that has as many words and bytes
@@ -153,33 +154,33 @@ abbrev ItemStep : {A : Type 0} (piece : A → Piece) (bytes : A → List ℕ) (k
 ItemStep piece bytes k words s r = (r .at ≡ s .at + k) × ((a : _) (t : List ℕ) → Dumps words t (piece a) (bytes a) (reached s []) (reached r []))
 
 -- the bytes m of a constant, by its first word x and its third y
-abbrev Sizes : (x y m : ℕ) → Type 0
-Sizes x y m = (x ≡ 0 → m ≡ 1) × (x ≡ 1 → m ≡ 2) × (x ≡ 3 → m ≡ 9) × ((x ≡ 0 → ⊥) → (x ≡ 1 → ⊥) → (x ≡ 3 → ⊥) → m ≡ y + 10)
+abbrev Sizes : (size4 : Bool) (x y m : ℕ) → Type 0
+Sizes size4 x y m = (x ≡ 0 → m ≡ 1) × (x ≡ 1 → m ≡ 2) × (x ≡ 3 → m ≡ 9) × ((x ≡ 0 → ⊥) → (x ≡ 1 → ⊥) → (x ≡ 3 → ⊥) → m ≡ y + widthOf size4 + 2)
 
-sizes : {words t : List ℕ} {at to : ℕ} (k : Value) → Stands words t at to (constantPiece k) → Sizes (getD words at 0) (getD words (at + 2) 0) (length (dumpConstant k))
+sizes : (size4 : Bool) {words t : List ℕ} {at to : ℕ} (k : Value) → Stands words t at to (constantPiece k) → Sizes size4 (getD words at 0) (getD words (at + 2) 0) (length (dumpConstant size4 k))
 unfolding dumpNumber
-sizes Value.nil h = omega (arith, here-get 0 _ (h .in-words))
-sizes (Value.bool b) h = omega (arith, here-get 1 _ (h .in-words))
-sizes (Value.num high low) h = omega (arith, here-get 3 _ (h .in-words))
-sizes {to = to} (Value.str s) h = omega (arith, here-get 4 _ (h .in-words), here-item (4 ∷ (to + 0) ∷ length s ∷ []) 2 (omega arith) (h .in-words), string-length s)
+sizes size4 Value.nil h = omega (arith, here-get 0 _ (h .in-words))
+sizes size4 (Value.bool b) h = omega (arith, here-get 1 _ (h .in-words))
+sizes size4 (Value.num high low) h = omega (arith, here-get 3 _ (h .in-words))
+sizes size4 {to = to} (Value.str s) h = omega (arith, here-get 4 _ (h .in-words), here-item (4 ∷ (to + 0) ∷ length s ∷ []) 2 (omega arith) (h .in-words), string-length size4 s)
 
 module _ {words : List ℕ} {s r : DumpState} where
   item-counted : {A : Type 0} {k n : ℕ} {piece : A → Piece} {bytes : A → List ℕ} → AheadExactly k n s r
       → ((a : A) (t : List ℕ) (to : ℕ) → Stands words t (s .at) to (piece a) → (length (piece a .words to) ≡ k) × (length (bytes a) ≡ n)) → ItemStep piece bytes k words s r
   item-counted e f = (e .0, λ a t. ahead-counted (record { at = rw (e .0) skips-on; len = e .1 }) (f a t))
 
-  pub name-counted : AheadExactly 2 (getD words (s .at + 1) 0 + 9) s r → ItemStep string dumpText 2 words s r
-  name-counted e = item-counted e (λ n t to h. (refl, omega (arith, string-length n, here-item (to ∷ length n ∷ []) 1 (omega arith) (h .in-words))))
+  pub name-counted : (size4 : Bool) {w : ℕ} → w ≡ widthOf size4 → AheadExactly 2 (getD words (s .at + 1) 0 + w + 1) s r → ItemStep string (dumpText size4) 2 words s r
+  name-counted size4 q e = item-counted e (λ n t to h. (refl, omega (arith, string-length size4 n, here-item (to ∷ length n ∷ []) 1 (omega arith) (h .in-words))))
 
-  pub local-counted : AheadExactly 4 (getD words (s .at + 1) 0 + 17) s r → ItemStep localPiece dumpLocal 4 words s r
-  local-counted e =
+  pub local-counted : (size4 : Bool) {w : ℕ} → w ≡ widthOf size4 → AheadExactly 4 (getD words (s .at + 1) 0 + w + 9) s r → ItemStep localPiece (dumpLocal size4) 4 words s r
+  local-counted size4 q e =
       item-counted e
       (λ v t to h.
       let g : getD words (s .at + 1) 0 ≡ length (v .name) = here-item (to ∷ length (v .name) ∷ v .start ∷ v .end ∷ []) 1 (omega arith) (h .in-words) in
-      (refl, simp length-append (omega (arith, simp length-append at (string-length (v .name)), int-length (v .start), int-length (v .end)))))
+      (refl, simp length-append (omega (arith, simp length-append at (string-length size4 (v .name)), int-length (v .start), int-length (v .end)))))
 
-  pub constant-counted : {n : ℕ} → AheadExactly 3 n s r → ((m : ℕ) → Sizes (getD words (s .at) 0) (getD words (s .at + 2) 0) m → m ≡ n) → ItemStep constantPiece dumpConstant 3 words s r
-  constant-counted e f = item-counted e (λ k t to h. (constant-words k to, f (length (dumpConstant k)) (sizes k h)))
+  pub constant-counted : (size4 : Bool) {n : ℕ} → AheadExactly 3 n s r → ((m : ℕ) → Sizes size4 (getD words (s .at) 0) (getD words (s .at + 2) 0) m → m ≡ n) → ItemStep constantPiece (dumpConstant size4) 3 words s r
+  constant-counted size4 e f = item-counted e (λ k t to h. (constant-words k to, f (length (dumpConstant size4 k)) (sizes size4 k h)))
 
 -- ---- lists of them
 
@@ -203,9 +204,9 @@ module _ {A : Type 0} {words : List ℕ} {piece : A → Piece} {bytes : A → Li
   counting-end h e a c l t = looped h e (word-counted a) (c .loop t) l (every-all (λ a. tt) l)
 
 -- where there is no room for as many items, no list stands
-pub counting-none : {A : Type 0} (piece : A → Piece) (bytes : A → List ℕ) (k : ℕ) → ((a : A) (to : ℕ) → length (piece a .words to) ≡ k) → {words : List ℕ} {n : ℕ} {s p : DumpState} {b : Bool} → n ≡ getD words (s .at) 0 → Ahead words 1 4 s p
+pub counting-none : {A : Type 0} (piece : A → Piece) (k : ℕ) → ((a : A) (to : ℕ) → length (piece a .words to) ≡ k) → (bytes : A → List ℕ) {words : List ℕ} {n : ℕ} {s p : DumpState} {b : Bool} → n ≡ getD words (s .at) 0 → Ahead words 1 4 s p
     → Room b (length words) (p .at) (k * n) → not b ≡ true → (l : List A) (t : List ℕ) → Dumps words t (list piece l) (dumpList bytes l) (reached s []) (reached p [])
-counting-none piece bytes k e {words} {n} {s} {p} g a f h l t =
+counting-none piece k e bytes {words} {n} {s} {p} g a f h l t =
     record {
       dumps = λ to x.
           let w = x .in-words in

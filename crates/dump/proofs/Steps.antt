@@ -7,6 +7,7 @@ use Rattle.format.specs.Tree.{Constant as Value}
 use Rattle.format.specs.Tree.{Local, Debug, Parts, noDebug, kept}
 use Rattle.format.specs.Store.{Piece, plain, word, _⊕_, string, pieces, list, ints, constantPiece, localPiece, debugPiece, packed}
 use Rattle.format.specs.Valid.{ValidParts}
+use Rattle.format.specs.Read.{widthOf}
 use Rattle.format.specs.Write.{dumpNumber, dumpInt, dumpText, dumpList, dumpCode, dumpConstant, dumpLocal, dumpDebug, each}
 use Rattle.format.specs.Constants.{valueOf}
 use Rattle.format.specs.Stored.{part}
@@ -145,8 +146,8 @@ WordRoom words s = (s .at < length words) × (s .len + 4 ≤ length (s .out))
 abbrev pub CodeRoom : (words : List ℕ) (s : Reached) → Type 0
 CodeRoom words s = (s .at + (1 + getD words (s .at) 0) ≤ length words) × (s .len + (4 + 4 * getD words (s .at) 0) ≤ length (s .out))
 
-abbrev pub NameRoom : (words : List ℕ) (s : Reached) → Type 0
-NameRoom words s = (s .at + 2 ≤ length words) × (s .len + (getD words (s .at + 1) 0 + 9) ≤ length (s .out))
+abbrev pub NameRoom : (size4 : Bool) (words : List ℕ) (s : Reached) → Type 0
+NameRoom size4 words s = (s .at + 2 ≤ length words) × (s .len + (widthOf size4 + getD words (s .at + 1) 0 + 1) ≤ length (s .out))
 
 -- so that a state is found by its parts
 abbrev pub reachedAt : (at len : ℕ) (out : List ℕ) → Reached
@@ -162,24 +163,24 @@ module _ {words text : List ℕ} {s : Reached} where
       let n : getD words (s .at) 0 ≡ length l = here-get (length l) l (f .stands .in-words) in
       (omega (arith, here-length (length l ∷ l) (f .stands .in-words)), omega (arith, f .room, code-length l))
 
-  pub name-fits : (n : List ℕ) → Fits words text (string n) (dumpText n) s → NameRoom words s
-  name-fits n f =
+  pub name-fits : (size4 : Bool) (n : List ℕ) → Fits words text (string n) (dumpText size4 n) s → NameRoom size4 words s
+  name-fits size4 n f =
       let e : getD words (s .at + 1) 0 ≡ length n = here-item (f .to ∷ length n ∷ []) 1 (omega arith) (f .stands .in-words) in
-      (omega (arith, here-length (f .to ∷ length n ∷ []) (f .stands .in-words)), omega (arith, f .room, string-length n))
+      (omega (arith, here-length (f .to ∷ length n ∷ []) (f .stands .in-words)), omega (arith, f .room, string-length size4 n))
 
   -- a piece of three words
   pub three-within : {b : List ℕ} (p : Piece) → ((to : ℕ) → length (p .words to) ≡ 3) → Fits words text p b s → s .at + 3 ≤ length words
   three-within p e f = omega (arith, here-length (p .words (f .to)) (f .stands .in-words), e (f .to))
 
-module _ {words text out : List ℕ} {at len : ℕ} where
-  pub name-ready : Ready words text Any string dumpText (reachedAt at len out) → NameRoom words (reachedAt at len out)
-  name-ready r = name-fits (r .value) (r .fits)
+module _ (size4 : Bool) {words text out : List ℕ} {at len : ℕ} where
+  pub name-ready : Ready words text Any string (dumpText size4) (reachedAt at len out) → NameRoom size4 words (reachedAt at len out)
+  name-ready r = name-fits size4 (r .value) (r .fits)
 
-  module _ (r : Ready words text Any constantPiece dumpConstant (reachedAt at len out)) where
+  module _ (r : Ready words text Any constantPiece (dumpConstant size4) (reachedAt at len out)) where
     pub constant-within : at + 3 ≤ length words
     constant-within = three-within (constantPiece (r .value)) (constant-words (r .value)) (r .fits)
 
-    pub constant-room : {c : Constant} → ConstantAt words at c → len + length (dumpConstant (valueOf text c)) ≤ length out
+    pub constant-room : {c : Constant} → ConstantAt words at c → len + length (dumpConstant size4 (valueOf text c)) ≤ length out
     constant-room f = rw (f .value (r .value) text (r .fits .to) (r .fits .stands)) (r .fits .room)
 
 -- ---- a word, the packed word, the code, a name, a constant
@@ -196,8 +197,8 @@ four-bytes a b c d ha hb hc hd =
     rw (e .0, e .1, e .2, e .3)
 
 -- a string of the text is no longer than the word behind its place says
-pub name-room : {name : List ℕ} (words text out : List ℕ) (s : DumpState) → NameRoom words (reached s out) → name ≡ part text (getD words (s .at) 0) (getD words (s .at + 1) 0) → s .len + (length name + 9) ≤ length out
-name-room {name} words text out s h e =
+pub name-room : (size4 : Bool) {name : List ℕ} (words text out : List ℕ) (s : DumpState) → NameRoom size4 words (reached s out) → name ≡ part text (getD words (s .at) 0) (getD words (s .at + 1) 0) → s .len + (widthOf size4 + length name + 1) ≤ length out
+name-room size4 {name} words text out s h e =
     let k : length name ≤ getD words (s .at + 1) 0 = rw (e, length-take (getD words (s .at + 1) 0) (drop (getD words (s .at) 0) text)) (omega arith) in
     omega (arith, h .1)
 
@@ -228,42 +229,42 @@ module _ {words out out′ : List ℕ} {s : DumpState} where
             (omega (arith, k), puts-in (code-length l) (omega (arith, h .1)) (omega arith) (stored-then (dumpInt (length l)) (each dumpInt l) out (s .len) 4 (int-length (length l)) (rw k at e) (rw i at q)));
       }
 
-  pub name-dumped : {name text : List ℕ} → NameRoom words (reached s out) → name ≡ part text (getD words (s .at) 0) (getD words (s .at + 1) 0) → out′ ≡ sets out (s .len) (dumpText name)
-      → Step string dumpText words text (reached s out) (record { at = s .at + 2; len = s .len + length name + 9; out = out′ })
-  name-dumped {name} {text} h f e n =
+  pub name-dumped : (size4 : Bool) {name text : List ℕ} {n : ℕ} → n ≡ s .len + (widthOf size4 + length name + 1) → NameRoom size4 words (reached s out) → name ≡ part text (getD words (s .at) 0) (getD words (s .at + 1) 0) → out′ ≡ sets out (s .len) (dumpText size4 name)
+      → Step string (dumpText size4) words text (reached s out) (record { at = s .at + 2; len = n; out = out′ })
+  name-dumped size4 {name} {text} k h f e n =
       dumps-past (past-words 2 (string n) (λ to. refl) skips-on)
       (λ to x.
       let g : name ≡ n = string-here n x refl skips-on refl f in
-      puts-in (string-length n) (omega (arith, name-room words text out s h f, ap length g)) (omega (arith, ap length g)) (rw g at e))
+      puts-in (string-length size4 n) (omega (arith, name-room size4 words text out s h f, ap length g)) (omega (arith, ap length g)) (rw g at e))
 
-  pub constant-dumped : {text : List ℕ} {c : Constant} {n : ℕ} → ConstantAt words (s .at) c → Puts (dumpConstant (valueOf text c)) (s .len) out n out′
-      → Step constantPiece dumpConstant words text (reached s out) (record { at = s .at + 3; len = n; out = out′ })
-  constant-dumped {text} f p k = dumps-past (past-words 3 (constantPiece k) (constant-words k) skips-on) (λ to x. rw (f .value k text to x) at p)
+  pub constant-dumped : (size4 : Bool) {text : List ℕ} {c : Constant} {n : ℕ} → ConstantAt words (s .at) c → Puts (dumpConstant size4 (valueOf text c)) (s .len) out n out′
+      → Step constantPiece (dumpConstant size4) words text (reached s out) (record { at = s .at + 3; len = n; out = out′ })
+  constant-dumped size4 {text} f p k = dumps-past (past-words 3 (constantPiece k) (constant-words k) skips-on) (λ to x. rw (f .value k text to x) at p)
 
 -- ---- the bytes of a constant
 
 -- none has none
-tagged : (k : Value) → 1 ≤ length (dumpConstant k)
-tagged Value.nil = omega arith
-tagged (Value.bool b) = omega arith
-tagged (Value.num high low) = omega arith
-tagged (Value.str s) = omega arith
+tagged : (size4 : Bool) (k : Value) → 1 ≤ length (dumpConstant size4 k)
+tagged size4 Value.nil = omega arith
+tagged size4 (Value.bool b) = omega arith
+tagged size4 (Value.num high low) = omega arith
+tagged size4 (Value.str s) = omega arith
 
-module _ (text out : List ℕ) (k : Constant) (at : ℕ) (h : at + length (dumpConstant (valueOf text k)) ≤ length out) where
+module _ (size4 : Bool) (text out : List ℕ) (k : Constant) (at : ℕ) (h : at + length (dumpConstant size4 (valueOf text k)) ≤ length out) where
   pub tag-fits : at < length out
-  tag-fits = omega (arith, tagged (valueOf text k))
+  tag-fits = omega (arith, tagged size4 (valueOf text k))
 
-  pub nil-puts : k ≡ Nil → Puts (dumpConstant (valueOf text k)) at out (at + 1) (set out at 0)
+  pub nil-puts : k ≡ Nil → Puts (dumpConstant size4 (valueOf text k)) at out (at + 1) (set out at 0)
   nil-puts e = rw e (puts-in refl (rw e at h) refl refl)
 
   module _ {b : Bool} (e : k ≡ Truth b) where
     pub bool-fits : (v : ℕ) → at + 1 < length (set out at v)
     bool-fits v = let i : at + 2 ≤ length out = rw e at h in rw length-set (omega arith)
 
-    pub bool-puts : Puts (dumpConstant (valueOf text k)) at out (at + 2) (set (set out at 1) (at + 1) (boolByte b))
+    pub bool-puts : Puts (dumpConstant size4 (valueOf text k)) at out (at + 2) (set (set out at 1) (at + 1) (boolByte b))
     bool-puts = rw e (puts-in refl (rw e at h) refl (truth b))
       where
-        truth : (b : Bool) → set (set out at 1) (at + 1) (boolByte b) ≡ sets out at (dumpConstant (Value.bool b))
+        truth : (b : Bool) → set (set out at 1) (at + 1) (boolByte b) ≡ sets out at (dumpConstant size4 (Value.bool b))
         truth true = sets-two out at 1 1
         truth false = sets-two out at 1 0
 
@@ -278,84 +279,84 @@ module _ (text out : List ℕ) (k : Constant) (at : ℕ) (h : at + length (dumpC
     pub high-fits : (out₁ : List ℕ) (v : ℕ) → length out₁ ≡ length (set out at v) → at + 5 + 4 ≤ length out₁
     high-fits out₁ v i = rw (i, length-set) (omega (arith, num-room))
 
-    pub num-puts : {out₁ out₂ : List ℕ} → out₁ ≡ sets (set out at 3) (at + 1) (dumpInt low) → out₂ ≡ sets out₁ (at + 5) (dumpInt high) → Puts (dumpConstant (valueOf text k)) at out (at + 9) out₂
+    pub num-puts : {out₁ out₂ : List ℕ} → out₁ ≡ sets (set out at 3) (at + 1) (dumpInt low) → out₂ ≡ sets out₁ (at + 5) (dumpInt high) → Puts (dumpConstant size4 (valueOf text k)) at out (at + 9) out₂
     unfolding dumpNumber
     num-puts f g = rw e (puts-in refl num-room refl (stored-then (3 ∷ dumpInt low) (dumpInt high) out at 5 refl (stored-then (3 ∷ []) (dumpInt low) out at 1 refl refl f) g))
 
   module _ {place n : ℕ} {s : List ℕ} (e : k ≡ String place n) (f : s ≡ part text place n) where
-    pub str-room : at + (length s + 10) ≤ length out
-    str-room = let i : at + length (dumpConstant (Value.str s)) ≤ length out = rw (e, ← f) at h in omega (arith, i, string-length s)
+    str-room : at + (widthOf size4 + length s + 2) ≤ length out
+    str-room = let i : at + length (dumpConstant size4 (Value.str s)) ≤ length out = rw (e, ← f) at h in omega (arith, i, string-length size4 s)
 
-    pub str-fits : (v : ℕ) → at + 1 + (length s + 9) ≤ length (set out at v)
+    pub str-fits : (v : ℕ) → at + 1 + (widthOf size4 + length s + 1) ≤ length (set out at v)
     str-fits v = rw length-set (omega (arith, str-room))
 
-    pub str-puts : {out₁ : List ℕ} → out₁ ≡ sets (set out at 4) (at + 1) (dumpText s) → Puts (dumpConstant (valueOf text k)) at out (at + length s + 10) out₁
-    str-puts g = rw (e, ← f) (puts-in (ap suc (string-length s)) (omega (arith, str-room)) (omega arith) (stored-then (4 ∷ []) (dumpText s) out at 1 refl refl g))
+    pub str-puts : {out₁ : List ℕ} {r : ℕ} → r ≡ at + 1 + (widthOf size4 + length s + 1) → out₁ ≡ sets (set out at 4) (at + 1) (dumpText size4 s) → Puts (dumpConstant size4 (valueOf text k)) at out r out₁
+    str-puts q g = rw (e, ← f) (puts-in (ap suc (string-length size4 s)) (omega (arith, str-room)) (omega arith) (stored-then (4 ∷ []) (dumpText size4 s) out at 1 refl refl g))
 
 -- ---- a local: its name, start and end
 
-abbrev localSegments : Local → List Segment
-localSegments v = segment (string (v .name)) (dumpText (v .name)) ∷ segment (word (v .start)) (dumpInt (v .start)) ∷ segment (word (v .end)) (dumpInt (v .end)) ∷ []
+abbrev localSegments : Bool → Local → List Segment
+localSegments size4 v = segment (string (v .name)) (dumpText size4 (v .name)) ∷ segment (word (v .start)) (dumpInt (v .start)) ∷ segment (word (v .end)) (dumpInt (v .end)) ∷ []
 
-pub local-made : (v : Local) → Made (localPiece v) (dumpLocal v) (localSegments v)
-local-made v = made-three (string (v .name)) (word (v .start)) (word (v .end)) (dumpText (v .name)) (dumpInt (v .start)) (dumpInt (v .end))
+pub local-made : (size4 : Bool) (v : Local) → Made (localPiece v) (dumpLocal size4 v) (localSegments size4 v)
+local-made size4 v = made-three (string (v .name)) (word (v .start)) (word (v .end)) (dumpText size4 (v .name)) (dumpInt (v .start)) (dumpInt (v .end))
 
-pub local-dumped : {words text : List ℕ} {s a b r : Reached} → Step string dumpText words text s a → WordStep words a b → WordStep words b r → Step localPiece dumpLocal words text s r
-local-dumped {text = text} d e f v = dumps-made (local-made v) (each-next (d (v .name)) (each-next (e (v .start) text) (each-next (f (v .end) text) each-none)))
+pub local-dumped : (size4 : Bool) {words text : List ℕ} {s a b r : Reached} → Step string (dumpText size4) words text s a → WordStep words a b → WordStep words b r → Step localPiece (dumpLocal size4) words text s r
+local-dumped size4 {text = text} d e f v = dumps-made (local-made size4 v) (each-next (d (v .name)) (each-next (e (v .start) text) (each-next (f (v .end) text) each-none)))
 
-module _ {words text : List ℕ} {s : Reached} (r : Ready words text Any localPiece dumpLocal s) where
-  local-left : Left words text (localSegments (r .value)) s
-  local-left = left-made (local-made (r .value)) (r .fits)
+module _ (size4 : Bool) {words text : List ℕ} {s : Reached} (r : Ready words text Any localPiece (dumpLocal size4) s) where
+  local-left : Left words text (localSegments size4 (r .value)) s
+  local-left = left-made (local-made size4 (r .value)) (r .fits)
 
-  pub local-name : NameRoom words s
-  local-name = name-fits (r .value .name) (left-first local-left)
+  pub local-name : NameRoom size4 words s
+  local-name = name-fits size4 (r .value .name) (left-first local-left)
 
   module _ {at len : ℕ} {out : List ℕ} where
-    pub local-start : Step string dumpText words text s (reachedAt at len out) → WordRoom words (reachedAt at len out)
+    pub local-start : Step string (dumpText size4) words text s (reachedAt at len out) → WordRoom words (reachedAt at len out)
     local-start d = let v = r .value in word-fits (v .start) (int-length (v .start)) (left-first (left-rest local-left (d (v .name))))
 
-    pub local-end : {a : Reached} → Step string dumpText words text s a → WordStep words a (reachedAt at len out) → WordRoom words (reachedAt at len out)
+    pub local-end : {a : Reached} → Step string (dumpText size4) words text s a → WordStep words a (reachedAt at len out) → WordRoom words (reachedAt at len out)
     local-end d e = let v = r .value in word-fits (v .end) (int-length (v .end)) (left-first (left-rest (left-rest local-left (d (v .name))) (e (v .start) text)))
 
 -- ---- the debug lists
 
-abbrev debugSegments : Debug → List Segment
-debugSegments d = segment (ints (d .lines)) (dumpCode (d .lines)) ∷ segment (list localPiece (d .locals)) (dumpList dumpLocal (d .locals)) ∷ segment (list string (d .upvalues)) (dumpList dumpText (d .upvalues)) ∷ []
+abbrev debugSegments : Bool → Debug → List Segment
+debugSegments size4 d = segment (ints (d .lines)) (dumpCode (d .lines)) ∷ segment (list localPiece (d .locals)) (dumpList (dumpLocal size4) (d .locals)) ∷ segment (list string (d .upvalues)) (dumpList (dumpText size4) (d .upvalues)) ∷ []
 
-pub debug-made : (d : Debug) → Made (debugPiece d) (dumpDebug d) (debugSegments d)
-debug-made d = made-three (ints (d .lines)) (list localPiece (d .locals)) (list string (d .upvalues)) (dumpCode (d .lines)) (dumpList dumpLocal (d .locals)) (dumpList dumpText (d .upvalues))
+pub debug-made : (size4 : Bool) (d : Debug) → Made (debugPiece d) (dumpDebug size4 d) (debugSegments size4 d)
+debug-made size4 d = made-three (ints (d .lines)) (list localPiece (d .locals)) (list string (d .upvalues)) (dumpCode (d .lines)) (dumpList (dumpLocal size4) (d .locals)) (dumpList (dumpText size4) (d .upvalues))
 
 -- none of them is three counts of 0
 pub no-debug : {at : ℕ} {out out₁ out₂ out′ : List ℕ} → at + 12 ≤ length out → out₁ ≡ sets out at (dumpInt 0) → out₂ ≡ sets out₁ (at + 4) (dumpInt 0) → out′ ≡ sets out₂ (at + 8) (dumpInt 0)
-    → Puts (dumpDebug noDebug) at out (at + 12) out′
+    → (size4 : Bool) → Puts (dumpDebug size4 noDebug) at out (at + 12) out′
 unfolding each dumpNumber
-no-debug {at} {out} h e f g =
+no-debug {at} {out} h e f g size4 =
     let q = stored-then (dumpInt 0 ++ dumpInt 0) (dumpInt 0) out at 8 refl (stored-then (dumpInt 0) (dumpInt 0) out at 4 refl e f) g in
     puts-in refl h refl q
 
-pub debug-stripped : {words text : List ℕ} {s r : Reached} {strip : Bool} → strip ≡ true → ((d : Debug) → Past words (debugPiece d) (s .at) (r .at)) → Puts (dumpDebug noDebug) (s .len) (s .out) (r .len) (r .out)
-    → Step debugPiece (λ d. dumpDebug (kept strip d)) words text s r
-debug-stripped e w p d = rw e (dumps-past (w d) (λ to h. p))
+pub debug-stripped : (size4 : Bool) {words text : List ℕ} {s r : Reached} {strip : Bool} → strip ≡ true → ((d : Debug) → Past words (debugPiece d) (s .at) (r .at)) → ((size4 : Bool) → Puts (dumpDebug size4 noDebug) (s .len) (s .out) (r .len) (r .out))
+    → Step debugPiece (λ d. dumpDebug size4 (kept strip d)) words text s r
+debug-stripped size4 e w p d = rw e (dumps-past (w d) (λ to h. p size4))
 
-pub debug-dumped : {words text : List ℕ} {strip : Bool} {s a b r : Reached} → strip ≡ false → CodeStep words s a → Step (list localPiece) (dumpList dumpLocal) words text a b → Step (list string) (dumpList dumpText) words text b r
-    → Step debugPiece (λ d. dumpDebug (kept strip d)) words text s r
-debug-dumped {text = text} e f g h d = rw e (dumps-made (debug-made d) (each-next (f (d .lines) text) (each-next (g (d .locals)) (each-next (h (d .upvalues)) each-none))))
+pub debug-dumped : (size4 : Bool) {words text : List ℕ} {strip : Bool} {s a b r : Reached} → strip ≡ false → CodeStep words s a → Step (list localPiece) (dumpList (dumpLocal size4)) words text a b → Step (list string) (dumpList (dumpText size4)) words text b r
+    → Step debugPiece (λ d. dumpDebug size4 (kept strip d)) words text s r
+debug-dumped size4 {text = text} e f g h d = rw e (dumps-made (debug-made size4 d) (each-next (f (d .lines) text) (each-next (g (d .locals)) (each-next (h (d .upvalues)) each-none))))
 
-module _ {words text : List ℕ} {s : Reached} {strip : Bool} (r : Ready words text Any debugPiece (λ d. dumpDebug (kept strip d)) s) where
+module _ (size4 : Bool) {words text : List ℕ} {s : Reached} {strip : Bool} (r : Ready words text Any debugPiece (λ d. dumpDebug size4 (kept strip d)) s) where
   pub no-debug-fits : strip ≡ true → s .len + 12 ≤ length (s .out)
   unfolding each dumpNumber
   no-debug-fits e = rw e at (r .fits .room)
 
   module _ (e : strip ≡ false) where
-    debug-left : Left words text (debugSegments (r .value)) s
-    debug-left = left-made (debug-made (r .value)) (rw e at (r .fits))
+    debug-left : Left words text (debugSegments size4 (r .value)) s
+    debug-left = left-made (debug-made size4 (r .value)) (rw e at (r .fits))
 
     pub lines-ready : CodeRoom words s
     lines-ready = code-fits (r .value .lines) (left-first debug-left)
 
     module _ {a : Reached} (f : CodeStep words s a) where
-      pub locals-ready : Ready words text Any (list localPiece) (dumpList dumpLocal) a
+      pub locals-ready : Ready words text Any (list localPiece) (dumpList (dumpLocal size4)) a
       locals-ready = record { value = r .value .locals; valid = tt; fits = left-first (left-rest debug-left (f (r .value .lines) text)) }
 
-      pub names-ready : {b : Reached} → Step (list localPiece) (dumpList dumpLocal) words text a b → Ready words text Any (list string) (dumpList dumpText) b
+      pub names-ready : {b : Reached} → Step (list localPiece) (dumpList (dumpLocal size4)) words text a b → Ready words text Any (list string) (dumpList (dumpText size4)) b
       names-ready g = let d = r .value in record { value = d .upvalues; valid = tt; fits = left-first (left-rest (left-rest debug-left (f (d .lines) text)) (g (d .locals))) }

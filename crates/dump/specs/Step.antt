@@ -55,9 +55,9 @@ pub record SourceFits (words outer source bytes : List ℕ) (s : Reached) : Type
   pub fits : Fits words text (sourcePiece value) bytes s
 
 -- there is room for the chunk of the tree that the store holds
-pub record ChunkFits (words text name : List ℕ) (strip : Bool) (out : List ℕ) : Type 0 where
+pub record ChunkFits (words text name : List ℕ) (strip size4 : Bool) (out : List ℕ) : Type 0 where
   pub held : isHeld (treeOf words text) ≡ true
-  pub room : (f : Function) → Holds words text f → length (dumpChunk strip name f) ≤ length out
+  pub room : (f : Function) → Holds words text f → length (dumpChunk strip size4 name f) ≤ length out
   pub small : length out ≤ far
 
 -- nothing is asked of a value

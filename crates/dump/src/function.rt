@@ -2,6 +2,7 @@
 use crate::block::dump_size;
 use crate::block::dump_string;
 use crate::list::DumpState;
+use crate::list::Options;
 use crate::list::dump_code;
 use crate::list::dump_debug;
 use crate::list::dump_packed;
@@ -38,16 +39,14 @@ pub fn is_elided(words: &[u32], at: usize, outer: &[u8], source: &[u8], root: bo
 }
 
 // A source, none where it is elided. Answers the place behind it.
-fn put_source(out: &mut [u8], at: usize, source: &[u8], elide: bool) -> usize
-    requires { ⌜ at + length (dumpString (cond elide Source.inherited (Source.own (now source)))) ≤ length (now out) ⌝ }
-    ensures { λ r. ⌜ Puts (dumpString (cond elide Source.inherited (Source.own (now (source .entry))))) at (now (out .entry)) r (now (out .exit)) ⌝ }
+fn put_source(out: &mut [u8], at: usize, source: &[u8], elide: bool, size_4: bool) -> usize
+    requires { ⌜ at + length (dumpString «size_4» (cond elide Source.inherited (Source.own (now source)))) ≤ length (now out) ⌝ }
+    ensures { λ r. ⌜ Puts (dumpString «size_4» (cond elide Source.inherited (Source.own (now (source .entry))))) at (now (out .entry)) r (now (out .exit)) ⌝ }
 {
     if elide {
-        dump_size(out, at, 0);
-        return at + 8;
+        return dump_size(out, at, 0, size_4);
     }
-    dump_string(out, at, source);
-    at + source.len() + 9
+    dump_string(out, at, source, size_4)
 }
 
 // The source of a function: none where it is the one around it.
@@ -58,13 +57,14 @@ fn dump_source(
     root: bool,
     out: &mut [u8],
     s: DumpState,
+    size_4: bool,
 ) -> DumpState
-    requires { ⌜ SourceFits (now words) (now outer) (now source) (dumpString (elided (around root (now outer)) (now source))) (reached s (now out)) ⌝ }
-    ensures { λ r. ⌜ ((v : Source) (t : List ℕ) → ((to : ℕ) → Stands (now (words .entry)) t (s .at) to (sourcePiece v) → now (source .entry) ≡ filled (now (outer .entry)) v) → Dumps (now (words .entry)) t (sourcePiece v) (dumpString (elided (around root (now (outer .entry))) (now (source .entry)))) (reached s (now (out .entry))) (reached r (now (out .exit)))) ⌝ }
+    requires { ⌜ SourceFits (now words) (now outer) (now source) (dumpString «size_4» (elided (around root (now outer)) (now source))) (reached s (now out)) ⌝ }
+    ensures { λ r. ⌜ ((v : Source) (t : List ℕ) → ((to : ℕ) → Stands (now (words .entry)) t (s .at) to (sourcePiece v) → now (source .entry) ≡ filled (now (outer .entry)) v) → Dumps (now (words .entry)) t (sourcePiece v) (dumpString «size_4» (elided (around root (now (outer .entry))) (now (source .entry)))) (reached s (now (out .entry))) (reached r (now (out .exit)))) ⌝ }
 {
     let at = s.at;
     let elide = is_elided(words, at, outer, source, root);
-    let len = put_source(out, s.len, source, elide);
+    let len = put_source(out, s.len, source, elide, size_4);
     DumpState { at: at + 3, len }
 }
 
@@ -72,48 +72,48 @@ fn dump_source(
 pub fn dump_function<'a>(
     words: &[u32],
     text: &'a [u8],
-    strip: bool,
+    options: Options,
     outer: &'a [u8],
     root: bool,
     out: &mut [u8],
     s: DumpState,
     allowance: u32,
 ) -> DumpState
-    requires { ⌜ Ready (now words) (now text) (λ f. Valid f allowance) functionPiece (λ f. dumpFunction f strip (around root (now outer)) (now outer)) (reached s (now out)) ⌝ }
-    ensures { λ r. ⌜ ((f : Function) → Valid f allowance → Dumps (now (words .entry)) (now (text .entry)) (functionPiece f) (dumpFunction f strip (around root (now (outer .entry))) (now (outer .entry))) (reached s (now (out .entry))) (reached r (now (out .exit)))) ⌝ }
+    requires { ⌜ Ready (now words) (now text) (λ f. Valid f allowance) functionPiece (λ f. dumpFunction f (options .strip) (options .«size_4») (around root (now outer)) (now outer)) (reached s (now out)) ⌝ }
+    ensures { λ r. ⌜ ((f : Function) → Valid f allowance → Dumps (now (words .entry)) (now (text .entry)) (functionPiece f) (dumpFunction f (options .strip) (options .«size_4») (around root (now (outer .entry))) (now (outer .entry))) (reached s (now (out .entry))) (reached r (now (out .exit)))) ⌝ }
 {
     if allowance == 0 {
         return s;
     }
     let source = own_source(words, text, outer, s.at);
-    let a = dump_source(words, outer, source, root, out, s);
+    let a = dump_source(words, outer, source, root, out, s, options.size_4);
     let b = dump_word(words, out, a);
     let c = dump_word(words, out, b);
     let d = dump_packed(words, out, c);
     let e = dump_code(words, out, d);
-    let f = dump_constants(words, text, strip, source, out, e, allowance - 1);
-    dump_debug(words, text, strip, out, f)
+    let f = dump_constants(words, text, options, source, out, e, allowance - 1);
+    dump_debug(words, text, options, out, f)
 }
 
 // The constants of a function whose source this is, and the functions in it.
 pub fn dump_constants<'a>(
     words: &[u32],
     text: &'a [u8],
-    strip: bool,
+    options: Options,
     source: &'a [u8],
     out: &mut [u8],
     s: DumpState,
     allowance: u32,
 ) -> DumpState
-    requires { ⌜ Ready {A = List Value × Functions} (now words) (now text) (λ v. ValidAll (v .1) allowance) (λ v. constantsPiece (v .0) (v .1)) (λ v. dumpConstants (v .0) (count (v .1)) (dumpFunctions (v .1) strip (now source))) (reached s (now out)) ⌝ }
-    ensures { λ r. ⌜ ((ks : List Value) (fs : Functions) → ValidAll fs allowance → Dumps (now (words .entry)) (now (text .entry)) (constantsPiece ks fs) (dumpConstants ks (count fs) (dumpFunctions fs strip (now (source .entry)))) (reached s (now (out .entry))) (reached r (now (out .exit)))) ⌝ }
+    requires { ⌜ Ready {A = List Value × Functions} (now words) (now text) (λ v. ValidAll (v .1) allowance) (λ v. constantsPiece (v .0) (v .1)) (λ v. dumpConstants (options .«size_4») (v .0) (count (v .1)) (dumpFunctions (v .1) (options .strip) (options .«size_4») (now source))) (reached s (now out)) ⌝ }
+    ensures { λ r. ⌜ ((ks : List Value) (fs : Functions) → ValidAll fs allowance → Dumps (now (words .entry)) (now (text .entry)) (constantsPiece ks fs) (dumpConstants (options .«size_4») ks (count fs) (dumpFunctions fs (options .strip) (options .«size_4») (now (source .entry)))) (reached s (now (out .entry))) (reached r (now (out .exit)))) ⌝ }
 {
-    let values = dump_values(words, text, out, s);
+    let values = dump_values(words, text, out, s, options.size_4);
     let n = word_at(words, values.at);
     let mut p = dump_word(words, out, values);
     let mut i: u32 = 0;
     while i < n {
-        p = dump_function(words, text, strip, source, false, out, p, allowance);
+        p = dump_function(words, text, options, source, false, out, p, allowance);
         i += 1;
     }
     p

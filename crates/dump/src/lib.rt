@@ -8,9 +8,11 @@ use count::count_function;
 use format::DEPTH;
 use format::Written;
 use format::name_ok;
+use format::width;
 use function::dump_function;
 use lent::copy;
 use list::DumpState;
+use list::Options;
 use proto::formed::check_store;
 ghost use Prim.Native.Nat.{_+_, _*_, _≤_};
 ghost use mathlib.Core.Path.{_≡_};
@@ -31,11 +33,13 @@ fn refused(n: u32) -> Written
 }
 
 // The signature, then the version, the format and the sizes: 12 bytes.
-fn dump_header(out: &mut [u8])
+fn dump_header(out: &mut [u8], size_4: bool)
     requires { ⌜ 12 ≤ length (now out) ⌝ }
-    ensures { λ r. ⌜ Puts dumpHeader 0 (now (out .entry)) 12 (now (out .exit)) ⌝ }
+    ensures { λ r. ⌜ Puts (dumpHeader «size_4») 0 (now (out .entry)) 12 (now (out .exit)) ⌝ }
 {
-    copy(out, 0, b"\x1bLua\x51\x00\x01\x04\x08\x04\x08\x00", 12);
+    let w = width(size_4) as u8;
+    let header = [0x1b, 0x4c, 0x75, 0x61, 0x51, 0, 1, 4, w, 4, 8, 0];
+    copy(out, 0, &header, 12);
 }
 
 // The chunk of the tree that a store holds, where there is room for it. Answers how many bytes it has.
@@ -43,24 +47,24 @@ fn dump_chunk<'a>(
     words: &[u32],
     text: &'a [u8],
     name: &'a [u8],
-    strip: bool,
+    options: Options,
     out: &mut [u8],
 ) -> usize
-    requires { ⌜ ChunkFits (now words) (now text) (now name) strip (now out) ⌝ }
-    ensures { λ r. ⌜ ((f : Function) → Holds (now (words .entry)) (now (text .entry)) f → Puts (dumpChunk strip (now (name .entry)) f) 0 (now (out .entry)) r (now (out .exit))) ⌝ }
+    requires { ⌜ ChunkFits (now words) (now text) (now name) (options .strip) (options .«size_4») (now out) ⌝ }
+    ensures { λ r. ⌜ ((f : Function) → Holds (now (words .entry)) (now (text .entry)) f → Puts (dumpChunk (options .strip) (options .«size_4») (now (name .entry)) f) 0 (now (out .entry)) r (now (out .exit))) ⌝ }
 {
-    dump_header(out);
+    dump_header(out, options.size_4);
     let start = DumpState { at: 0, len: 12 };
-    let end = dump_function(words, text, strip, name, true, out, start, DEPTH);
+    let end = dump_function(words, text, options, name, true, out, start, DEPTH);
     end.len
 }
 
 // How many bytes it has.
-fn count_chunk<'a>(words: &[u32], text: &'a [u8], name: &'a [u8], strip: bool) -> usize
-    ensures { λ r. ⌜ ((f : Function) → Holds (now (words .entry)) (now (text .entry)) f → Puts (dumpChunk strip (now (name .entry)) f) 0 [] r []) ⌝ }
+fn count_chunk<'a>(words: &[u32], text: &'a [u8], name: &'a [u8], options: Options) -> usize
+    ensures { λ r. ⌜ ((f : Function) → Holds (now (words .entry)) (now (text .entry)) f → Puts (dumpChunk (options .strip) (options .«size_4») (now (name .entry)) f) 0 [] r []) ⌝ }
 {
     let start = DumpState { at: 0, len: 12 };
-    let end = count_function(words, text, strip, name, true, start, DEPTH);
+    let end = count_function(words, text, options, name, true, start, DEPTH);
     end.len
 }
 
@@ -88,9 +92,10 @@ pub fn dump<'a>(
     text: &'a [u8],
     name: &'a [u8],
     strip: bool,
+    size_4: bool,
     out: &mut [u8],
 ) -> Written
-    ensures { λ r. ⌜ writeLeft r (now (out .exit)) ≡ dumped (now (words .entry)) (now (text .entry)) (now (name .entry)) strip (now (out .entry)) ⌝ }
+    ensures { λ r. ⌜ writeLeft r (now (out .exit)) ≡ dumped (now (words .entry)) (now (text .entry)) (now (name .entry)) strip «size_4» (now (out .entry)) ⌝ }
 {
     if !name_ok(name) {
         return refused(1);
@@ -98,14 +103,15 @@ pub fn dump<'a>(
     if !check_store(words, text) {
         return refused(10);
     }
+    let options = Options { strip, size_4 };
     if has_room(out.len(), words.len(), text.len(), name.len()) {
-        let len = dump_chunk(words, text, name, strip, out);
+        let len = dump_chunk(words, text, name, options, out);
         return Written { refusal: 0, len };
     }
-    let len = count_chunk(words, text, name, strip);
+    let len = count_chunk(words, text, name, options);
     if out.len() < len {
         return refused(11);
     }
-    dump_chunk(words, text, name, strip, out);
+    dump_chunk(words, text, name, options, out);
     Written { refusal: 0, len }
 }

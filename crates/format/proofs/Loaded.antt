@@ -5,10 +5,10 @@ use Rattle.lent.proofs.Lists.{every-take, every-drop}
 use Rattle.utf8.specs.Utf8.{repair}
 use Rattle.utf8.proofs.Rows.{by-test}
 use Rattle.utf8.proofs.Laws.{utf8-repair}
-use Rattle.format.specs.Tree.{Constant, Source, Function, Functions, count, filled}
-use Rattle.format.specs.Read.{Read, Reader, got, refused, andThen, _>>=_, return, refuse, loadBlock, loadByte, littleEndian, loadNumber, loadInt, stringOf, loadString, loadText, limit, countOf, loadCount, many, loadList, constantOf, loadConstant, manyFunctions, Constants, loadConstants, loadLocal, loadDebug, loadFunction, same, signature, format, loadExactly, loadHeader}
+use Rattle.format.specs.Tree.{Constant, Source, Functions, count, filled}
+use Rattle.format.specs.Read.{Read, Reader, got, refused, andThen, _>>=_, return, refuse, loadBlock, loadByte, littleEndian, loadNumber, loadInt, widthOf, loadSize, stringOf, loadString, loadText, limit, countOf, loadCount, many, loadList, constantOf, loadConstant, manyFunctions, Constants, loadConstants, loadLocal, loadDebug, loadFunction, same, signature, format, loadExactly, formatOf, loadHeader}
 use Rattle.format.specs.Valid.{depth, Name, ValidSource, ValidConstant, ValidLocal, ValidList, ValidDebug, Valid, ValidAll}
-use Rattle.format.specs.Undump.{repairedSource, repairedLocal, repairedDebug, repaired, repairedAll, loadChunk}
+use Rattle.format.specs.Undump.{repairedSource, repairedLocal, repairedDebug, repaired, repairedAll, Chunk, loadChunk}
 
 -- what reading gives: a value of which P holds, with bytes left, or a refusal by 2 to 7
 abbrev Good : {A : Type 0} → (A → Type 0) → Read A → Type 0
@@ -88,16 +88,16 @@ number-gives width = bind _ (block-gives width) (λ s h. pure (littleEndian s) (
 int-gives : Gives loadInt Word
 int-gives = number-gives 4
 
-string-gives : Gives loadString (λ s. Bytes (filled [] s))
-unfolding Every
-string-gives = bind stringOf (number-gives 8) (λ n h. by n)
+string-gives : (size4 : Bool) → Gives (loadString size4) (λ s. Bytes (filled [] s))
+unfolding loadSize Every
+string-gives size4 = bind stringOf (number-gives (widthOf size4)) (λ n h. by n)
   where
     by : (n : ℕ) → Gives (stringOf n) (λ s. Bytes (filled [] s))
     by zero = pure Source.inherited tt
     by (suc n) = bind _ (block-gives n) (λ s h. bind _ byte-gives (λ z k. pure (Source.own s) (h .0)))
 
-text-gives : Gives loadText Bytes
-text-gives = bind _ string-gives (λ s h. pure (filled [] s) h)
+text-gives : (size4 : Bool) → Gives (loadText size4) Bytes
+text-gives size4 = bind _ (string-gives size4) (λ s h. pure (filled [] s) h)
 
 count-gives : Gives loadCount (λ n. n ≤ limit)
 count-gives = bind countOf int-gives (λ n h. test (leb n limit) (λ e. pure n (leb-true n limit e)) (λ e. never 6 (omega arith) (omega arith)))
@@ -111,30 +111,30 @@ list-gives : {A : Type 0} {r : Reader A} {P : A → Type 0} → Gives r P → Gi
 list-gives {r} {P} p =
     bind (many r) count-gives (λ n h. weaken (λ l k. record { items = k .0; short = omega (arith, k .1) }) (many-gives p n))
 
-constant-gives : Gives loadConstant ValidConstant
-constant-gives =
-    bind constantOf byte-gives (λ tag h.
+constant-gives : (size4 : Bool) → Gives (loadConstant size4) ValidConstant
+constant-gives size4 =
+    bind (constantOf size4) byte-gives (λ tag h.
     test (eqb tag 0) (λ e. pure Constant.nil tt) (λ e.
     test (eqb tag 1) (λ e. bind _ byte-gives (λ b k. pure (Constant.bool (not (eqb b 0))) tt)) (λ e.
     test (eqb tag 3) (λ e. bind _ int-gives (λ low k. bind _ int-gives (λ high l. pure (Constant.num high low) (l, k)))) (λ e.
-    test (eqb tag 4) (λ e. bind _ text-gives (λ s k. pure (Constant.str s) k)) (λ e. never 5 (omega arith) (omega arith))))))
+    test (eqb tag 4) (λ e. bind _ (text-gives size4) (λ s k. pure (Constant.str s) k)) (λ e. never 5 (omega arith) (omega arith))))))
 
 source-valid : (s : Source) → ValidSource (repairedSource s)
 source-valid Source.inherited = tt
 source-valid (Source.own s) = utf8-repair s
 
-local-gives : Gives loadLocal (λ v. ValidLocal (repairedLocal v))
-local-gives = bind _ text-gives (λ n h. bind _ int-gives (λ s k. bind _ int-gives (λ e l. pure _ (record { name = utf8-repair n; start = k; end = l }))))
+local-gives : (size4 : Bool) → Gives (loadLocal size4) (λ v. ValidLocal (repairedLocal v))
+local-gives size4 = bind _ (text-gives size4) (λ n h. bind _ int-gives (λ s k. bind _ int-gives (λ e l. pure _ (record { name = utf8-repair n; start = k; end = l }))))
 
-debug-gives : Gives loadDebug (λ d. ValidDebug (repairedDebug d))
+debug-gives : (size4 : Bool) → Gives (loadDebug size4) (λ d. ValidDebug (repairedDebug d))
 unfolding loadDebug
-debug-gives =
+debug-gives size4 =
     bind _ (list-gives int-gives) (λ li h.
-    bind _ (list-gives local-gives) (λ lo k.
+    bind _ (list-gives (local-gives size4)) (λ lo k.
     bind _ (list-gives name-gives) (λ up l. pure _ (record { lines = h; locals = list-map ValidLocal repairedLocal lo k; upvalues = list-map Name repair up l }))))
   where
-    name-gives : Gives loadText (λ s. Name (repair s))
-    name-gives = weaken (λ s h. utf8-repair s) text-gives
+    name-gives : Gives (loadText size4) (λ s. Name (repair s))
+    name-gives = weaken (λ s h. utf8-repair s) (text-gives size4)
 
 -- the constants, and the functions inside once repaired
 record Inside (allowance : ℕ) (c : Constants) : Type 0 where
@@ -142,24 +142,24 @@ record Inside (allowance : ℕ) (c : Constants) : Type 0 where
   short : count (repairedAll (c .functions)) ≤ limit
   functions : ValidAll (repairedAll (c .functions)) allowance
 
-module _ (allowance : ℕ) (child : Gives (loadFunction allowance) (λ f. Valid (repaired f) allowance)) where
-  functions-gives : (n : ℕ) → Gives (manyFunctions (loadFunction allowance) n) (λ fs. ValidAll (repairedAll fs) allowance × (count (repairedAll fs) ≡ n))
+module _ (size4 : Bool) (allowance : ℕ) (child : Gives (loadFunction size4 allowance) (λ f. Valid (repaired f) allowance)) where
+  functions-gives : (n : ℕ) → Gives (manyFunctions (loadFunction size4 allowance) n) (λ fs. ValidAll (repairedAll fs) allowance × (count (repairedAll fs) ≡ n))
   unfolding manyFunctions repaired Valid count
   functions-gives zero = pure Functions.none (tt, refl)
   functions-gives (suc n) = bind _ child (λ f h. bind _ (functions-gives n) (λ fs k. pure (Functions.more f fs) ((h, k .0), ap suc (k .1))))
 
-  counted-gives : Gives (loadCount >>= manyFunctions (loadFunction allowance)) (λ fs. ValidAll (repairedAll fs) allowance × (count (repairedAll fs) ≤ limit))
+  counted-gives : Gives (loadCount >>= manyFunctions (loadFunction size4 allowance)) (λ fs. ValidAll (repairedAll fs) allowance × (count (repairedAll fs) ≤ limit))
   counted-gives = bind _ count-gives (λ n l. weaken (λ fs k. (k .0, omega (arith, k .1))) (functions-gives n))
 
-  constants-gives : Gives (loadConstants (loadFunction allowance)) (Inside allowance)
+  constants-gives : Gives (loadConstants size4 (loadFunction size4 allowance)) (Inside allowance)
   unfolding loadConstants
-  constants-gives = bind _ (list-gives constant-gives) (λ ks h. bind _ counted-gives (λ fs k. pure _ (record { constants = h; short = k .1; functions = k .0 })))
+  constants-gives = bind _ (list-gives (constant-gives size4)) (λ ks h. bind _ counted-gives (λ fs k. pure _ (record { constants = h; short = k .1; functions = k .0 })))
 
-function-gives : (allowance : ℕ) → Gives (loadFunction allowance) (λ f. Valid (repaired f) allowance)
+function-gives : (size4 : Bool) (allowance : ℕ) → Gives (loadFunction size4 allowance) (λ f. Valid (repaired f) allowance)
 unfolding loadFunction repaired Valid
-function-gives zero = never 7 (omega arith) (omega arith)
-function-gives (suc allowance) =
-    bind _ string-gives (λ src h₁.
+function-gives size4 zero = never 7 (omega arith) (omega arith)
+function-gives size4 (suc allowance) =
+    bind _ (string-gives size4) (λ src h₁.
     bind _ int-gives (λ ld h₂.
     bind _ int-gives (λ lld h₃.
     bind _ byte-gives (λ nu h₄.
@@ -167,25 +167,28 @@ function-gives (suc allowance) =
     bind _ byte-gives (λ va h₆.
     bind _ byte-gives (λ ms h₇.
     bind _ (list-gives int-gives) (λ code h₈.
-    bind _ (constants-gives allowance (function-gives allowance)) (λ ks h₉.
-    bind _ debug-gives (λ de h.
+    bind _ (constants-gives size4 allowance (function-gives size4 allowance)) (λ ks h₉.
+    bind _ (debug-gives size4) (λ de h.
     pure _ (search source-valid)))))))))))
 
-header-gives : Gives loadHeader (λ s. Unit {0})
+header-gives : Gives loadHeader (λ size4. Unit {0})
 unfolding loadHeader
-header-gives = bind _ (exactly signature 3 (omega arith) (omega arith)) (λ s h. exactly format 4 (omega arith) (omega arith))
+header-gives = bind _ (exactly signature 3 (omega arith) (omega arith)) (λ s h. bind formatOf (block-gives 8) (λ s h. known s))
   where
     exactly : (bytes : List ℕ) (n : ℕ) → 2 ≤ n → n ≤ 7 → Gives (loadExactly bytes n) (λ s. Unit {0})
     exactly bytes n low high = bind _ (block-gives (length bytes)) (λ s h. test (same s bytes) (λ e. pure s tt) (λ e. never n low high))
 
-chunk-gives : Gives loadChunk (λ f. Valid f depth)
+    known : (s : List ℕ) → Gives (formatOf s) (λ size4. Unit {0})
+    known s = test (same s (format true)) (λ e. pure true tt) (λ e. test (same s (format false)) (λ e. pure false tt) (λ e. never 4 (omega arith) (omega arith)))
+
+chunk-gives : Gives loadChunk (λ c. Valid (c .root) depth)
 unfolding loadChunk
-chunk-gives = bind _ header-gives (λ s h. bind _ (function-gives depth) (λ f k. pure (repaired f) k))
+chunk-gives = bind _ header-gives (λ size4 h. bind _ (function-gives size4 depth) (λ f k. pure (record { size4 = size4; root = repaired f }) k))
 
 -- ==== the statement: what is read of a chunk's bytes is a well-formed tree, and reading refuses by 2 to 7 only
 
-pub loaded-valid : (chunk : List ℕ) → Bytes chunk → (f : Function) (rest : List ℕ) → loadChunk chunk ≡ got f rest → Valid f depth
-loaded-valid chunk h f rest e = (rw e at (chunk-gives .gives chunk h)) .0
+pub loaded-valid : (chunk : List ℕ) → Bytes chunk → (c : Chunk) (rest : List ℕ) → loadChunk chunk ≡ got c rest → Valid (c .root) depth
+loaded-valid chunk h c rest e = (rw e at (chunk-gives .gives chunk h)) .0
 
 pub load-refuses : (chunk : List ℕ) → Bytes chunk → (n : ℕ) → loadChunk chunk ≡ refused n → (2 ≤ n) × (n ≤ 7)
 load-refuses chunk h n e = rw e at (chunk-gives .gives chunk h)

@@ -5,7 +5,7 @@ use Rattle.utf8.proofs.Rows.{by-test}
 use Rattle.utf8.proofs.Laws.{repair-utf8}
 use Rattle.lent.specs.Memory.{Every, Word}
 use Rattle.format.specs.Tree.{Constant, Source, Local, Debug, Parts, Function, Functions, count, filled, kept, noDebug, with, rootSource, fill, fillAll, stripped, strippedAll}
-use Rattle.format.specs.Read.{Reader, got, _>>=_, return, loadBlock, loadByte, littleEndian, loadNumber, loadInt, stringOf, loadString, loadText, limit, countOf, loadCount, many, loadList, constantOf, loadConstant, manyFunctions, loadConstants, loadLocal, loadDebug, loadFunction, same, signature, format, loadHeader}
+use Rattle.format.specs.Read.{Reader, got, _>>=_, return, loadBlock, loadByte, littleEndian, loadNumber, loadInt, widthOf, loadSize, stringOf, loadString, loadText, limit, countOf, loadCount, many, loadList, constantOf, loadConstant, manyFunctions, loadConstants, loadLocal, loadDebug, loadFunction, same, signature, format, formatOf, loadHeader}
 use Rattle.format.specs.Write.{dumpNumber, dumpInt, dumpSize, dumpString, dumpText, each, dumpList, dumpConstant, dumpConstants, dumpLocal, dumpDebug, elided, dumpFunction, dumpFunctions, dumpHeader, dumpChunk}
 use Rattle.format.specs.Store.{Piece, pieces, constantPiece, localPiece, string, sourcePiece, functionPiece, functionPieces, textOf}
 use Rattle.format.specs.Valid.{depth, most, Name, ValidSource, ValidConstant, ValidLocal, ValidList, ValidDebug, ValidParts, Valid, ValidAll}
@@ -42,7 +42,7 @@ pub block-law : (bs : List ℕ) → Reads (loadBlock (length bs)) bs bs
 block-law bs =
     record { run = λ rest. rw (le-leb (length bs) (length (bs ++ rest)) (simp length-append (omega arith)), loadBlock, take-at bs rest (length bs) refl, drop-at bs rest (length bs) refl) }
 
-dumped-length : (width n : ℕ) → length (dumpNumber width n) ≡ width
+pub dumped-length : (width n : ℕ) → length (dumpNumber width n) ≡ width
 unfolding dumpNumber
 dumped-length zero n = refl
 dumped-length (suc width) n = ap suc (dumped-length width (n / 256))
@@ -60,16 +60,25 @@ number-law width n h =
 pub int-law : (n : ℕ) → Word n → Reads loadInt (dumpInt n) n
 int-law n h = number-law 4 n h
 
+-- the size of a string of a well-formed store fits both widths: no width adds a refusal
+pub size-fits : (size4 : Bool) (n : ℕ) → n ≤ suc most → n < 256 ^ widthOf size4
+size-fits true n h = omega arith
+size-fits false n h = omega arith
+
+pub size-law : (size4 : Bool) (n : ℕ) → n ≤ suc most → Reads (loadSize size4) (dumpSize size4 n) n
+unfolding loadSize
+size-law size4 n h = number-law (widthOf size4) n (size-fits size4 n h)
+
 -- ---- strings
 
-pub string-law : (s : Source) → length (filled [] s) ≤ most → Reads loadString (dumpString s) s
-string-law Source.inherited h = last stringOf (pure Source.inherited) (number-law 8 0 (omega arith))
-string-law (Source.own s) h =
-    bytes-are (sym (append-assoc (dumpSize (length s + 1)) s (0 ∷ [])))
-    (step stringOf (s ++ 0 ∷ []) (value-is (add-one (length s)) (number-law 8 (length s + 1) (omega arith))) (step _ (0 ∷ []) (block-law s) (last _ (pure (Source.own s)) (byte-law 0))))
+pub string-law : (size4 : Bool) (s : Source) → length (filled [] s) ≤ most → Reads (loadString size4) (dumpString size4 s) s
+string-law size4 Source.inherited h = last stringOf (pure Source.inherited) (size-law size4 0 (omega arith))
+string-law size4 (Source.own s) h =
+    bytes-are (sym (append-assoc (dumpSize size4 (length s + 1)) s (0 ∷ [])))
+    (step stringOf (s ++ 0 ∷ []) (value-is (add-one (length s)) (size-law size4 (length s + 1) (omega arith))) (step _ (0 ∷ []) (block-law s) (last _ (pure (Source.own s)) (byte-law 0))))
 
-pub text-law : (s : List ℕ) → length s ≤ most → Reads loadText (dumpText s) s
-text-law s h = last _ (pure s) (string-law (Source.own s) h)
+pub text-law : (size4 : Bool) (s : List ℕ) → length s ≤ most → Reads (loadText size4) (dumpText size4 s) s
+text-law size4 s h = last _ (pure s) (string-law size4 (Source.own s) h)
 
 -- ---- lists: a count, then the items
 
@@ -100,38 +109,38 @@ shorts P piece (a ∷ l) h m =
 short-list : {A : Type 0} {P : A → Type 0} (piece : A → Piece) (l : List A) → ValidList P l → length (pieces piece l .text) ≤ most → ValidList (Short P piece) l
 short-list {P} piece l h m = record { items = shorts P piece l (h .items) m; short = h .short }
 
-pub constant-law : (k : Constant) → Short ValidConstant constantPiece k → Reads loadConstant (dumpConstant k) k
-constant-law Constant.nil h = last constantOf (pure Constant.nil) (byte-law 0)
-constant-law (Constant.bool true) h = step constantOf (1 ∷ []) (byte-law 1) (last _ (pure (Constant.bool true)) (byte-law 1))
-constant-law (Constant.bool false) h = step constantOf (0 ∷ []) (byte-law 1) (last _ (pure (Constant.bool false)) (byte-law 0))
-constant-law (Constant.num high low) h =
-    step constantOf (dumpInt low ++ dumpInt high) (byte-law 3) (step _ (dumpInt high) (int-law low (h .0 .1)) (last _ (pure (Constant.num high low)) (int-law high (h .0 .0))))
-constant-law (Constant.str s) h = step constantOf (dumpText s) (byte-law 4) (last _ (pure (Constant.str s)) (text-law s (h .1)))
+pub constant-law : (size4 : Bool) (k : Constant) → Short ValidConstant constantPiece k → Reads (loadConstant size4) (dumpConstant size4 k) k
+constant-law size4 Constant.nil h = last (constantOf size4) (pure Constant.nil) (byte-law 0)
+constant-law size4 (Constant.bool true) h = step (constantOf size4) (1 ∷ []) (byte-law 1) (last _ (pure (Constant.bool true)) (byte-law 1))
+constant-law size4 (Constant.bool false) h = step (constantOf size4) (0 ∷ []) (byte-law 1) (last _ (pure (Constant.bool false)) (byte-law 0))
+constant-law size4 (Constant.num high low) h =
+    step (constantOf size4) (dumpInt low ++ dumpInt high) (byte-law 3) (step _ (dumpInt high) (int-law low (h .0 .1)) (last _ (pure (Constant.num high low)) (int-law high (h .0 .0))))
+constant-law size4 (Constant.str s) h = step (constantOf size4) (dumpText size4 s) (byte-law 4) (last _ (pure (Constant.str s)) (text-law size4 s (h .1)))
 
-pub local-law : (v : Local) → Short ValidLocal localPiece v → Reads loadLocal (dumpLocal v) v
-local-law v h =
+pub local-law : (size4 : Bool) (v : Local) → Short ValidLocal localPiece v → Reads (loadLocal size4) (dumpLocal size4 v) v
+local-law size4 v h =
     let m : length (v .name) + 0 ≤ most = simp length-append at (h .1) in
-    bytes-are (simp append-assoc) (step _ _ (text-law (v .name) (omega arith)) (step _ _ (int-law (v .start) (h .0 .start)) (last _ (pure v) (int-law (v .end) (h .0 .end)))))
+    bytes-are (simp append-assoc) (step _ _ (text-law size4 (v .name) (omega arith)) (step _ _ (int-law (v .start) (h .0 .start)) (last _ (pure v) (int-law (v .end) (h .0 .end)))))
 
 no-debug : ValidDebug noDebug
 unfolding Every
 no-debug = record { lines = omega arith; locals = omega arith; upvalues = omega arith }
 
-pub debug-law : (d : Debug) → ValidDebug d → length (pieces localPiece (d .locals) .text) ≤ most → length (pieces string (d .upvalues) .text) ≤ most → Reads loadDebug (dumpDebug d) d
+pub debug-law : (size4 : Bool) (d : Debug) → ValidDebug d → length (pieces localPiece (d .locals) .text) ≤ most → length (pieces string (d .upvalues) .text) ≤ most → Reads (loadDebug size4) (dumpDebug size4 d) d
 unfolding loadDebug
-debug-law d v h k =
+debug-law size4 d v h k =
     bytes-are (simp append-assoc)
     (step _ _ (list-law loadInt dumpInt int-law (d .lines) (v .lines))
-    (step _ _ (list-law loadLocal dumpLocal local-law (d .locals) (short-list localPiece (d .locals) (v .locals) h))
-    (last _ (pure d) (list-law loadText dumpText (λ s m. text-law s (m .1)) (d .upvalues) (short-list string (d .upvalues) (v .upvalues) k)))))
+    (step _ _ (list-law (loadLocal size4) (dumpLocal size4) (local-law size4) (d .locals) (short-list localPiece (d .locals) (v .locals) h))
+    (last _ (pure d) (list-law (loadText size4) (dumpText size4) (λ s m. text-law size4 s (m .1)) (d .upvalues) (short-list string (d .upvalues) (v .upvalues) k)))))
 
-pub constants-law : (child : Reader Function) (ks : List Constant) (n : ℕ) (fs : Functions) (bytes : List ℕ)
+pub constants-law : (size4 : Bool) (child : Reader Function) (ks : List Constant) (n : ℕ) (fs : Functions) (bytes : List ℕ)
     → ValidList ValidConstant ks → length (pieces constantPiece ks .text) ≤ most → n ≤ limit → Reads (manyFunctions child n) bytes fs
-    → Reads (loadConstants child) (dumpConstants ks n bytes) (record { constants = ks; functions = fs })
+    → Reads (loadConstants size4 child) (dumpConstants size4 ks n bytes) (record { constants = ks; functions = fs })
 unfolding loadConstants
-constants-law child ks n fs bytes v h k functions =
+constants-law size4 child ks n fs bytes v h k functions =
     bytes-are (simp append-assoc)
-    (step _ _ (list-law loadConstant dumpConstant constant-law ks (short-list constantPiece ks v h)) (last _ (pure _) (step (manyFunctions child) bytes (count-law n k) functions)))
+    (step _ _ (list-law (loadConstant size4) (dumpConstant size4) (constant-law size4) ks (short-list constantPiece ks v h)) (last _ (pure _) (step (manyFunctions child) bytes (count-law n k) functions)))
 
 -- ---- the tree that reading finds where a tree was written
 
@@ -156,15 +165,15 @@ either P false h k = k
 mutual
   unfolding readBack dumpFunction loadFunction manyFunctions count Valid functionPiece pieces
 
-  pub function-law : (f : Function) (allowance : ℕ) (strip : Bool) (around outer : List ℕ) → Valid f allowance → length (textOf f) ≤ most → length outer ≤ most
-      → Reads (loadFunction allowance) (dumpFunction f strip around outer) (readBack f strip around outer)
-  function-law (Function.function p fs) zero strip around outer v m h = absurd v
-  function-law (Function.function p fs) (suc allowance) strip around outer v m h =
+  pub function-law : (f : Function) (allowance : ℕ) (strip size4 : Bool) (around outer : List ℕ) → Valid f allowance → length (textOf f) ≤ most → length outer ≤ most
+      → Reads (loadFunction size4 allowance) (dumpFunction f strip size4 around outer) (readBack f strip around outer)
+  function-law (Function.function p fs) zero strip size4 around outer v m h = absurd v
+  function-law (Function.function p fs) (suc allowance) strip size4 around outer v m h =
       let t = simp length-append at m in
       let s = filled outer (p .source) in
       let short = filled-short outer (p .source) h (omega arith) in
       bytes-are (simp append-assoc)
-      (step _ _ (string-law (elided around s) (either (λ x. length (filled [] x) ≤ most) (same s around) (omega arith) short))
+      (step _ _ (string-law size4 (elided around s) (either (λ x. length (filled [] x) ≤ most) (same s around) (omega arith) short))
       (step _ _ (int-law (p .lineDefined) (v .0 .lineDefined))
       (step _ _ (int-law (p .lastLineDefined) (v .0 .lastLineDefined))
       (step _ _ (byte-law (p .numUpvalues))
@@ -172,16 +181,16 @@ mutual
       (step _ _ (byte-law (p .isVararg))
       (step _ _ (byte-law (p .maxStackSize))
       (step _ _ (list-law loadInt dumpInt int-law (p .code) (v .0 .code))
-      (step _ _ (constants-law (loadFunction allowance) (p .constants) (count fs) (readBackAll fs strip s) _ (v .0 .constants) (omega arith) (v .1) (functions-law fs allowance strip s (v .2) (omega arith) short))
-      (last _ (pure _) (either (λ d. Reads loadDebug (dumpDebug d) d) strip
-      (debug-law noDebug no-debug (omega arith) (omega arith)) (debug-law (p .debug) (v .0 .debug) (omega arith) (omega arith)))))))))))))
+      (step _ _ (constants-law size4 (loadFunction size4 allowance) (p .constants) (count fs) (readBackAll fs strip s) _ (v .0 .constants) (omega arith) (v .1) (functions-law fs allowance strip size4 s (v .2) (omega arith) short))
+      (last _ (pure _) (either (λ d. Reads (loadDebug size4) (dumpDebug size4 d) d) strip
+      (debug-law size4 noDebug no-debug (omega arith) (omega arith)) (debug-law size4 (p .debug) (v .0 .debug) (omega arith) (omega arith)))))))))))))
 
-  pub functions-law : (fs : Functions) (allowance : ℕ) (strip : Bool) (source : List ℕ) → ValidAll fs allowance → length (functionPieces fs .text) ≤ most → length source ≤ most
-      → Reads (manyFunctions (loadFunction allowance) (count fs)) (dumpFunctions fs strip source) (readBackAll fs strip source)
-  functions-law Functions.none allowance strip source v m h = pure Functions.none
-  functions-law (Functions.more f fs) allowance strip source v m h =
+  pub functions-law : (fs : Functions) (allowance : ℕ) (strip size4 : Bool) (source : List ℕ) → ValidAll fs allowance → length (functionPieces fs .text) ≤ most → length source ≤ most
+      → Reads (manyFunctions (loadFunction size4 allowance) (count fs)) (dumpFunctions fs strip size4 source) (readBackAll fs strip source)
+  functions-law Functions.none allowance strip size4 source v m h = pure Functions.none
+  functions-law (Functions.more f fs) allowance strip size4 source v m h =
       let m′ : length (textOf f) + length (functionPieces fs .text) ≤ most = simp length-append at m in
-      step _ _ (function-law f allowance strip source source (v .0) (omega arith) h) (last _ (pure _) (functions-law fs allowance strip source (v .1) (omega arith) h))
+      step _ _ (function-law f allowance strip size4 source source (v .0) (omega arith) h) (last _ (pure _) (functions-law fs allowance strip size4 source (v .1) (omega arith) h))
 
 -- ---- the tree found is well formed too, so repair leaves it alone
 
@@ -280,12 +289,16 @@ found-filled f strip =
 
 -- ---- a whole chunk
 
-pub header-law : Reads loadHeader dumpHeader format
+pub header-law : (size4 : Bool) → Reads loadHeader (dumpHeader size4) size4
 unfolding loadHeader same
-header-law = step _ format (last _ (pure signature) (block-law signature)) (last _ (pure format) (block-law format))
+header-law size4 = step _ (format size4) (last _ (pure signature) (block-law signature)) (last formatOf (known size4) (block-law (format size4)))
+  where
+    known : (size4 : Bool) → Reads (formatOf (format size4)) [] size4
+    known true = pure true
+    known false = pure false
 
-pub chunk-law : (f : Function) (strip : Bool) (name : List ℕ) → Valid f depth → length (textOf f) ≤ most → Name name → length name ≤ most
-    → Reads loadChunk (dumpChunk strip name f) (readBack f strip [] name)
+pub chunk-law : (f : Function) (strip size4 : Bool) (name : List ℕ) → Valid f depth → length (textOf f) ≤ most → Name name → length name ≤ most
+    → Reads loadChunk (dumpChunk strip size4 name f) (record { size4 = size4; root = readBack f strip [] name })
 unfolding loadChunk
-chunk-law f strip name v m n h =
-    step _ _ header-law (last _ (value-is (repaired-same _ depth (found-valid f depth strip [] name v n)) (pure _)) (function-law f depth strip [] name v m h))
+chunk-law f strip size4 name v m n h =
+    step _ _ (header-law size4) (last _ (value-is (ap (λ (g : Function). record { size4 = size4; root = g }) (repaired-same _ depth (found-valid f depth strip [] name v n))) (pure _)) (function-law f depth strip size4 [] name v m h))

@@ -1,21 +1,25 @@
 -- The definitions evaluated on the scope's sample and on a tree of three levels, so that the theorems speak of something.
-use Rattle.lent.proofs.Prelude.{ℕ, _≡_, refl, true, false, none, some, List, [], _∷_, _++_, map, decLe, decLt, ℕ-discrete, leb}
+use Rattle.lent.proofs.Prelude.{ℕ, _≡_, refl, Bool, true, false, none, some, List, [], _∷_, _++_, map, decLe, decLt, ℕ-discrete, leb}
 use Rattle.lent.specs.Memory.{Every}
 use Rattle.utf8.specs.Utf8.{utf8UpTo, repairUpTo, firstStep, whole, begun, matched}
 use Rattle.format.specs.Tree.{Constant, Source, Debug, Function, Functions, count, partsOf, preorder, fill, noDebug}
-use Rattle.format.specs.Read.{got, refused, countOf, loadFunction, loadConstants, loadDebug, loadHeader, many, manyFunctions, littleEndian, same}
+use Rattle.format.specs.Read.{got, refused, countOf, loadSize, loadFunction, loadConstants, loadDebug, loadHeader, many, manyFunctions, littleEndian, same}
 use Rattle.format.specs.Write.{dumpNumber, each, dumpFunction, dumpChunk}
 use Rattle.format.specs.Store.{functionPiece, pieces}
 use Rattle.format.specs.Valid.{depth, most, Valid}
 use Rattle.format.specs.Stored.{storedFunction, both?, as?, true?, every?, same?, valid?, treeOf}
-use Rattle.format.specs.Undump.{loadChunk, repaired}
+use Rattle.format.specs.Undump.{Chunk, loadChunk, repaired}
 
 -- ---- the sample
 
-sample : List ℕ
-sample =
-    0x1b ∷ 0x4c ∷ 0x75 ∷ 0x61 ∷ 0x51 ∷ 0 ∷ 1 ∷ 4 ∷ 8 ∷ 4 ∷ 8 ∷ 0
-    ∷ 3 ∷ 0 ∷ 0 ∷ 0 ∷ 0 ∷ 0 ∷ 0 ∷ 0 ∷ 0x40 ∷ 0x61 ∷ 0
+-- a header whose ninth byte is w
+abbrev headed : ℕ → List ℕ → List ℕ
+headed w rest = 0x1b ∷ 0x4c ∷ 0x75 ∷ 0x61 ∷ 0x51 ∷ 0 ∷ 1 ∷ 4 ∷ w ∷ 4 ∷ 8 ∷ 0 ∷ rest
+
+-- behind its first size
+afterSize : List ℕ
+afterSize =
+    0x40 ∷ 0x61 ∷ 0
     ∷ 0 ∷ 0 ∷ 0 ∷ 0 ∷ 0 ∷ 0 ∷ 0 ∷ 0
     ∷ 0 ∷ 0 ∷ 2 ∷ 2
     ∷ 1 ∷ 0 ∷ 0 ∷ 0 ∷ 0x1e ∷ 0 ∷ 0x80 ∷ 0
@@ -25,6 +29,10 @@ sample =
     ∷ 0 ∷ 0 ∷ 0 ∷ 0
     ∷ 0 ∷ 0 ∷ 0 ∷ 0
     ∷ []
+
+abbrev sample : Bool → List ℕ
+sample true = headed 4 (3 ∷ 0 ∷ 0 ∷ 0 ∷ afterSize)
+sample false = headed 8 (3 ∷ 0 ∷ 0 ∷ 0 ∷ 0 ∷ 0 ∷ 0 ∷ 0 ∷ afterSize)
 
 -- a function with this source, vararg flag, code, constants and debug lists, and these functions in it
 abbrev made : Source → ℕ → List ℕ → List Constant → Debug → Functions → Function
@@ -36,13 +44,22 @@ made s vararg code ks d fs =
 abbrev sampleTree : Function
 sampleTree = made (Source.own (0x40 ∷ 0x61 ∷ [])) 2 (0x0080001e ∷ []) [] (record { lines = 1 ∷ []; locals = []; upvalues = [] }) Functions.none
 
-sample-read : loadChunk sample ≡ got sampleTree []
-unfolding sample loadChunk loadHeader same loadFunction loadConstants loadDebug many manyFunctions littleEndian repaired repairUpTo firstStep whole begun matched
-sample-read = refl
+-- a chunk that was read
+abbrev chunkOf : Bool → Function → Chunk
+chunkOf size4 f = record { size4 = size4; root = f }
 
-sample-dumped : dumpChunk false [] sampleTree ≡ sample
-unfolding sample dumpFunction dumpNumber each count same
-sample-dumped = refl
+sample-read : (loadChunk (sample true) ≡ got (chunkOf true sampleTree) []) × (loadChunk (sample false) ≡ got (chunkOf false sampleTree) [])
+unfolding afterSize loadChunk loadHeader same loadSize loadFunction loadConstants loadDebug many manyFunctions littleEndian repaired repairUpTo firstStep whole begun matched
+sample-read = (refl, refl)
+
+sample-dumped : (dumpChunk false true [] sampleTree ≡ sample true) × (dumpChunk false false [] sampleTree ≡ sample false)
+unfolding afterSize dumpFunction dumpNumber each count same
+sample-dumped = (refl, refl)
+
+-- no third width; and fewer than eight bytes are too few, whatever they are
+width-refused : (loadChunk (headed 5 afterSize) ≡ refused 4) × (loadChunk (0x1b ∷ 0x4c ∷ 0x75 ∷ 0x61 ∷ 0x51 ∷ 0 ∷ 1 ∷ 4 ∷ 5 ∷ 4 ∷ 8 ∷ []) ≡ refused 2)
+unfolding afterSize loadChunk loadHeader same
+width-refused = (refl, refl)
 
 abbrev sampleWords : List ℕ
 sampleWords = 1 ∷ 0 ∷ 2 ∷ 0 ∷ 0 ∷ 0x0202 ∷ 1 ∷ 0x0080001e ∷ 0 ∷ 0 ∷ 1 ∷ 1 ∷ 0 ∷ 0 ∷ []
@@ -82,10 +99,10 @@ written d =
     (Functions.more (sourced Source.inherited d (Functions.more (sourced Source.inherited d Functions.none) (one (sourced (Source.own b) d Functions.none))))
     (one (sourced (Source.own []) d (one (sourced (Source.own a) d Functions.none)))))
 
-family-written : (loadChunk (dumpChunk false [] (family (Source.own a)) ++ 0xff ∷ []) ≡ got (written named) (0xff ∷ []))
-    × (loadChunk (dumpChunk false a (family Source.inherited)) ≡ got (written named) [])
-    × (loadChunk (dumpChunk true a (family Source.inherited)) ≡ got (written noDebug) [])
-unfolding loadChunk loadHeader same loadFunction loadConstants loadDebug many manyFunctions littleEndian repaired repairUpTo firstStep whole begun matched dumpFunction dumpNumber each count
+family-written : (loadChunk (dumpChunk false false [] (family (Source.own a)) ++ 0xff ∷ []) ≡ got (chunkOf false (written named)) (0xff ∷ []))
+    × (loadChunk (dumpChunk false true a (family Source.inherited)) ≡ got (chunkOf true (written named)) [])
+    × (loadChunk (dumpChunk true false a (family Source.inherited)) ≡ got (chunkOf false (written noDebug)) [])
+unfolding loadChunk loadHeader same loadSize loadFunction loadConstants loadDebug many manyFunctions littleEndian repaired repairUpTo firstStep whole begun matched dumpFunction dumpNumber each count
 family-written = (refl, refl, refl)
 
 -- each function of it in preorder, its source filled in

@@ -41,6 +41,6 @@ onTree refuse answer (some f) = answer f
 abbrev pub onStore : (Function → List ℕ) → List ℕ → List ℕ → List ℕ → List ℕ → WriteLeft
 onStore bytes words text name out = underName (λ n. writeRefused n out) name (onTree (λ n. writeRefused n out) (λ f. written (bytes f) out) (treeOf words text))
 
--- dump(words, text, name, strip, out)
-unfoldable pub dumped : List ℕ → List ℕ → List ℕ → Bool → List ℕ → WriteLeft
-dumped words text name strip out = onStore (λ f. dumpChunk strip name f) words text name out
+-- dump(words, text, name, strip, size_4, out)
+unfoldable pub dumped : List ℕ → List ℕ → List ℕ → Bool → Bool → List ℕ → WriteLeft
+dumped words text name strip size4 out = onStore (λ f. dumpChunk strip size4 name f) words text name out

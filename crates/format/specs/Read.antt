@@ -1,5 +1,5 @@
 -- Reading a chunk, from lundump.c, in its order: LoadBlock, LoadChar, LoadInt, LoadNumber, LoadString, LoadCode, LoadConstants, LoadDebug, LoadFunction,
--- LoadHeader. The header's two comparisons, and the refusals' numbers in their order, are the Rust's and the scope's.
+-- LoadHeader. What reads a string size is told its width. The header's comparisons, and the refusals' numbers in their order, are the Rust's and the scope's.
 use Prim.Native.Nat.{ℕ, zero, suc, _+_, _*_}
 use mathlib.Core.List.{List, [], _∷_}
 use mathlib.Core.Bool.{Bool, true, false, cond, not, _&&_}
@@ -51,8 +51,12 @@ loadNumber width = do
 abbrev pub loadInt : Reader ℕ
 loadInt = loadNumber 4
 
-abbrev pub loadSize : Reader ℕ
-loadSize = loadNumber 8
+-- how many bytes a size takes: four where size_4 is told, else eight
+abbrev pub widthOf : Bool → ℕ
+widthOf size4 = cond size4 4 8
+
+unfoldable pub loadSize : Bool → Reader ℕ
+loadSize size4 = loadNumber (widthOf size4)
 
 -- a string of this size: none where it is 0, else its bytes, the last one skipped
 abbrev pub stringOf : ℕ → Reader Source
@@ -62,13 +66,13 @@ stringOf (suc n) = do
   z ← loadByte
   return (Source.own s)
 
-abbrev pub loadString : Reader Source
-loadString = loadSize >>= stringOf
+abbrev pub loadString : Bool → Reader Source
+loadString size4 = loadSize size4 >>= stringOf
 
 -- a string constant or a name, empty where there is none
-abbrev pub loadText : Reader (List ℕ)
-loadText = do
-  s ← loadString
+abbrev pub loadText : Bool → Reader (List ℕ)
+loadText size4 = do
+  s ← loadString size4
   return (filled [] s)
 
 -- the most items of a list
@@ -108,21 +112,21 @@ loadNum = do
   high ← loadInt
   return (Constant.num high low)
 
-abbrev pub loadStr : Reader Constant
-loadStr = do
-  s ← loadText
+abbrev pub loadStr : Bool → Reader Constant
+loadStr size4 = do
+  s ← loadText size4
   return (Constant.str s)
 
 -- a constant of this tag: LUA_TNIL, LUA_TBOOLEAN, LUA_TNUMBER, LUA_TSTRING
-abbrev pub constantOf : ℕ → Reader Constant
-constantOf tag =
+abbrev pub constantOf : Bool → ℕ → Reader Constant
+constantOf size4 tag =
     cond (eqb tag 0) (return Constant.nil)
     (cond (eqb tag 1) loadBoolean
     (cond (eqb tag 3) loadNum
-    (cond (eqb tag 4) loadStr (refuse 5))))
+    (cond (eqb tag 4) (loadStr size4) (refuse 5))))
 
-abbrev pub loadConstant : Reader Constant
-loadConstant = loadByte >>= constantOf
+abbrev pub loadConstant : Bool → Reader Constant
+loadConstant size4 = loadByte >>= constantOf size4
 
 -- n functions, one after the other
 unfoldable pub manyFunctions : Reader Function → ℕ → Reader Functions
@@ -137,31 +141,31 @@ pub record Constants : Type 0 where
   pub constants : List Constant
   pub functions : Functions
 
-unfoldable pub loadConstants : Reader Function → Reader Constants
-loadConstants child = do
-  ks ← loadList loadConstant
+unfoldable pub loadConstants : Bool → Reader Function → Reader Constants
+loadConstants size4 child = do
+  ks ← loadList (loadConstant size4)
   fs ← loadCount >>= manyFunctions child
   return (record { constants = ks; functions = fs })
 
-abbrev pub loadLocal : Reader Local
-loadLocal = do
-  n ← loadText
+abbrev pub loadLocal : Bool → Reader Local
+loadLocal size4 = do
+  n ← loadText size4
   s ← loadInt
   e ← loadInt
   return (record { name = n; start = s; end = e })
 
-unfoldable pub loadDebug : Reader Debug
-loadDebug = do
+unfoldable pub loadDebug : Bool → Reader Debug
+loadDebug size4 = do
   li ← loadList loadInt
-  lo ← loadList loadLocal
-  up ← loadList loadText
+  lo ← loadList (loadLocal size4)
+  up ← loadList (loadText size4)
   return (record { lines = li; locals = lo; upvalues = up })
 
 -- a function, with so many functions nested at most
-unfoldable pub loadFunction : ℕ → Reader Function
-loadFunction zero = refuse 7
-loadFunction (suc allowance) = do
-  src ← loadString
+unfoldable pub loadFunction : Bool → ℕ → Reader Function
+loadFunction size4 zero = refuse 7
+loadFunction size4 (suc allowance) = do
+  src ← loadString size4
   ld ← loadInt
   lld ← loadInt
   nu ← loadByte
@@ -169,8 +173,8 @@ loadFunction (suc allowance) = do
   va ← loadByte
   ms ← loadByte
   code ← loadCode
-  ks ← loadConstants (loadFunction allowance)
-  de ← loadDebug
+  ks ← loadConstants size4 (loadFunction size4 allowance)
+  de ← loadDebug size4
   return (Function.function (record { source = src; lineDefined = ld; lastLineDefined = lld; numUpvalues = nu; numParams = np; isVararg = va; maxStackSize = ms; code = code; constants = ks .constants; debug = de }) (ks .functions))
 
 -- whether two lists of numbers are the same
@@ -185,8 +189,8 @@ abbrev pub signature : List ℕ
 signature = 0x1b ∷ 0x4c ∷ 0x75 ∷ 0x61 ∷ []
 
 -- version, format, endianness, and the sizes of int, size_t, Instruction and lua_Number; 0: numbers are floats (luaU_header)
-abbrev pub format : List ℕ
-format = 0x51 ∷ 0 ∷ 1 ∷ 4 ∷ 8 ∷ 4 ∷ 8 ∷ 0 ∷ []
+abbrev pub format : Bool → List ℕ
+format size4 = 0x51 ∷ 0 ∷ 1 ∷ 4 ∷ widthOf size4 ∷ 4 ∷ 8 ∷ 0 ∷ []
 
 -- these bytes, or refusal n
 abbrev pub loadExactly : List ℕ → ℕ → Reader (List ℕ)
@@ -194,8 +198,15 @@ loadExactly bytes n = do
   s ← loadBlock (length bytes)
   cond (same s bytes) (return s) (refuse n)
 
--- as the Rust's load_header: four bytes are compared (3), then eight (4). LoadHeader of lundump.c reads all twelve and then compares them
-unfoldable pub loadHeader : Reader (List ℕ)
+-- which of the two forms eight bytes have, whether it is that of sizes of four bytes; else refusal 4
+abbrev pub formatOf : List ℕ → Reader Bool
+formatOf s = cond (same s (format true)) (return true) (cond (same s (format false)) (return false) (refuse 4))
+
+abbrev pub loadFormat : Reader Bool
+loadFormat = loadBlock 8 >>= formatOf
+
+-- whether sizes take four bytes. As in the Rust's load_header four bytes are compared (3), then eight (4). LoadHeader of lundump.c reads all twelve and then compares them
+unfoldable pub loadHeader : Reader Bool
 loadHeader = do
   s ← loadExactly signature 3
-  loadExactly format 4
+  loadFormat

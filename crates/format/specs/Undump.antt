@@ -7,7 +7,7 @@ use lib.ListN.{length, take, drop}
 use lib.Dec.{leb}
 use Rattle.utf8.specs.Utf8.{isUtf8, repair}
 use Rattle.format.specs.Tree.{Source, Local, Debug, Function, Functions, with}
-use Rattle.format.specs.Read.{Read, Reader, _>>=_, return, loadHeader, loadFunction}
+use Rattle.format.specs.Read.{Read, Reader, _>>=_, return, widthOf, loadHeader, loadFunction}
 use Rattle.format.specs.Store.{wordsOf, textOf}
 use Rattle.format.specs.Valid.{depth, most}
 use Rattle.format.specs.declared.Undumped.{Undumped}
@@ -34,11 +34,16 @@ unfoldable mutual
 
 -- ---- a chunk: the header and the root function (luaU_undump); what stands behind is left
 
-unfoldable pub loadChunk : Reader Function
+-- what it holds: whether its sizes take four bytes, and the root function
+pub record Chunk : Type 0 where
+  pub size4 : Bool
+  pub root : Function
+
+unfoldable pub loadChunk : Reader Chunk
 loadChunk = do
-  h ← loadHeader
-  f ← loadFunction depth
-  return (repaired f)
+  size4 ← loadHeader
+  f ← loadFunction size4 depth
+  return (record { size4 = size4; root = repaired f })
 
 -- ---- the call
 
@@ -49,7 +54,7 @@ pub record UndumpLeft : Type 0 where
   pub text : List ℕ
 
 abbrev pub undumpRefused : ℕ → List ℕ → List ℕ → UndumpLeft
-undumpRefused n words text = record { answer = record { refusal = n; words = 0; text = 0; read = 0 }; words = words; text = text }
+undumpRefused n words text = record { answer = record { refusal = n; width = 0; words = 0; text = 0; read = 0 }; words = words; text = text }
 
 -- a chunk name, refused by 1 where it is not UTF-8 or too long
 abbrev pub nameOk : List ℕ → Bool
@@ -63,25 +68,25 @@ fits n lent = leb n (min (length lent) most)
 abbrev pub over : List ℕ → List ℕ → List ℕ
 over used lent = used ++ drop (length used) lent
 
--- a tree's store, in the space lent
-abbrev pub storeLeft : Function → ℕ → List ℕ → List ℕ → UndumpLeft
-storeLeft f read words text =
+-- a chunk's store, in the space lent
+abbrev pub storeLeft : Chunk → ℕ → List ℕ → List ℕ → UndumpLeft
+storeLeft c read words text =
     record {
-      answer = record { refusal = 0; words = length (wordsOf f); text = length (textOf f); read = read };
-      words = over (wordsOf f) words;
-      text = over (textOf f) text;
+      answer = record { refusal = 0; width = widthOf (c .size4); words = length (wordsOf (c .root)); text = length (textOf (c .root)); read = read };
+      words = over (wordsOf (c .root)) words;
+      text = over (textOf (c .root)) text;
     }
 
--- a tree was read: 8, 9, else its store
-abbrev pub storedOr : Function → ℕ → List ℕ → List ℕ → UndumpLeft
-storedOr f read words text =
-    cond (fits (length (wordsOf f)) words)
-    (cond (fits (length (textOf f)) text) (storeLeft f read words text) (undumpRefused 9 words text))
+-- a chunk was read: 8, 9, else its store
+abbrev pub storedOr : Chunk → ℕ → List ℕ → List ℕ → UndumpLeft
+storedOr c read words text =
+    cond (fits (length (wordsOf (c .root))) words)
+    (cond (fits (length (textOf (c .root))) text) (storeLeft c read words text) (undumpRefused 9 words text))
     (undumpRefused 8 words text)
 
--- by what reading the chunk gives
-abbrev pub undumpedBy : List ℕ → Read Function → List ℕ → List ℕ → UndumpLeft
-undumpedBy chunk (Read.got f rest) words text = storedOr f (length chunk - length rest) words text
+-- by what reading the bytes gives
+abbrev pub undumpedBy : List ℕ → Read Chunk → List ℕ → List ℕ → UndumpLeft
+undumpedBy chunk (Read.got c rest) words text = storedOr c (length chunk - length rest) words text
 undumpedBy chunk (Read.refused n) words text = undumpRefused n words text
 
 -- undump(chunk, name, words, text)
@@ -97,12 +102,12 @@ pub record UndumpLent : Type 0 where
   pub text : List ℕ
 
 -- refusal n is given to a call, reading its bytes giving x: 1; 2 to 7 as reading meets them; 8; 9
-pub data Refuses (c : UndumpLent) : Read Function → ℕ → Type 0 where
-  bad-name : {x : Read Function} → nameOk (c .name) ≡ false → Refuses c x 1
+pub data Refuses (c : UndumpLent) : Read Chunk → ℕ → Type 0 where
+  bad-name : {x : Read Chunk} → nameOk (c .name) ≡ false → Refuses c x 1
   reading : {n : ℕ} → nameOk (c .name) ≡ true → Refuses c (Read.refused n) n
-  few-words : {f : Function} {rest : List ℕ} → nameOk (c .name) ≡ true → min (length (c .words)) most < length (wordsOf f) → Refuses c (Read.got f rest) 8
-  few-text : {f : Function} {rest : List ℕ} → nameOk (c .name) ≡ true → length (wordsOf f) ≤ min (length (c .words)) most → min (length (c .text)) most < length (textOf f)
-      → Refuses c (Read.got f rest) 9
+  few-words : {x : Chunk} {rest : List ℕ} → nameOk (c .name) ≡ true → min (length (c .words)) most < length (wordsOf (x .root)) → Refuses c (Read.got x rest) 8
+  few-text : {x : Chunk} {rest : List ℕ} → nameOk (c .name) ≡ true → length (wordsOf (x .root)) ≤ min (length (c .words)) most → min (length (c .text)) most < length (textOf (x .root))
+      → Refuses c (Read.got x rest) 9
 
 -- the store that a call leaves: what it used of the space
 abbrev pub wordsUsed : UndumpLeft → List ℕ

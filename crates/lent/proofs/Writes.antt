@@ -1,5 +1,5 @@
 -- Writing to lent memory: one write, writes one after the other, and writes in a loop.
-use Rattle.lent.proofs.Prelude.{ℕ, suc, _+_, _-_, _≤_, _<_, min, _≡_, refl, sym, ap, _∙_, List, [], _∷_, _++_, arith, decLe, add-zero, add-one, length, take, drop, getD, set, length-append, length-take, length-drop, take-append-drop, sets, length-sets, set-out, set-set, set-comm, take-add, sets-eq, take-suc, take-all, length-take-le}
+use Rattle.lent.proofs.Prelude.{ℕ, suc, _+_, _-_, _≤_, _<_, min, _≡_, refl, sym, ap, _∙_, List, [], _∷_, _++_, arith, decLe, add-zero, add-one, length, take, drop, getD, set, length-append, length-take, length-drop, take-append-drop, sets, length-sets, set-out, set-set, set-comm, take-add, sets-eq, take-suc, take-all, length-take-le, drop-drop}
 use Rattle.lent.specs.Memory.{far, Puts}
 use Rattle.lent.proofs.Lists.{drop-more}
 
@@ -43,18 +43,31 @@ sets-over (v ∷ p) (u ∷ q) l i h =
     set-behind [] l i j u h = refl
     set-behind (v ∷ p) l i j u h = set-behind p (set l j v) i (suc j) u (omega arith) ∙ rw (set-comm l j i v u (λ e. omega arith))
 
--- four items more, over those from i on
-pub sets-four : {out out₁ : List ℕ} (l s : List ℕ) (at i j : ℕ) → i ≤ j → j ≤ i + 4 → i + 4 ≤ length s → out ≡ sets l at (take j s) → out₁ ≡ sets out (at + i) (take 4 (drop i s)) → out₁ ≡ sets l at (take (i + 4) s)
-sets-four l s at i j h k n e f =
+-- k items more, over those from i on
+pub sets-more : {out out₁ : List ℕ} (k : ℕ) (l s : List ℕ) (at i j : ℕ) → i ≤ j → j ≤ i + k → i + k ≤ length s → out ≡ sets l at (take j s) → out₁ ≡ sets out (at + i) (take k (drop i s)) → out₁ ≡ sets l at (take (i + k) s)
+sets-more k l s at i j h g n e f =
     let m : i + (j - i) ≡ j = omega arith in
     let t : length (take i s) ≡ i = length-take-le i s (omega arith) in
     let c : take j s ≡ take i s ++ take (j - i) (drop i s) = rw m at (take-add i (j - i) s) in
     let a : sets l at (take j s) ≡ sets (sets l at (take i s)) (at + i) (take (j - i) (drop i s)) = rw c (sym (rw t at (sets-append (take i s) l (take (j - i) (drop i s)) at))) in
-    let p : length (take (j - i) (drop i s)) ≤ length (take 4 (drop i s)) = rw (length-take (j - i) (drop i s), length-take 4 (drop i s), length-drop i s) (omega arith) in
+    let p : length (take (j - i) (drop i s)) ≤ length (take k (drop i s)) = rw (length-take (j - i) (drop i s), length-take k (drop i s), length-drop i s) (omega arith) in
     f
-    ∙ rw (e, a) (sets-over (take (j - i) (drop i s)) (take 4 (drop i s)) (sets l at (take i s)) (at + i) p)
-    ∙ rw t at (sets-append (take i s) l (take 4 (drop i s)) at)
-    ∙ rw (take-add i 4 s)
+    ∙ rw (e, a) (sets-over (take (j - i) (drop i s)) (take k (drop i s)) (sets l at (take i s)) (at + i) p)
+    ∙ rw t at (sets-append (take i s) l (take k (drop i s)) at)
+    ∙ rw (take-add i k s)
+
+-- four fours from i on, one behind the other
+pub fours-stored : {o₁ o₂ o₃ o₄ : List ℕ} (out s : List ℕ) (at i : ℕ) → i + 16 ≤ length s → o₁ ≡ sets out (at + i) (take 4 (drop i s))
+    → o₂ ≡ sets o₁ (at + (i + 4)) (take 4 (drop (i + 4) s)) → o₃ ≡ sets o₂ (at + (i + 8)) (take 4 (drop (i + 8) s)) → o₄ ≡ sets o₃ (at + (i + 12)) (take 4 (drop (i + 12) s))
+    → o₄ ≡ sets out (at + i) (take 16 (drop i s))
+fours-stored out s at i h a b c d = more 12 (omega arith) (more 8 (omega arith) (more 4 (omega arith) a b) c) d
+  where
+    more : {o₁ o₂ : List ℕ} (j : ℕ) → j ≤ 12 → o₁ ≡ sets out (at + i) (take j (drop i s)) → o₂ ≡ sets o₁ (at + (i + j)) (take 4 (drop (i + j) s)) → o₂ ≡ sets out (at + i) (take (j + 4) (drop i s))
+    more j k e f =
+        let n : length (drop i s) ≡ length s - i = length-drop i s in
+        let p : at + (i + j) ≡ at + i + j = omega arith in
+        let q : drop (i + j) s ≡ drop j (drop i s) = sym (drop-drop j i s) in
+        sets-more 4 out (drop i s) (at + i) j j (omega arith) (omega arith) (omega arith) e (rw (p, q) at f)
 
 -- four items, each at its place
 pub four-stored : (out s : List ℕ) (to i : ℕ) → i + 4 ≤ length s

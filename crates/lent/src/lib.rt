@@ -61,7 +61,18 @@ fn copy_four(out: &mut [u8], at: usize, s: &[u8], i: usize)
     out[to + 3] = d;
 }
 
-// The first n bytes of s, which fit. Few bytes are copied in fours, the last four of which may lie over those before them.
+// Sixteen bytes of s from i on, in fours.
+fn copy_sixteen(out: &mut [u8], at: usize, s: &[u8], i: usize)
+    requires { ⌜ (i + 16 ≤ length (now s)) × (at + i + 16 ≤ length (now out)) ⌝ }
+    ensures { λ r. ⌜ now (out .exit) ≡ sets (now (out .entry)) (at + i) (take 16 (drop i (now (s .entry)))) ⌝ }
+{
+    copy_four(out, at, s, i);
+    copy_four(out, at, s, i + 4);
+    copy_four(out, at, s, i + 8);
+    copy_four(out, at, s, i + 12);
+}
+
+// The first n bytes of s, which fit. Few bytes are copied in fours or sixteens, the last of which may lie over those before them.
 pub fn copy(out: &mut [u8], at: usize, s: &[u8], n: usize)
     requires { ⌜ (n ≤ length (now s)) × (at + n ≤ length (now out)) ⌝ }
     ensures { λ r. ⌜ now (out .exit) ≡ sets (now (out .entry)) at (take n (now (s .entry))) ⌝ }
@@ -70,8 +81,13 @@ pub fn copy(out: &mut [u8], at: usize, s: &[u8], n: usize)
         copy_each(out, at, s, n);
         return;
     }
-    if 16 < n {
+    if 32 < n {
         copy_each(out, at, s, n);
+        return;
+    }
+    if 16 < n {
+        copy_sixteen(out, at, s, 0);
+        copy_sixteen(out, at, s, n - 16);
         return;
     }
     copy_four(out, at, s, 0);

@@ -8,7 +8,7 @@ use Rattle.load_state.specs.declared.cursor.Cursor.{Cursor}
 use Rattle.load.specs.declared.Load.{Load}
 use Rattle.load_state.specs.ReadAt.{fourAt}
 use Rattle.load.specs.Loads.{ReadsBy, fours, space, Does, world, moved, Loads}
-use Rattle.load_state.proofs.Bytes.{int-got, int-none}
+use Rattle.load_state.proofs.Bytes.{int-got, number-none}
 use Rattle.load.proofs.Steps.{passed, takes, stops, bind}
 use Rattle.load.proofs.Stores.{join}
 
@@ -59,7 +59,7 @@ unfolding many
 many-none bs at zero h = absurd (omega arith)
 many-none bs at (suc n) h = elim (decLe 4 (length bs - at)) [
   | yes k ↦ rw (int-got bs at k, many-none bs (at + 4) n (omega arith))
-  | no k ↦ rw (int-none bs at (omega arith))
+  | no k ↦ rw (number-none 4 bs at (omega arith))
 ]
 
 -- ---- a list of integers, after its count

@@ -1,6 +1,6 @@
 -- Steps of the reader, one after the other.
-use Rattle.lent.proofs.Prelude.{ℕ, _≤_, _<_, _≡_, refl, _∙_, List, arith, le-leb, lt-leb, drop}
-use Rattle.format.specs.Read.{Read, Reader, got, refused, andThen, _>>=_, return, loadInt, limit, countOf, loadCount}
+use Rattle.lent.proofs.Prelude.{ℕ, _≤_, _<_, _≡_, refl, _∙_, List, Bool, true, false, arith, le-leb, lt-leb, drop}
+use Rattle.format.specs.Read.{Read, Reader, got, refused, andThen, _>>=_, return, loadNumber, loadInt, loadSize, limit, countOf, loadCount}
 use Rattle.load_state.specs.declared.cursor.Cursor.{Cursor}
 use Rattle.load_state.specs.ReadAt.{Ends, ReadAt}
 use Rattle.load.specs.Loads.{ReadsBy}
@@ -50,6 +50,16 @@ stays-then h k z = k (omega (arith, h z)) ∙ h z
 -- what was read at the cursor's place
 pub reads : {bs : List ℕ} {R : Reader ℕ} {v : ℕ} {s r : Cursor} → s .refusal ≤ 0 → ReadAt bs R (s .next) v r → ReadsBy bs R (λ a. a ≡ v) s r
 reads z h = record { stays = λ y. absurd (omega arith); goes = λ y. h .ends }
+
+-- a size, of four bytes or of eight
+module _ {bs : List ℕ} {size4 : Bool} {v : ℕ} {s r : Cursor} (z : s .refusal ≤ 0) where
+  pub size-of-4 : size4 ≡ true → ReadAt bs loadInt (s .next) v r → ReadsBy bs (loadSize size4) (λ a. a ≡ v) s r
+  unfolding loadSize
+  size-of-4 e h = rw e (reads z h)
+
+  pub size-of-8 : size4 ≡ false → ReadAt bs (loadNumber 8) (s .next) v r → ReadsBy bs (loadSize size4) (λ a. a ≡ v) s r
+  unfolding loadSize
+  size-of-8 e h = rw e (reads z h)
 
 -- ---- a list's count
 

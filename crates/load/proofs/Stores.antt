@@ -1,5 +1,5 @@
 -- Pieces stored one after the other, and what is read, stored.
-use Rattle.lent.proofs.Prelude.{ℕ, _+_, _-_, _≤_, _<_, min, _≡_, refl, _∙_, List, [], _∷_, _++_, append-assoc, arith, add-zero, length, length-append, take, drop, true, false}
+use Rattle.lent.proofs.Prelude.{ℕ, _+_, _-_, _≤_, _<_, min, _≡_, refl, _∙_, List, [], _∷_, _++_, append-assoc, arith, add-zero, length, length-append, take, drop, Bool, true, false}
 use Rattle.lent.specs.Memory.{far, Puts}
 use Rattle.lent.proofs.Writes.{put-none, put-then, put-length}
 use Rattle.format.specs.Store.{Piece, plain, word, _⊕_, string, constantPiece}
@@ -98,28 +98,28 @@ string-part bs start len = let e : start + len - start ≡ len = omega arith in 
 abbrev pub lentPart : List ℕ → Span → List ℕ
 lentPart bs z = take (z .start + z .len - z .start) (drop (z .start) bs)
 
-module _ {bs : List ℕ} {s p r : Load} {z : Span} {t : ℕ} {ws ws′ ts ts′ : List ℕ} (h : Strings bs (s .cursor) z) (e : p ≡ moved s (z .cursor)) where
+module _ {bs : List ℕ} {size4 : Bool} {s p r : Load} {z : Span} {t : ℕ} {ws ws′ ts ts′ : List ℕ} (h : Strings bs size4 (s .cursor) z) (e : p ≡ moved s (z .cursor)) where
   -- a name is repaired into the text, and its place and length are stored
   pub name-loaded : Puts (repair (lentPart bs z)) (s .text) ts t ts′ → r .cursor ≡ p .cursor
-      → ((b u u′ : List ℕ) → Puts b (p .text) u t u′ → Does (string b) (space p ws u) (space r ws′ u′)) → Loads bs loadText repairedName (world s ws ts) (world r ws′ ts′)
+      → ((b u u′ : List ℕ) → Puts b (p .text) u t u′ → Does (string b) (space p ws u) (space r ws′ u′)) → Loads bs (loadText size4) repairedName (world s ws ts) (world r ws′ ts′)
   name-loaded g f k =
       let g′ : Puts (repair (part bs (z .start) (z .len))) (s .text) ts t ts′ = rw string-part at g in
       stores (text-of h) (f ∙ rw e) (λ a q. rw q (rw e at (k (repair (part bs (z .start) (z .len))) ts ts′ (rw e g′))))
 
   -- a source of its own
   pub source-own : z .own ≡ true → r .cursor ≡ p .cursor → Puts (repair (lentPart bs z)) (p .text) ts t ts′
-      → ((b u u′ : List ℕ) → Puts b (p .text) u t u′ → Does (word 1 ⊕ string b) (space p ws u) (space r ws′ u′)) → Loads bs loadString repairedSourcePiece (world s ws ts) (world r ws′ ts′)
+      → ((b u u′ : List ℕ) → Puts b (p .text) u t u′ → Does (word 1 ⊕ string b) (space p ws u) (space r ws′ u′)) → Loads bs (loadString size4) repairedSourcePiece (world s ws ts) (world r ws′ ts′)
   source-own o f g k =
       let g′ : Puts (repair (part bs (z .start) (z .len))) (p .text) ts t ts′ = rw string-part at g in
       stores (h .reads) (f ∙ rw e) (λ a w. rw (w, o) (rw e at (k (repair (part bs (z .start) (z .len))) ts ts′ g′)))
 
 -- no source: three zeros
-pub source-none : {bs : List ℕ} {s p r : Load} {z : Span} {ws ws′ ts : List ℕ} → Strings bs (s .cursor) z → p ≡ moved s (z .cursor) → z .own ≡ false → r .cursor ≡ p .cursor
-    → Does (plain (0 ∷ 0 ∷ 0 ∷ [])) (space p ws ts) (space r ws′ ts) → Loads bs loadString repairedSourcePiece (world s ws ts) (world r ws′ ts)
+pub source-none : {bs : List ℕ} {size4 : Bool} {s p r : Load} {z : Span} {ws ws′ ts : List ℕ} → Strings bs size4 (s .cursor) z → p ≡ moved s (z .cursor) → z .own ≡ false → r .cursor ≡ p .cursor
+    → Does (plain (0 ∷ 0 ∷ 0 ∷ [])) (space p ws ts) (space r ws′ ts) → Loads bs (loadString size4) repairedSourcePiece (world s ws ts) (world r ws′ ts)
 source-none h e o f d = stores (h .reads) (f ∙ rw e) (λ a q. rw (q, o) (rw e at d))
 
 -- ---- constants
 
-pub constant-loaded : {bs : List ℕ} {s p r : Load} {m : Cursor} {v : Value} {ws ws′ ts ts′ : List ℕ} → ReadsBy bs loadConstant (λ a. a ≡ v) (s .cursor) m → p ≡ moved s m → r .cursor ≡ p .cursor
-    → Does (constantPiece v) (space p ws ts) (space r ws′ ts′) → Loads bs loadConstant constantPiece (world s ws ts) (world r ws′ ts′)
-constant-loaded h e f d = stores h (f ∙ rw e) (λ a q. rw q (rw e at d))
+pub constant-loaded : {bs : List ℕ} {s p r : Load} {m : Cursor} {v : Value} {ws ws′ ts ts′ : List ℕ} (size4 : Bool) → ReadsBy bs (loadConstant size4) (λ a. a ≡ v) (s .cursor) m → p ≡ moved s m → r .cursor ≡ p .cursor
+    → Does (constantPiece v) (space p ws ts) (space r ws′ ts′) → Loads bs (loadConstant size4) constantPiece (world s ws ts) (world r ws′ ts′)
+constant-loaded size4 h e f d = stores h (f ∙ rw e) (λ a q. rw q (rw e at d))

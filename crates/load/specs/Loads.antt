@@ -1,7 +1,7 @@
 -- What a step of the reader does, against what reading gives (Read) and what a store holds (Store).
 use Prim.Native.Nat.{ℕ, zero, suc, _+_, _≤_, _<_, min}
 use mathlib.Core.Path.{_≡_}
-use mathlib.Core.Bool.{false, cond}
+use mathlib.Core.Bool.{Bool, false, cond}
 use mathlib.Core.List.{List, [], _∷_}
 use lib.ListN.{length, drop, getD}
 use Rattle.lent.specs.Memory.{far, Puts}
@@ -42,15 +42,15 @@ pub record NoString (m : Cursor) (z : Span) : Type 0 where
   pub start : z .start ≡ 0
   pub len : z .len ≡ 0
 
--- a string: the span lies in the chunk, also where there is none
-pub record Strings (bs : List ℕ) (s : Cursor) (z : Span) : Type 0 where
-  pub reads : ReadsBy bs loadString (λ v. v ≡ spanned bs z) s (z .cursor)
+-- a string, its size of this width: the span lies in the chunk, also where there is none
+pub record Strings (bs : List ℕ) (size4 : Bool) (s : Cursor) (z : Span) : Type 0 where
+  pub reads : ReadsBy bs (loadString size4) (λ v. v ≡ spanned bs z) s (z .cursor)
   pub within : z .start + z .len ≤ length bs
   pub empty : z .own ≡ false → z .len ≡ 0
 
 -- a constant: k stands for it, its string lies in the chunk, and its tag is k's number
-pub record ReadsConstant (bs : List ℕ) (s : Cursor) (k : Constant) (r : Cursor) : Type 0 where
-  pub reads : ReadsBy bs loadConstant (λ a. a ≡ valueOf bs k) s r
+pub record ReadsConstant (bs : List ℕ) (size4 : Bool) (s : Cursor) (k : Constant) (r : Cursor) : Type 0 where
+  pub reads : ReadsBy bs (loadConstant size4) (λ a. a ≡ valueOf bs k) s r
   pub lies : LiesIn bs k
   pub numbered : s .refusal ≡ 0 → r .refusal ≡ 0 → getD bs (s .next) 0 ≡ meaningOf k .number
 

@@ -53,13 +53,22 @@ pub fn load_int(chunk: &[u8], s: Cursor) -> Int
     read_int(chunk, s.next)
 }
 
-pub fn load_size(chunk: &[u8], s: Cursor) -> Size
-    ensures { λ r. ⌜ ReadsBy (now (chunk .entry)) loadSize (λ a. a ≡ r .value) s (r .cursor) ⌝ }
+// A size: four bytes, which are an integer, or eight.
+pub fn load_size(chunk: &[u8], s: Cursor, size_4: bool) -> Size
+    ensures { λ r. ⌜ ReadsBy (now (chunk .entry)) (loadSize «size_4») (λ a. a ≡ r .value) s (r .cursor) ⌝ }
 {
     if 0 < s.refusal {
         return Size {
             value: 0,
             cursor: s,
+        };
+    }
+    if size_4 {
+        let n = read_int(chunk, s.next);
+        let cursor = n.cursor;
+        return Size {
+            value: n.value as u64,
+            cursor,
         };
     }
     read_size(chunk, s.next)
@@ -94,10 +103,10 @@ fn no_string(s: Cursor) -> Span
 }
 
 // A string: its size, which counts the last byte, and its bytes, of which the last is skipped.
-pub fn load_string(chunk: &[u8], s: Cursor) -> Span
-    ensures { λ r. ⌜ Strings (now (chunk .entry)) s r ⌝ }
+pub fn load_string(chunk: &[u8], s: Cursor, size_4: bool) -> Span
+    ensures { λ r. ⌜ Strings (now (chunk .entry)) «size_4» s r ⌝ }
 {
-    let z = load_size(chunk, s);
+    let z = load_size(chunk, s, size_4);
     let c = z.cursor;
     let size = z.value;
     if 0 < c.refusal {
@@ -123,8 +132,8 @@ pub fn load_string(chunk: &[u8], s: Cursor) -> Span
 }
 
 // A constant, by its tag.
-pub fn load_constant(chunk: &[u8], s: Cursor) -> Loaded
-    ensures { λ r. ⌜ ReadsConstant (now (chunk .entry)) s (r .constant) (r .cursor) ⌝ }
+pub fn load_constant(chunk: &[u8], s: Cursor, size_4: bool) -> Loaded
+    ensures { λ r. ⌜ ReadsConstant (now (chunk .entry)) «size_4» s (r .constant) (r .cursor) ⌝ }
 {
     let t = load_byte(chunk, s);
     let c = t.cursor;
@@ -158,7 +167,7 @@ pub fn load_constant(chunk: &[u8], s: Cursor) -> Loaded
             }
         }
         4 => {
-            let z = load_string(chunk, c);
+            let z = load_string(chunk, c, size_4);
             let d = z.cursor;
             Loaded {
                 constant: Constant::String(z.start, z.len),

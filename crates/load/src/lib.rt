@@ -32,7 +32,7 @@ pub struct Counted {
 fn word(n: usize) -> u32
     ensures { λ r. ⌜ (n < 4294967296 → r ≡ n) ⌝ }
 {
-    if n < 4294967296 { n as u32 } else { 0 }
+    (n % 4294967296) as u32
 }
 
 // a - b, or 0.
@@ -106,10 +106,10 @@ pub fn put3(words: &mut [u32], s: Load, a: u32, b: u32, c: u32) -> Load
 }
 
 // A name: its bytes, repaired, go to the text, its place and its length to the words.
-pub fn load_name(chunk: &[u8], words: &mut [u32], text: &mut [u8], s: Load) -> Load
-    ensures { λ r. ⌜ Loads (now (chunk .entry)) loadText repairedName (world s (now (words .entry)) (now (text .entry))) (world r (now (words .exit)) (now (text .exit))) ⌝ }
+pub fn load_name(chunk: &[u8], words: &mut [u32], text: &mut [u8], s: Load, size_4: bool) -> Load
+    ensures { λ r. ⌜ Loads (now (chunk .entry)) (loadText «size_4») repairedName (world s (now (words .entry)) (now (text .entry))) (world r (now (words .exit)) (now (text .exit))) ⌝ }
 {
-    let z = load_string(chunk, s.cursor);
+    let z = load_string(chunk, s.cursor, size_4);
     let start = z.start;
     let end = start + z.len;
     let t = utf8::repair(&chunk[start..end], text, s.text);
@@ -117,10 +117,10 @@ pub fn load_name(chunk: &[u8], words: &mut [u32], text: &mut [u8], s: Load) -> L
 }
 
 // A source: whether it is the function's own, its place and its length.
-pub fn load_source(chunk: &[u8], words: &mut [u32], text: &mut [u8], s: Load) -> Load
-    ensures { λ r. ⌜ Loads (now (chunk .entry)) loadString repairedSourcePiece (world s (now (words .entry)) (now (text .entry))) (world r (now (words .exit)) (now (text .exit))) ⌝ }
+pub fn load_source(chunk: &[u8], words: &mut [u32], text: &mut [u8], s: Load, size_4: bool) -> Load
+    ensures { λ r. ⌜ Loads (now (chunk .entry)) (loadString «size_4») repairedSourcePiece (world s (now (words .entry)) (now (text .entry))) (world r (now (words .exit)) (now (text .exit))) ⌝ }
 {
-    let z = load_string(chunk, s.cursor);
+    let z = load_string(chunk, s.cursor, size_4);
     let p = at(s, z.cursor);
     if !z.own {
         return put3(words, p, 0, 0, 0);

@@ -1,5 +1,5 @@
 -- Lists read item by item.
-use Rattle.lent.proofs.Prelude.{ℕ, suc, _+_, _≤_, _<_, arith, _≡_, refl, ap, _∙_, List, [], _∷_, map, length}
+use Rattle.lent.proofs.Prelude.{ℕ, suc, _+_, _≤_, _<_, arith, decLt, _≡_, refl, ap, _∙_, List, [], _∷_, map, Bool, length}
 use Rattle.format.specs.Tree.{Functions, count}
 use Rattle.format.specs.Read.{Reader, _>>=_, return, many, manyFunctions, loadFunction, loadText, loadInt, loadLocal}
 use Rattle.format.specs.Store.{Piece, plain, word, _⊕_, pieces, functionPieces}
@@ -29,9 +29,9 @@ pub plain-items : {A : Type 0} (R : Reader A) (piece : A → Piece) → Listing 
 unfolding many pieces
 plain-items R piece = record { nil = []; cons = λ a l. a ∷ l; none = (refl, refl, refl); more = λ n. refl; cell = λ a l. (refl, refl) }
 
-pub function-items : (allowance : ℕ) → Listing (loadFunction allowance) (manyFunctions (loadFunction allowance)) (λ fs. count (repairedAll fs)) repairedFunction (λ fs. functionPieces (repairedAll fs))
+pub function-items : (size4 : Bool) (allowance : ℕ) → Listing (loadFunction size4 allowance) (manyFunctions (loadFunction size4 allowance)) (λ fs. count (repairedAll fs)) repairedFunction (λ fs. functionPieces (repairedAll fs))
 unfolding manyFunctions count functionPieces repairedAll
-function-items allowance = record { nil = Functions.none; cons = λ f fs. Functions.more f fs; none = (refl, refl, refl); more = λ n. refl; cell = λ f fs. (refl, refl) }
+function-items size4 allowance = record { nil = Functions.none; cons = λ f fs. Functions.more f fs; none = (refl, refl, refl); more = λ n. refl; cell = λ f fs. (refl, refl) }
 
 -- n items are read from σ to ρ
 abbrev pub LoadsAll : {L : Type 0} → List ℕ → (ℕ → Reader L) → (L → ℕ) → (L → Piece) → ℕ → World → World → Type 0
@@ -43,6 +43,7 @@ pub record Loading {L : Type 0} (bs : List ℕ) (Many : ℕ → Reader L) (size 
   pub words : length (σ .words) ≡ length (σ₀ .words)
   pub text : length (σ .text) ≡ length (σ₀ .text)
   pub loop : Loop (LoadsAll bs Many size all) n σ₀ i σ
+  pub none : (ρ : World) → LoadsAll bs Many size all 0 ρ ρ
 
 -- over items that are changed by g before they are stored
 abbrev pub LoadingItems : {A B : Type 0} → Reader A → (A → B) → (B → Piece) → List ℕ → ℕ → World → ℕ → World → Type 0
@@ -57,31 +58,33 @@ counted : {L : Type 0} {bs : List ℕ} {size : L → ℕ} {all : L → Piece} {n
     (Many : ℕ → Reader L) → Counts bs C n s ws s₀ ws₀ → LoadsAll bs Many size all n (world s₀ ws₀ ts) σ → Loads bs (C >>= Many) (λ l. word (size l) ⊕ all l) (world s ws ts) σ
 counted {ts = ts} Many c t = bind Many (c ts) (t .stays) (λ a e. rw (e .0) (weaken (λ l d. rw (d .0) (join (rw (e .0) at (e .1)) (d .1))) t))
 
-pub loading-start : {L : Type 0} {bs : List ℕ} {Many : ℕ → Reader L} {size : L → ℕ} {all : L → Piece} {n : ℕ} {σ : World} → Loading bs Many size all n σ 0 σ
-loading-start = record { within = omega arith; words = refl; text = refl; loop = loop-start }
-
 module _ {A L : Type 0} {R : Reader A} {Many : ℕ → Reader L} {size : L → ℕ} {piece : A → Piece} {all : L → Piece}
-    (laws : Listing R Many size piece all) {bs : List ℕ} {n i : ℕ} where
-  pub loading-turn : {σ₀ σ m : World} → Loading bs Many size all n σ₀ i σ → Loads bs R piece σ m → i < n
+    (laws : Listing R Many size piece all) {bs : List ℕ} {n : ℕ} where
+  pub loading-start : {σ : World} → Loading bs Many size all n σ 0 σ
+  loading-start =
+      record { within = omega arith; words = refl; text = refl; loop = loop-start; none = λ ρ. rw (laws .none .0) (done (laws .nil) (laws .none .1, rw (laws .none .2) nothing)) }
+
+  pub loading-turn : {i : ℕ} {σ₀ σ m : World} → Loading bs Many size all n σ₀ i σ → Loads bs R piece σ m → i < n
       → length (m .words) ≡ length (σ .words) → length (m .text) ≡ length (σ .text) → Loading bs Many size all n σ₀ (i + 1) m
-  loading-turn {σ = σ} {m = m} h d k w t = record { within = omega arith; words = w ∙ h .words; text = t ∙ h .text; loop = loop-turn k (h .loop) more }
+  loading-turn {σ = σ} {m = m} h d k w t = record { within = omega arith; words = w ∙ h .words; text = t ∙ h .text; loop = loop-turn k (h .loop) more; none = h .none }
     where
       more : (k : ℕ) (ρ : World) → LoadsAll bs Many size all k m ρ → LoadsAll bs Many size all (suc k) σ ρ
       more k ρ t =
           rw (laws .more k)
           (bind _ d (t .stays) (λ a f. bind _ t (λ z. refl) (λ l e. done (laws .cons a l) (laws .cell a l .0 ∙ ap suc (e .0), rw (laws .cell a l .1) (join f (e .1))))))
 
-  module _ {C : Reader ℕ} {s s₀ : Load} {ws ws₀ ts : List ℕ} {σ : World} (c : Counts bs C n s ws s₀ ws₀) (h : Loading bs Many size all n (world s₀ ws₀ ts) i σ) where
-    pub loading-end : n ≤ i → Loads bs (C >>= Many) (λ l. word (size l) ⊕ all l) (world s ws ts) σ
-    loading-end k = counted Many c (loop-end k (h .loop) (rw (laws .none .0) (done (laws .nil) (laws .none .1, rw (laws .none .2) nothing))))
+module _ {L : Type 0} {bs : List ℕ} {Many : ℕ → Reader L} {size : L → ℕ} {all : L → Piece} {C : Reader ℕ} {n i : ℕ} {s s₀ : Load} {ws ws₀ ts : List ℕ} {σ : World}
+    (c : Counts bs C n s ws s₀ ws₀) (h : Loading bs Many size all n (world s₀ ws₀ ts) i σ) where
+  pub loading-end : n ≤ i → Loads bs (C >>= Many) (λ l. word (size l) ⊕ all l) (world s ws ts) σ
+  loading-end k = counted Many c (loop-end k (h .loop) (h .none σ))
 
-    -- a refusal ends it at once
-    pub loading-stop : i < n → 0 < σ .load .cursor .refusal → Loads bs (C >>= Many) (λ l. word (size l) ⊕ all l) (world s ws ts) σ
-    loading-stop k z = counted Many c (loop-stop k (h .loop) (λ k. passed z refl))
+  -- a refusal ends it at once
+  pub loading-stop : 0 < σ .load .cursor .refusal → Loads bs (C >>= Many) (λ l. word (size l) ⊕ all l) (world s ws ts) σ
+  loading-stop z = elim (decLt i n) [ yes k ↦ counted Many c (loop-stop k (h .loop) (λ k. passed z refl)) | no k ↦ loading-end (omega arith) ]
 
 -- ---- a local
 
-pub local-loaded : {bs ws₁ ws₂ ws₃ ts : List ℕ} {σ : World} {a b r : Load} → Loads bs loadText repairedName σ (world a ws₁ ts)
-    → ((t : List ℕ) → Loads bs loadInt word (world a ws₁ t) (world b ws₂ t)) → ((t : List ℕ) → Loads bs loadInt word (world b ws₂ t) (world r ws₃ t)) → Loads bs loadLocal repairedLocalPiece σ (world r ws₃ ts)
-local-loaded {ts = ts} h k l =
+pub local-loaded : {bs ws₁ ws₂ ws₃ ts : List ℕ} {σ : World} {a b r : Load} (size4 : Bool) → Loads bs (loadText size4) repairedName σ (world a ws₁ ts)
+    → ((t : List ℕ) → Loads bs loadInt word (world a ws₁ t) (world b ws₂ t)) → ((t : List ℕ) → Loads bs loadInt word (world b ws₂ t) (world r ws₃ t)) → Loads bs (loadLocal size4) repairedLocalPiece σ (world r ws₃ ts)
+local-loaded {ts = ts} size4 h k l =
     bind _ h (stays-then (k ts .stays) (l ts .stays)) (λ n d. bind _ (k ts) (l ts .stays) (λ s e. bind _ (l ts) (λ z. refl) (λ t f. done _ (join d (join e f)))))

@@ -1,4 +1,4 @@
-// Functions, one inside the other.
+// Functions, one inside the other. The width of sizes is passed along.
 pub mod list;
 
 use list::load_locals;
@@ -28,12 +28,12 @@ pub fn load_code(chunk: &[u8], words: &mut [u32], s: Load) -> Load
 }
 
 // The lines, the locals and the upvalue names.
-pub fn load_debug(chunk: &[u8], words: &mut [u32], text: &mut [u8], s: Load) -> Load
-    ensures { λ r. ⌜ Loads (now (chunk .entry)) loadDebug repairedDebugPiece (world s (now (words .entry)) (now (text .entry))) (world r (now (words .exit)) (now (text .exit))) ⌝ }
+pub fn load_debug(chunk: &[u8], words: &mut [u32], text: &mut [u8], s: Load, size_4: bool) -> Load
+    ensures { λ r. ⌜ Loads (now (chunk .entry)) (loadDebug «size_4») repairedDebugPiece (world s (now (words .entry)) (now (text .entry))) (world r (now (words .exit)) (now (text .exit))) ⌝ }
 {
     let a = load_ints(chunk, words, s);
-    let b = load_locals(chunk, words, text, a);
-    load_names(chunk, words, text, b)
+    let b = load_locals(chunk, words, text, a, size_4);
+    load_names(chunk, words, text, b, size_4)
 }
 
 // A function, with so many functions nested at most.
@@ -43,8 +43,9 @@ pub fn load_function(
     text: &mut [u8],
     s: Load,
     allowance: u32,
+    size_4: bool,
 ) -> Load
-    ensures { λ r. ⌜ Loads (now (chunk .entry)) (loadFunction allowance) repairedFunction (world s (now (words .entry)) (now (text .entry))) (world r (now (words .exit)) (now (text .exit))) ⌝ }
+    ensures { λ r. ⌜ Loads (now (chunk .entry)) (loadFunction «size_4» allowance) repairedFunction (world s (now (words .entry)) (now (text .entry))) (world r (now (words .exit)) (now (text .exit))) ⌝ }
 {
     if 0 < s.cursor.refusal {
         return s;
@@ -52,7 +53,7 @@ pub fn load_function(
     if allowance == 0 {
         return at(s, refused(7));
     }
-    let a = load_source(chunk, words, text, s);
+    let a = load_source(chunk, words, text, s, size_4);
     let b = copy_int(chunk, words, a);
     let c = copy_int(chunk, words, b);
     let nu = load_byte(chunk, c.cursor);
@@ -65,8 +66,8 @@ pub fn load_function(
         joined(ms.value, va.value, np.value, nu.value),
     );
     let e = load_code(chunk, words, d);
-    let f = load_constants(chunk, words, text, e, allowance - 1);
-    load_debug(chunk, words, text, f)
+    let f = load_constants(chunk, words, text, e, allowance - 1, size_4);
+    load_debug(chunk, words, text, f, size_4)
 }
 
 // The constants of a function, then the functions inside it.
@@ -76,10 +77,11 @@ pub fn load_constants(
     text: &mut [u8],
     s: Load,
     allowance: u32,
+    size_4: bool,
 ) -> Load
-    ensures { λ r. ⌜ Loads (now (chunk .entry)) (loadConstants (loadFunction allowance)) repairedConstants (world s (now (words .entry)) (now (text .entry))) (world r (now (words .exit)) (now (text .exit))) ⌝ }
+    ensures { λ r. ⌜ Loads (now (chunk .entry)) (loadConstants «size_4» (loadFunction «size_4» allowance)) repairedConstants (world s (now (words .entry)) (now (text .entry))) (world r (now (words .exit)) (now (text .exit))) ⌝ }
 {
-    let a = load_pool(chunk, words, text, s);
+    let a = load_pool(chunk, words, text, s, size_4);
     let c = copy_count(chunk, words, a);
     let n = c.n;
     let mut p = c.load;
@@ -88,7 +90,7 @@ pub fn load_constants(
         if 0 < p.cursor.refusal {
             return p;
         }
-        p = load_function(chunk, words, text, p, allowance);
+        p = load_function(chunk, words, text, p, allowance, size_4);
         i += 1;
     }
     p

@@ -1,4 +1,4 @@
-// The lists of a function whose items are read one by one, each after its count.
+// The lists of a function whose items are read one by one, each after its count. The width of sizes is passed along.
 use format::Constant;
 use load::Load;
 use load::at;
@@ -40,68 +40,77 @@ fn put_constant(chunk: &[u8], words: &mut [u32], text: &mut [u8], s: Load, k: Co
     }
 }
 
-fn copy_constant(chunk: &[u8], words: &mut [u32], text: &mut [u8], s: Load) -> Load
-    ensures { λ r. ⌜ Loads (now (chunk .entry)) loadConstant constantPiece (world s (now (words .entry)) (now (text .entry))) (world r (now (words .exit)) (now (text .exit))) ⌝ }
+fn copy_constant(chunk: &[u8], words: &mut [u32], text: &mut [u8], s: Load, size_4: bool) -> Load
+    ensures { λ r. ⌜ Loads (now (chunk .entry)) (loadConstant «size_4») constantPiece (world s (now (words .entry)) (now (text .entry))) (world r (now (words .exit)) (now (text .exit))) ⌝ }
 {
-    let z = load_constant(chunk, s.cursor);
+    let z = load_constant(chunk, s.cursor, size_4);
     let k = z.constant;
     put_constant(chunk, words, text, at(s, z.cursor), k)
 }
 
-pub fn load_pool(chunk: &[u8], words: &mut [u32], text: &mut [u8], s: Load) -> Load
-    ensures { λ r. ⌜ Loads (now (chunk .entry)) (loadList loadConstant) (listPiece constantPiece) (world s (now (words .entry)) (now (text .entry))) (world r (now (words .exit)) (now (text .exit))) ⌝ }
+pub fn load_pool(chunk: &[u8], words: &mut [u32], text: &mut [u8], s: Load, size_4: bool) -> Load
+    ensures { λ r. ⌜ Loads (now (chunk .entry)) (loadList (loadConstant «size_4»)) (listPiece constantPiece) (world s (now (words .entry)) (now (text .entry))) (world r (now (words .exit)) (now (text .exit))) ⌝ }
 {
     let c = copy_count(chunk, words, s);
     let n = c.n;
     let mut p = c.load;
+    if 0 < p.cursor.refusal {
+        return p;
+    }
     let mut i: u32 = 0;
     while i < n {
+        p = copy_constant(chunk, words, text, p, size_4);
         if 0 < p.cursor.refusal {
             return p;
         }
-        p = copy_constant(chunk, words, text, p);
         i += 1;
     }
     p
 }
 
-fn load_local(chunk: &[u8], words: &mut [u32], text: &mut [u8], s: Load) -> Load
-    ensures { λ r. ⌜ Loads (now (chunk .entry)) loadLocal repairedLocalPiece (world s (now (words .entry)) (now (text .entry))) (world r (now (words .exit)) (now (text .exit))) ⌝ }
+fn load_local(chunk: &[u8], words: &mut [u32], text: &mut [u8], s: Load, size_4: bool) -> Load
+    ensures { λ r. ⌜ Loads (now (chunk .entry)) (loadLocal «size_4») repairedLocalPiece (world s (now (words .entry)) (now (text .entry))) (world r (now (words .exit)) (now (text .exit))) ⌝ }
 {
-    let p = load_name(chunk, words, text, s);
+    let p = load_name(chunk, words, text, s, size_4);
     let q = copy_int(chunk, words, p);
     copy_int(chunk, words, q)
 }
 
-pub fn load_locals(chunk: &[u8], words: &mut [u32], text: &mut [u8], s: Load) -> Load
-    ensures { λ r. ⌜ Loads (now (chunk .entry)) (loadList loadLocal) repairedLocals (world s (now (words .entry)) (now (text .entry))) (world r (now (words .exit)) (now (text .exit))) ⌝ }
+pub fn load_locals(chunk: &[u8], words: &mut [u32], text: &mut [u8], s: Load, size_4: bool) -> Load
+    ensures { λ r. ⌜ Loads (now (chunk .entry)) (loadList (loadLocal «size_4»)) repairedLocals (world s (now (words .entry)) (now (text .entry))) (world r (now (words .exit)) (now (text .exit))) ⌝ }
 {
     let c = copy_count(chunk, words, s);
     let n = c.n;
     let mut p = c.load;
+    if 0 < p.cursor.refusal {
+        return p;
+    }
     let mut i: u32 = 0;
     while i < n {
+        p = load_local(chunk, words, text, p, size_4);
         if 0 < p.cursor.refusal {
             return p;
         }
-        p = load_local(chunk, words, text, p);
         i += 1;
     }
     p
 }
 
-pub fn load_names(chunk: &[u8], words: &mut [u32], text: &mut [u8], s: Load) -> Load
-    ensures { λ r. ⌜ Loads (now (chunk .entry)) (loadList loadText) repairedNames (world s (now (words .entry)) (now (text .entry))) (world r (now (words .exit)) (now (text .exit))) ⌝ }
+pub fn load_names(chunk: &[u8], words: &mut [u32], text: &mut [u8], s: Load, size_4: bool) -> Load
+    ensures { λ r. ⌜ Loads (now (chunk .entry)) (loadList (loadText «size_4»)) repairedNames (world s (now (words .entry)) (now (text .entry))) (world r (now (words .exit)) (now (text .exit))) ⌝ }
 {
     let c = copy_count(chunk, words, s);
     let n = c.n;
     let mut p = c.load;
+    if 0 < p.cursor.refusal {
+        return p;
+    }
     let mut i: u32 = 0;
     while i < n {
+        p = load_name(chunk, words, text, p, size_4);
         if 0 < p.cursor.refusal {
             return p;
         }
-        p = load_name(chunk, words, text, p);
         i += 1;
     }
     p

@@ -1,7 +1,7 @@
 -- What reading a byte or a number gives at a place of the chunk.
-use Rattle.lent.proofs.Prelude.{ℕ, _+_, _*_, _-_, _≤_, _<_, _≡_, sym, List, _∷_, arith, add-zero, length, take, drop, getD, length-drop, drop-of-length-le, le-leb, lt-leb}
+use Rattle.lent.proofs.Prelude.{ℕ, _+_, _*_, _-_, _≤_, _<_, _≡_, sym, _∙_, List, _∷_, arith, add-zero, length, take, drop, getD, length-drop, drop-drop, drop-of-length-le, le-leb, lt-leb}
 use Rattle.lent.proofs.Lists.{drop-more}
-use Rattle.format.specs.Read.{Reader, got, refused, loadByte, loadBlock, loadInt, loadSize, littleEndian}
+use Rattle.format.specs.Read.{Reader, got, refused, loadByte, loadBlock, loadNumber, loadInt, littleEndian}
 use Rattle.load_state.specs.declared.cursor.Cursor.{Cursor}
 use Rattle.load_state.specs.ReadAt.{fourAt, ReadAt}
 
@@ -26,27 +26,34 @@ block-got n bs h = rw (le-leb n (length bs) h, loadBlock)
 pub block-none : (n : ℕ) (bs : List ℕ) → length bs < n → loadBlock n bs ≡ refused 2
 block-none n bs h = rw (lt-leb n (length bs) h, loadBlock)
 
-pub int-got : (bs : List ℕ) (at : ℕ) → 4 ≤ length bs - at → loadInt (drop at bs) ≡ got (fourAt bs at) (drop (at + 4) bs)
+-- at a place: a block, and a number of any width, low byte first
+module _ (width : ℕ) (bs : List ℕ) (at : ℕ) where
+  pub block-at : width ≤ length bs - at → loadBlock width (drop at bs) ≡ got (take width (drop at bs)) (drop (at + width) bs)
+  block-at h = block-got width (drop at bs) (rw length-drop h) ∙ rw (drop-drop width at bs)
+
+  pub block-short : length bs - at < width → loadBlock width (drop at bs) ≡ refused 2
+  block-short h = block-none width (drop at bs) (rw length-drop h)
+
+  pub number-got : width ≤ length bs - at → loadNumber width (drop at bs) ≡ got (littleEndian (take width (drop at bs))) (drop (at + width) bs)
+  number-got h = rw (block-at h)
+
+  pub number-none : length bs - at < width → loadNumber width (drop at bs) ≡ refused 2
+  number-none h = rw (block-short h)
+
+-- the two widths, by the fours that are read
+four-is : (bs : List ℕ) (at : ℕ) → 4 ≤ length bs - at → fourAt bs at ≡ littleEndian (take 4 (drop at bs))
 unfolding littleEndian
-int-got bs at h =
-    let enough : 4 ≤ length (drop at bs) = rw length-drop h in
-    rw (block-got 4 (drop at bs) enough, four bs at (omega arith)) (simp add-zero)
+four-is bs at h = rw (four bs at (omega arith)) (simp add-zero)
 
-pub int-none : (bs : List ℕ) (at : ℕ) → length bs - at < 4 → loadInt (drop at bs) ≡ refused 2
-int-none bs at h = rw (block-none 4 (drop at bs) (rw length-drop h))
+pub int-got : (bs : List ℕ) (at : ℕ) → 4 ≤ length bs - at → loadInt (drop at bs) ≡ got (fourAt bs at) (drop (at + 4) bs)
+int-got bs at h = rw (four-is bs at h) (number-got 4 bs at h)
 
-eight : (a b c d e f g h : ℕ) → a + 256 * (b + 256 * (c + 256 * (d + 256 * (e + 256 * (f + 256 * (g + 256 * (h + 0))))))) ≡ a + 256 * (b + 256 * (c + 256 * d)) + 4294967296 * (e + 256 * (f + 256 * (g + 256 * h)))
+eight : (a b c d e f g h : ℕ) → a + 256 * (b + 256 * (c + 256 * d)) + 4294967296 * (e + 256 * (f + 256 * (g + 256 * h))) ≡ a + 256 * (b + 256 * (c + 256 * (d + 256 * (e + 256 * (f + 256 * (g + 256 * (h + 0)))))))
 eight a b c d e f g h = omega arith
 
-pub size-got : (bs : List ℕ) (at : ℕ) → 8 ≤ length bs - at → loadSize (drop at bs) ≡ got (fourAt bs at + 4294967296 * fourAt bs (at + 4)) (drop (at + 8) bs)
+eight-is : (bs : List ℕ) (at : ℕ) → 8 ≤ length bs - at → fourAt bs at + 4294967296 * fourAt bs (at + 4) ≡ littleEndian (take 8 (drop at bs))
 unfolding littleEndian
-size-got bs at h =
-    let enough : 8 ≤ length (drop at bs) = rw length-drop h in
-    let e : at + 4 + 4 ≡ at + 8 = omega arith in
-    rw (block-got 8 (drop at bs) enough, four bs at (omega arith), four bs (at + 4) (omega arith), e) (simp eight)
-
-pub size-none : (bs : List ℕ) (at : ℕ) → length bs - at < 8 → loadSize (drop at bs) ≡ refused 2
-size-none bs at h = rw (block-none 8 (drop at bs) (rw length-drop h))
+eight-is bs at h = rw (four bs at (omega arith), four bs (at + 4) (omega arith)) (eight _ _ _ _ _ _ _ _)
 
 -- ---- as a cursor: a value that was read, or a refusal that was met
 
@@ -64,14 +71,11 @@ module _ {bs : List ℕ} {at v : ℕ} {r : Cursor} where
   pub byte-missing : length bs ≤ at → r .refusal ≡ 2 → ReadAt bs loadByte at v r
   byte-missing h e = missing (byte-none bs at h) e (omega arith)
 
+  pub number-missing : {width : ℕ} → length bs - at < width → r .refusal ≡ 2 → ReadAt bs (loadNumber width) at v r
+  number-missing {width} h e = missing (number-none width bs at h) e (omega arith)
+
   pub int-taken : 4 ≤ length bs - at → v ≡ fourAt bs at → r .refusal ≡ 0 → r .next ≡ at + 4 → ReadAt bs loadInt at v r
   int-taken h e f g = taken (int-got bs at h) f (rw g) e
 
-  pub int-missing : length bs - at < 4 → r .refusal ≡ 2 → ReadAt bs loadInt at v r
-  int-missing h e = missing (int-none bs at h) e (omega arith)
-
-  pub size-taken : 8 ≤ length bs - at → v ≡ fourAt bs at + 4294967296 * fourAt bs (at + 4) → r .refusal ≡ 0 → r .next ≡ at + 8 → ReadAt bs loadSize at v r
-  size-taken h e f g = taken (size-got bs at h) f (rw g) e
-
-  pub size-missing : length bs - at < 8 → r .refusal ≡ 2 → ReadAt bs loadSize at v r
-  size-missing h e = missing (size-none bs at h) e (omega arith)
+  pub size-taken : 8 ≤ length bs - at → v ≡ fourAt bs at + 4294967296 * fourAt bs (at + 4) → r .refusal ≡ 0 → r .next ≡ at + 8 → ReadAt bs (loadNumber 8) at v r
+  size-taken h e f g = taken (number-got 8 bs at h) f (rw g) (e ∙ eight-is bs at h)

@@ -1,7 +1,7 @@
 -- What the contracts of the readers of a number say of their answer. Written by tools/thin.py.
 use Prim.Native.Nat.{ℕ}
 use mathlib.Core.List.{List}
-use Rattle.format.specs.Read.{loadByte, loadInt, loadSize}
+use Rattle.format.specs.Read.{loadByte, loadInt, loadNumber}
 use Rattle.load_state.specs.ReadAt.{ReadAt}
 use Rattle.load_state.specs.declared.cursor.Byte.{Byte}
 use Rattle.load_state.specs.declared.cursor.Int.{Int}
@@ -14,4 +14,4 @@ abbrev pub intSays : List ℕ → ℕ → Int → Type 0
 intSays bs at r = ReadAt bs loadInt at (r .value) (r .cursor)
 
 abbrev pub sizeSays : List ℕ → ℕ → Size → Type 0
-sizeSays bs at r = ReadAt bs loadSize at (r .value) (r .cursor)
+sizeSays bs at r = ReadAt bs (loadNumber 8) at (r .value) (r .cursor)

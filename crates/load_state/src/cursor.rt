@@ -3,7 +3,7 @@
 ghost use mathlib.Core.Path.{_≡_};
 ghost use Prim.Native.Nat.{_+_, _*_, _-_, _≤_};
 ghost use lib.ListN.{length};
-ghost use Rattle.format.specs.Read.{loadByte, loadInt, loadSize};
+ghost use Rattle.format.specs.Read.{loadByte, loadNumber, loadInt};
 ghost use Rattle.load_state.specs.ReadAt.{fourAt, ReadAt};
 
 // Where reading stands: the refusal, 0 while there is none, and the place in the chunk.
@@ -24,7 +24,7 @@ pub struct Int {
     pub cursor: Cursor,
 }
 
-// The size of a string.
+// The size of a string, at either width.
 pub struct Size {
     pub value: u64,
     pub cursor: Cursor,
@@ -97,15 +97,24 @@ pub fn byte_at(chunk: &[u8], at: usize) -> Byte
     }
 }
 
+fn no_int() -> Int
+    ensures { λ r. ⌜ r .cursor .refusal ≡ 2 ⌝ }
+{
+    Int {
+        value: 0,
+        cursor: refused(2),
+    }
+}
+
 // The integer at a place.
 pub fn int_at(chunk: &[u8], at: usize) -> Int
     ensures { λ r. ⌜ ReadAt (now (chunk .entry)) loadInt at (r .value) (r .cursor) ⌝ }
 {
-    if remaining(chunk, at) < 4 {
-        return Int {
-            value: 0,
-            cursor: refused(2),
-        };
+    if chunk.len() < 4 {
+        return no_int();
+    }
+    if chunk.len() - 4 < at {
+        return no_int();
     }
     Int {
         value: four_at(chunk, at),
@@ -116,9 +125,9 @@ pub fn int_at(chunk: &[u8], at: usize) -> Int
     }
 }
 
-// The size at a place.
+// The size at a place, of eight bytes. One of four is the integer there.
 pub fn size_at(chunk: &[u8], at: usize) -> Size
-    ensures { λ r. ⌜ ReadAt (now (chunk .entry)) loadSize at (r .value) (r .cursor) ⌝ }
+    ensures { λ r. ⌜ ReadAt (now (chunk .entry)) (loadNumber 8) at (r .value) (r .cursor) ⌝ }
 {
     if remaining(chunk, at) < 8 {
         return Size {

@@ -8,7 +8,7 @@ use cursor::byte_at;
 use cursor::int_at;
 use cursor::size_at;
 ghost use mathlib.Core.Path.{_≡_};
-ghost use Rattle.format.specs.Read.{loadByte, loadInt, loadSize};
+ghost use Rattle.format.specs.Read.{loadByte, loadNumber, loadInt};
 ghost use Rattle.load_state.specs.ReadAt.{ReadAt};
 
 // The chunk, and the place of the next byte.
@@ -37,7 +37,7 @@ pub fn load_int<'a>(s: LoadState<'a>) -> Int
 }
 
 pub fn load_size<'a>(s: LoadState<'a>) -> Size
-    ensures { λ r. ⌜ ReadAt (now (s .entry .chunk)) loadSize (s .entry .pos) (r .value) (r .cursor) ⌝ }
+    ensures { λ r. ⌜ ReadAt (now (s .entry .chunk)) (loadNumber 8) (s .entry .pos) (r .value) (r .cursor) ⌝ }
 {
     size_at(s.chunk, s.pos)
 }
@@ -56,7 +56,7 @@ pub fn read_int(chunk: &[u8], pos: usize) -> Int
 }
 
 pub fn read_size(chunk: &[u8], pos: usize) -> Size
-    ensures { λ r. ⌜ ReadAt (now (chunk .entry)) loadSize pos (r .value) (r .cursor) ⌝ }
+    ensures { λ r. ⌜ ReadAt (now (chunk .entry)) (loadNumber 8) pos (r .value) (r .cursor) ⌝ }
 {
     load_size(state(chunk, pos))
 }

@@ -11,7 +11,7 @@ use Rattle.format.specs.Store.{Piece, word, _⊕_, string, pieces, list, ints}
 use Rattle.format.specs.Stored.{part, Here}
 use Rattle.format.specs.Valid.{Name, ValidList}
 use Rattle.format.proofs.Stored.{here-left, here-part}
-use Rattle.format.proofs.Loops.{Loop, loop-turn, loop-stop, loop-end}
+use Rattle.format.proofs.Loops.{Loop, loop-start, loop-turn, loop-stop, loop-end}
 use Rattle.proto.specs.declared.formed.Checked.{Checked}
 use Rattle.proto.specs.Walk.{Stands}
 use Rattle.proto.specs.Formed.{Passed, Check, Room, Within, three, Three}
@@ -192,16 +192,27 @@ module _ {A : Type 0} {words text : List ℕ} {P : A → Type 0} {piece : A → 
             w .complete h (length l, l) (record { above = zero-le; below = k .short }, (g, k .items)) t;
       }
 
-  -- the loop over the items: one more, one that is not well formed, and none left
+  -- the loop over the items: one more, none left, and one, or the count, that is not well formed
   pub items-turn : {n i : ℕ} {s m r : Checked} → i < n → Loop (CheckAll words text P piece) n s i m → Check words text P piece m r → Loop (CheckAll words text P piece) n s (i + 1) r
   items-turn h l c = loop-turn h l (all-more c)
 
   module _ {n i : ℕ} {s m r : Checked} (e : n ≡ getD words (s .at) 0) (c : (t : List ℕ) → Check words t (Within 0 limit) word s m) (l : Loop (CheckAll words text P piece) n m i r) where
-    pub items-stop : i < n → not (r .ok) ≡ true → Check words text (ValidList P) (list piece) s r
-    items-stop h o = counted e (c text) (loop-stop h l (λ k. record { all = check-stopped (not-true _ o) }))
-
     pub items-end : n ≤ i → Check words text (ValidList P) (list piece) s r
     items-end h = counted e (c text) (loop-end h l all-none)
+
+    pub items-stop : not (r .ok) ≡ true → Check words text (ValidList P) (list piece) s r
+    items-stop o = elim (decLt i n) [
+      | yes h ↦ counted e (c text) (loop-stop h l (λ k. record { all = check-stopped (not-true _ o) }))
+      | no h ↦ items-end (omega arith)
+    ]
+
+  module _ {n : ℕ} {s m : Checked} (e : n ≡ getD words (s .at) 0) (c : (t : List ℕ) → Check words t (Within 0 limit) word s m) where
+    pub item-wrong : {i : ℕ} {q r : Checked} → i < n → Loop (CheckAll words text P piece) n m i q → Check words text P piece q r → not (r .ok) ≡ true → Check words text (ValidList P) (list piece) s r
+    item-wrong h l d o = items-stop e c (items-turn h l d) o
+
+pub count-wrong : {A : Type 0} {words text : List ℕ} {P : A → Type 0} {n : ℕ} {s m : Checked} (piece : A → Piece) → n ≡ getD words (s .at) 0
+    → ((t : List ℕ) → Check words t (Within 0 limit) word s m) → not (m .ok) ≡ true → Check words text (ValidList P) (list piece) s m
+count-wrong piece e c o = items-stop {piece = piece} e c loop-start o
 
 -- ---- words and bytes as they stand
 

@@ -233,12 +233,15 @@ fn check_constants(words: &[u32], text: &[u8], s: Checked) -> Checked
 {
     let n = word_at(words, s.at);
     let mut p = check_word(words, s, 0, LIMIT);
+    if !p.ok {
+        return p;
+    }
     let mut i: u32 = 0;
     while i < n {
+        p = check_constant(words, text, p);
         if !p.ok {
             return p;
         }
-        p = check_constant(words, text, p);
         i += 1;
     }
     p
@@ -251,12 +254,15 @@ fn check_locals(words: &[u32], text: &[u8], ascii: bool, s: Checked) -> Checked
 {
     let n = word_at(words, s.at);
     let mut p = check_word(words, s, 0, LIMIT);
+    if !p.ok {
+        return p;
+    }
     let mut i: u32 = 0;
     while i < n {
+        p = check_local(words, text, ascii, p);
         if !p.ok {
             return p;
         }
-        p = check_local(words, text, ascii, p);
         i += 1;
     }
     p
@@ -269,12 +275,15 @@ fn check_names(words: &[u32], text: &[u8], ascii: bool, s: Checked) -> Checked
 {
     let n = word_at(words, s.at);
     let mut p = check_word(words, s, 0, LIMIT);
+    if !p.ok {
+        return p;
+    }
     let mut i: u32 = 0;
     while i < n {
+        p = check_name(words, text, ascii, p);
         if !p.ok {
             return p;
         }
-        p = check_name(words, text, ascii, p);
         i += 1;
     }
     p

@@ -3,7 +3,7 @@
 //   T  name, 2 bytes words lent, 2 bytes text bytes lent, 2 bytes length, a chunk: undump of it into the store, which has this tree from
 //      here on
 //   W  2 bytes place, 4 bytes word: the store has this word there from here on
-//   D  name, 1 byte strip, 2 bytes n: the store dumped, with n bytes of the buffer lent, from where the dump before it ended
+//   D  name, 1 byte strip, 1 byte size_4, 2 bytes n: the store dumped, with n bytes of the buffer lent, from where the dump before it ended
 //   U  name, 2 bytes words lent, 2 bytes text bytes lent: undump of the buffer, from where the undump before it left off
 // T, D and U write a line of text: the letter; the refusal and the other numbers of the answer, in decimal; then in hexadecimal all
 // words and text bytes, or all bytes, that were lent. In the buffer and in what is lent to U, 7 is what stands there before.
@@ -93,8 +93,15 @@ fn changed(cases: &[u8], at: usize, words: &mut [u32], s: State) -> State {
 }
 
 // The store dumped into the space lent, and its line. Answers how many bytes.
-fn write<'a>(words: &[u32], text: &'a [u8], name: &'a [u8], strip: bool, out: &mut [u8]) -> usize {
-    let w = dump::dump(words, text, name, strip, out);
+fn write<'a>(
+    words: &[u32],
+    text: &'a [u8],
+    name: &'a [u8],
+    strip: bool,
+    size_4: bool,
+    out: &mut [u8],
+) -> usize {
+    let w = dump::dump(words, text, name, strip, size_4, out);
     io::write_all(STDOUT_FILENO, b"D ");
     test_output::written(w, out);
     w.len
@@ -111,12 +118,13 @@ fn append<'a>(
     s: State,
 ) -> State {
     let strip = byte(cases, at) != 0;
-    let n = half(cases, after(cases, at, 1)) as usize;
+    let size_4 = byte(cases, after(cases, at, 1)) != 0;
+    let n = half(cases, after(cases, at, 2)) as usize;
     let from = within(s.end, buffer.len());
     let to = from + within(n, buffer.len() - from);
-    let len = write(words, text, name, strip, &mut buffer[from..to]);
+    let len = write(words, text, name, strip, size_4, &mut buffer[from..to]);
     State {
-        next: after(cases, at, 3),
+        next: after(cases, at, 4),
         words: s.words,
         text: s.text,
         end: after(buffer, from, len),

@@ -40,6 +40,7 @@ pub fn all_text(text: &[u8]) {
 // What undump answered and left: its numbers, all words lent, all text bytes lent.
 pub fn undumped(u: Undumped, words: &[u32], text: &[u8]) {
     number(u.refusal as usize);
+    number(u.width as usize);
     number(u.words);
     number(u.text);
     number(u.read);

@@ -1,4 +1,4 @@
-// Reads chunks: takes cases from standard input, at most 65,536 bytes, and writes a line of text for each: the refusal, the words,
+// Reads chunks: takes cases from standard input, at most 65,536 bytes, and writes a line of text for each: the refusal, the width, the words,
 // the text bytes and the bytes read, in decimal; then all words lent and all text bytes lent, in hexadecimal, where 7 is what
 // stands there before. A case is, all numbers low byte first:
 //   2 bytes length, the chunk, 1 byte length, the chunk name, 2 bytes words lent, 2 bytes text bytes lent

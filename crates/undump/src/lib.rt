@@ -5,6 +5,7 @@ use format::DEPTH;
 use format::MOST;
 use format::Undumped;
 use format::name_ok;
+use format::width;
 use header::load_header;
 use lent::least;
 use load::Load;
@@ -20,6 +21,7 @@ fn refused(n: u32) -> Undumped
 {
     Undumped {
         refusal: n,
+        width: 0,
         words: 0,
         text: 0,
         read: 0,
@@ -33,14 +35,17 @@ pub fn undump(chunk: &[u8], name: &[u8], words: &mut [u32], text: &mut [u8]) -> 
     if !name_ok(name) {
         return refused(1);
     }
+    let header = load_header(chunk);
+    let size_4 = header.size_4;
+    let cursor = header.cursor;
     let start = Load {
-        cursor: load_header(chunk),
+        cursor,
         words: 0,
         text: 0,
     };
     let mut no_words = [0u32; 0];
     let mut no_text = [0u8; 0];
-    let need = load_function(chunk, &mut no_words, &mut no_text, start, DEPTH);
+    let need = load_function(chunk, &mut no_words, &mut no_text, start, DEPTH, size_4);
     if 0 < need.cursor.refusal {
         return refused(need.cursor.refusal);
     }
@@ -52,10 +57,12 @@ pub fn undump(chunk: &[u8], name: &[u8], words: &mut [u32], text: &mut [u8]) -> 
     if least(text.len(), MOST) < m {
         return refused(9);
     }
-    load_function(chunk, &mut words[..n], &mut text[..m], start, DEPTH);
+    load_function(chunk, &mut words[..n], &mut text[..m], start, DEPTH, size_4);
+    let width = width(size_4) as u32;
     let read = chunk.len() - remaining(chunk, need.cursor.next);
     Undumped {
         refusal: 0,
+        width,
         words: n,
         text: m,
         read,

@@ -6,7 +6,7 @@ use Rattle.dump.proofs.count_chunk.Statement.{statement}
 use Rattle.dump.proofs.count_chunk.Tie as tie
 
 returns : tie.Need-returns
-returns c = chunk-puts (c .before .before .before .before .args .strip) (c .before .before .before .before .args .name .now) (puts-counted refl) (c .count-function .ensures)
+returns c = let a = c .before .before .before .before .args in chunk-puts (a .options .strip) (a .options .«size_4») (a .name .now) (puts-counted refl) (c .count-function .ensures)
 
 pub count-chunk-spec : {M : Type 1} → statement M
 count-chunk-spec = tie.close (tie.spec

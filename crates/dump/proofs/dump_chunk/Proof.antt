@@ -13,7 +13,7 @@ returns : tie.Need-returns
 returns c =
     let c₁ = c .before .before in let c₂ = c₁ .before .before .before .before in
     let c₃ = c₂ .before .before .before .before .before .before in
-    chunk-puts (c₃ .args .strip) (c₃ .args .name .now) (c₂ .dump-header .ensures) (c₁ .dump-function .ensures)
+    chunk-puts (c₃ .args .options .strip) (c₃ .args .options .«size_4») (c₃ .args .name .now) (c₂ .dump-header .ensures) (c₁ .dump-function .ensures)
 
 pub dump-chunk-spec : {M : Type 1} → statement M
 dump-chunk-spec = tie.close (tie.spec

@@ -56,11 +56,11 @@ abbrev load-function-calls : ℕ → load-function-lts.Claims
 load-function-calls t = (refused-reads.Asked, refused-reads.Learnt, at-reads.Asked, at-reads.Learnt, load-source-reads.Asked, load-source-reads.Learnt, copy-int-reads.Asked, copy-int-reads.Learnt, load-byte-reads.Asked, load-byte-reads.Learnt, joined-reads.Asked, joined-reads.Learnt, put-reads.Asked, put-reads.Learnt, load-code-reads.Asked, load-code-reads.Learnt, load-constants-below t, load-constants.Post, load-debug-reads.Asked, load-debug-reads.Learnt)
 
 abbrev load-constants-Inv-loop : load-constants-lts.InvT-loop
-load-constants-Inv-loop chunk words₀ text₀ allowance n p₀ i₀ words text p i =
-    Loading chunk (manyFunctions (loadFunction allowance)) (λ fs. count (repairedAll fs)) (λ fs. functionPieces (repairedAll fs)) n (world p₀ words₀ text₀) i (world p words text)
+load-constants-Inv-loop chunk words₀ text₀ allowance size4 n p₀ i₀ words text p i =
+    Loading chunk (manyFunctions (loadFunction size4 allowance)) (λ fs. count (repairedAll fs)) (λ fs. functionPieces (repairedAll fs)) n (world p₀ words₀ text₀) i (world p words text)
 
 abbrev load-constants-μ-loop : load-constants-lts.MeasureT-loop
-load-constants-μ-loop chunk words₀ text₀ allowance n p₀ i₀ words text p i = n - i
+load-constants-μ-loop chunk words₀ text₀ allowance size4 n p₀ i₀ words text p i = n - i
 
 load-function-returns-3 : (t : ℕ) → load-function-lts.Need-returns-3 (load-function-calls t) (load-function-at t) load-function.Post
 load-function-returns-3 t c =
@@ -72,13 +72,13 @@ load-function-returns-3 t c =
     let c₁₄ = c₁₃ .before .before .before in let c₁₅ = c₁₄ .before .before .before .before .before .before in
     let n = c₁₅ .args .allowance - 1 in
     let e : c₁₅ .args .allowance ≡ suc n = omega (arith, c₁₄ .if2 .left) in
-    rw e (function-loaded n (c₁₃ .load-source .ensures) (c₁₂ .copy-int .ensures _) (c₁₁ .copy-int2 .ensures _) (c₁₀ .load-byte .ensures) (c₉ .load-byte2 .ensures) (c₈ .load-byte3 .ensures) (c₇ .load-byte4 .ensures) (c₆ .at2 .ensures) (c₅ .joined .ensures) (c₄ .put .ensures .0) (c₄ .put .ensures .1 _) (c₃ .load-code .ensures _) (c₂ .load-constants .ensures) (c₁ .load-debug .ensures))
+    rw e (function-loaded _ n (c₁₃ .load-source .ensures) (c₁₂ .copy-int .ensures _) (c₁₁ .copy-int2 .ensures _) (c₁₀ .load-byte .ensures) (c₉ .load-byte2 .ensures) (c₈ .load-byte3 .ensures) (c₇ .load-byte4 .ensures) (c₆ .at2 .ensures) (c₅ .joined .ensures) (c₄ .put .ensures .0) (c₄ .put .ensures .1 _) (c₃ .load-code .ensures _) (c₂ .load-constants .ensures) (c₁ .load-debug .ensures))
 
 pub +load-constants+load-function-spec : {M : Type 1} → statement M
 +load-constants+load-function-spec = close μ-load-constants μ-load-function (λ t. load-constants-lts.spec
     (load-constants-calls t) (load-constants-at t) load-constants.Post load-constants-Inv-loop load-constants-μ-loop
     (λ c. search needs) (λ c. search needs)  -- load-pool-requires, copy-count-requires
-    (λ c. loading-start)  -- loop-holds
+    (λ c. loading-start (function-items _ _))  -- loop-holds
     (λ c. search needs) (λ c. search needs)  -- same-length, same-length-2
     (λ c. search (needs, constants-stop))  -- returns
     (λ c κs.

@@ -52,15 +52,15 @@ abbrev count-function-calls : ℕ → count-function-lts.Claims
 count-function-calls t = (own-source-reads.Asked, own-source-reads.Learnt, count-source-reads.Asked, count-source-reads.Learnt, ahead-reads.Asked, ahead-reads.Learnt, count-code-reads.Asked, count-code-reads.Learnt, count-constants-below t, count-constants.Post, count-debug-reads.Asked, count-debug-reads.Learnt)
 
 abbrev count-constants-Inv-loop : count-constants-lts.InvT-loop
-count-constants-Inv-loop words text strip source allowance n p₀ i₀ p i = Loop (DumpsAll words text (λ f. Valid f allowance) functionPiece (λ f. dumpFunction f strip source source)) n (reached p₀ []) i (reached p [])
+count-constants-Inv-loop words text options source allowance n p₀ i₀ p i = Loop (DumpsAll words text (λ f. Valid f allowance) functionPiece (λ f. dumpFunction f (options .strip) (options .«size_4») source source)) n (reached p₀ []) i (reached p [])
 
 abbrev count-constants-μ-loop : count-constants-lts.MeasureT-loop
-count-constants-μ-loop words text strip source allowance n p₀ i₀ p i = n - i
+count-constants-μ-loop words text options source allowance n p₀ i₀ p i = n - i
 
 count-constants-returns : (t : ℕ) → count-constants-lts.Need-returns (count-constants-calls t) (count-constants-at t) count-constants.Post count-constants-Inv-loop count-constants-μ-loop
 count-constants-returns t c =
     let c₁ = c .before in let c₂ = c₁ .before in let c₃ = c₂ .before in let c₄ = c₃ .before in
-    constants-dumped _ _ _ (λ ks. c₄ .count-values .ensures ks _) (c₃ .word-at .ensures) (word-counted (c₂ .ahead .ensures)) (c .loop-test .left) (c₁ .loop .inv)
+    constants-dumped _ _ _ _ (λ ks. c₄ .count-values .ensures ks _) (c₃ .word-at .ensures) (word-counted (c₂ .ahead .ensures)) (c .loop-test .left) (c₁ .loop .inv)
 
 count-function-count-constants-requires : (t : ℕ) → count-function-lts.Need-count-constants-requires (count-function-calls t) (count-function-at t) count-function.Post
 count-function-count-constants-requires t c κs =
@@ -71,7 +71,7 @@ count-function-returns-2 : (t : ℕ) → count-function-lts.Need-returns-2 (coun
 count-function-returns-2 t c =
     let c₁ = c .before in let c₂ = c₁ .before in let c₃ = c₂ .before in let c₄ = c₃ .before in let c₅ = c₄ .before in
     let c₆ = c₅ .before in let c₇ = c₆ .before in let c₈ = c₇ .before in
-    function-dumped _ _ _ _ _ (c₈ .if1 .left) (c₇ .own-source .ensures) (c₆ .count-source .ensures) (word-counted (c₅ .ahead .ensures)) (word-counted (c₄ .ahead2 .ensures)) (packed-counted (c₃ .ahead3 .ensures)) (c₂ .count-code .ensures) (c₁ .count-constants .ensures) (λ g. c .count-debug .ensures g _)
+    function-dumped _ _ _ _ _ _ (c₈ .if1 .left) (c₇ .own-source .ensures) (c₆ .count-source .ensures) (word-counted (c₅ .ahead .ensures)) (word-counted (c₄ .ahead2 .ensures)) (packed-counted (c₃ .ahead3 .ensures)) (c₂ .count-code .ensures) (c₁ .count-constants .ensures) (λ g. c .count-debug .ensures g _)
 
 pub +count-constants+count-function-spec : {M : Type 1} → statement M
 +count-constants+count-function-spec = close μ-constants μ-function (λ t. count-constants-lts.spec

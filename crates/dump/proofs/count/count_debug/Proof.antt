@@ -6,7 +6,9 @@ use Rattle.dump.proofs.count.count_debug.Statement.{statement}
 use Rattle.dump.proofs.count.count_debug.Tie as tie
 
 returns-2 : tie.Need-returns-2
-returns-2 c = λ d t. debug-dumped (c .before .before .before .if1 .left) (c .before .before .count-code .ensures) (λ l. c .before .count-locals .ensures l t) (λ l. c .count-names .ensures l t) d
+returns-2 c = λ d t.
+    let c₁ = c .before .before .before in
+    debug-dumped (c₁ .before .before .args .options .«size_4») (c₁ .if1 .left) (c .before .before .count-code .ensures) (λ l. c .before .count-locals .ensures l t) (λ l. c .count-names .ensures l t) d
 
 pub count-debug-spec : {M : Type 1} → statement M
 count-debug-spec = tie.close (tie.spec

@@ -8,6 +8,8 @@ pub count-name-spec : {M : Type 1} → statement M
 count-name-spec = tie.close (tie.spec
     (λ c. search needs) (λ c. search needs) (λ c. search needs)  -- add-on, mul-on, shared-slice-read-on
     (λ c. omega (arith, c .before .shared-slice-known .given (c .before .before .args .s .at + 1)))  -- cast-on
-    (λ c. omega (arith, c .before .shared-slice-known .given (c .before .before .args .s .at + 1)))  -- add-on-2
+    (λ c. search needs)  -- width-requires
+    (λ c. omega (arith, c .before .before .shared-slice-known .given (c .before .before .before .args .s .at + 1)))  -- add-on-2
+    (λ c. omega (arith, c .before .before .shared-slice-known .given (c .before .before .before .args .s .at + 1)))  -- add-on-3
     (λ c. search needs)  -- on-requires
-    (λ c. name-counted (c .on .ensures)))  -- returns
+    (λ c. name-counted (c .before .before .before .before .args .size-4) (c .before .width .ensures .0) (c .on .ensures)))  -- returns

@@ -7,16 +7,16 @@ use Rattle.dump.proofs.count.count_names.Statement.{statement}
 use Rattle.dump.proofs.count.count_names.Tie as tie
 
 abbrev Inv-loop : tie.InvT-loop
-Inv-loop words n p₀ i₀ p i = Counting words string dumpText 2 n p₀ i p
+Inv-loop words size4 n p₀ i₀ p i = Counting words string (dumpText size4) 2 n p₀ i p
 
 abbrev μ-loop : tie.MeasureT-loop
-μ-loop words n p₀ i₀ p i = n - i
+μ-loop words size4 n p₀ i₀ p i = n - i
 
 pub count-names-spec : {M : Type 1} → statement M
 count-names-spec = tie.close (tie.spec Inv-loop μ-loop
     (λ c. search needs) (λ c. search needs) (λ c. search needs)  -- word-at-requires, ahead-requires, cast-is-within
     (λ c. search needs) (λ c. search needs)  -- mul-is-within, is-within-requires
-    (λ c. search (needs, counting-none string dumpText 2))  -- returns
+    (λ c. search (needs, counting-none string 2))  -- returns
     (λ c. search (needs, counting-start))  -- loop-holds
     (λ c. search needs) (λ c. search needs) (λ c. search needs)  -- count-name-requires, add-i, loop-less
     (λ c. search (needs, counting-turn))  -- loop-again

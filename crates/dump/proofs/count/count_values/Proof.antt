@@ -8,16 +8,16 @@ use Rattle.dump.proofs.count.count_values.Statement.{statement}
 use Rattle.dump.proofs.count.count_values.Tie as tie
 
 abbrev Inv-loop : tie.InvT-loop
-Inv-loop words n p₀ i₀ p i = Counting words constantPiece dumpConstant 3 n p₀ i p
+Inv-loop words size4 n p₀ i₀ p i = Counting words constantPiece (dumpConstant size4) 3 n p₀ i p
 
 abbrev μ-loop : tie.MeasureT-loop
-μ-loop words n p₀ i₀ p i = n - i
+μ-loop words size4 n p₀ i₀ p i = n - i
 
 pub count-values-spec : {M : Type 1} → statement M
 count-values-spec = tie.close (tie.spec Inv-loop μ-loop
     (λ c. search needs) (λ c. search needs) (λ c. search needs)  -- word-at-requires, ahead-requires, cast-is-within
     (λ c. search needs) (λ c. search needs)  -- mul-is-within, is-within-requires
-    (λ c. search (needs, counting-none constantPiece dumpConstant 3 constant-words))  -- returns
+    (λ c. search (needs, counting-none constantPiece 3 constant-words))  -- returns
     (λ c. search (needs, counting-start))  -- loop-holds
     (λ c. search needs) (λ c. search needs) (λ c. search needs)  -- count-constant-requires, add-i, loop-less
     (λ c. search (needs, counting-turn))  -- loop-again

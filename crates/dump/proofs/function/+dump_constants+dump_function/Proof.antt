@@ -52,21 +52,21 @@ abbrev dump-function-calls : ℕ → dump-function-lts.Claims
 dump-function-calls t = (own-source-reads.Asked, own-source-reads.Learnt, dump-source-reads.Asked, dump-source-reads.Learnt, dump-word-reads.Asked, dump-word-reads.Learnt, dump-packed-reads.Asked, dump-packed-reads.Learnt, dump-code-reads.Asked, dump-code-reads.Learnt, dump-constants-below t, dump-constants.Post, dump-debug-reads.Asked, dump-debug-reads.Learnt)
 
 abbrev dump-constants-Inv-loop : dump-constants-lts.InvT-loop
-dump-constants-Inv-loop words text strip source out₀ allowance n p₀ i₀ out p i = Writing words text (λ f. Valid f allowance) functionPiece (λ f. dumpFunction f strip source source) n (reached p₀ out₀) i (reached p out)
+dump-constants-Inv-loop words text options source out₀ allowance n p₀ i₀ out p i = Writing words text (λ f. Valid f allowance) functionPiece (λ f. dumpFunction f (options .strip) (options .«size_4») source source) n (reached p₀ out₀) i (reached p out)
 
 abbrev dump-constants-μ-loop : dump-constants-lts.MeasureT-loop
-dump-constants-μ-loop words text strip source out₀ allowance n p₀ i₀ out p i = n - i
+dump-constants-μ-loop words text options source out₀ allowance n p₀ i₀ out p i = n - i
 
 dump-constants-dump-word-requires : (t : ℕ) → dump-constants-lts.Need-dump-word-requires (dump-constants-calls t) (dump-constants-at t) dump-constants.Post dump-constants-Inv-loop dump-constants-μ-loop
 dump-constants-dump-word-requires t c κs =
     let c₁ = c .before .before .before .before in let c₂ = c₁ .before .before .before .before .before .before in
-    count-ready functionPiece _ (children-ready _ _ _ (c₂ .pre .1) (c₁ .dump-values .ensures))
+    count-ready functionPiece _ (children-ready _ _ _ _ (c₂ .pre .1) (c₁ .dump-values .ensures))
 
 dump-constants-loop-holds : (t : ℕ) → dump-constants-lts.Need-loop-holds (dump-constants-calls t) (dump-constants-at t) dump-constants.Post dump-constants-Inv-loop dump-constants-μ-loop
 dump-constants-loop-holds t c =
     let c₁ = c .before .before in let c₂ = c₁ .before .before in let c₃ = c₂ .before .before .before in
     let c₄ = c₃ .before .before .before .before .before in
-    writing-start (c₄ .shared-slice-known .given) (c₂ .word-at .ensures) (children-ready _ _ _ (c₄ .before .pre .1) (c₃ .dump-values .ensures)) (c₁ .dump-word .ensures)
+    writing-start (c₄ .shared-slice-known .given) (c₂ .word-at .ensures) (children-ready _ _ _ _ (c₄ .before .pre .1) (c₃ .dump-values .ensures)) (c₁ .dump-word .ensures)
 
 dump-constants-dump-function-requires : (t : ℕ) → dump-constants-lts.Need-dump-function-requires (dump-constants-calls t) (dump-constants-at t) dump-constants.Post dump-constants-Inv-loop dump-constants-μ-loop
 dump-constants-dump-function-requires t c κs =
@@ -77,7 +77,7 @@ dump-constants-dump-function-requires t c κs =
 dump-constants-returns : (t : ℕ) → dump-constants-lts.Need-returns (dump-constants-calls t) (dump-constants-at t) dump-constants.Post dump-constants-Inv-loop dump-constants-μ-loop
 dump-constants-returns t c =
     let c₁ = c .before in let c₂ = c₁ .before .before .before in let c₃ = c₂ .before .before in
-    constants-dumped _ _ _ (c₃ .before .before .before .dump-values .ensures) (c₃ .word-at .ensures) (c₂ .dump-word .ensures) (c .loop-test .left) (c₁ .loop .inv .loop)
+    constants-dumped _ _ _ _ (c₃ .before .before .before .dump-values .ensures) (c₃ .word-at .ensures) (c₂ .dump-word .ensures) (c .loop-test .left) (c₁ .loop .inv .loop)
 
 dump-function-dump-source-requires : (t : ℕ) → dump-function-lts.Need-dump-source-requires (dump-function-calls t) (dump-function-at t) dump-function.Post
 dump-function-dump-source-requires t c κs =
@@ -136,12 +136,12 @@ dump-function-returns-2 t c =
     let c₃ = c₂ .before .before .before .before in let c₄ = c₃ .before .before .before .before in
     let c₅ = c₄ .before .before .before .before in let c₆ = c₅ .before .before .before .before in
     let c₇ = c₆ .before .before .before .before in let c₈ = c₇ .before .before in
-    function-dumped _ _ _ _ _ (c₈ .before .if1 .left) (c₈ .own-source .ensures) (c₇ .dump-source .ensures) (c₆ .dump-word .ensures) (c₅ .dump-word2 .ensures) (c₄ .dump-packed .ensures) (c₃ .dump-code .ensures) (c₂ .dump-constants .ensures) (c₁ .dump-debug .ensures)
+    function-dumped _ _ _ _ _ _ (c₈ .before .if1 .left) (c₈ .own-source .ensures) (c₇ .dump-source .ensures) (c₆ .dump-word .ensures) (c₅ .dump-word2 .ensures) (c₄ .dump-packed .ensures) (c₃ .dump-code .ensures) (c₂ .dump-constants .ensures) (c₁ .dump-debug .ensures)
 
 pub +dump-constants+dump-function-spec : {M : Type 1} → statement M
 +dump-constants+dump-function-spec = close μ-constants μ-function (λ t. dump-constants-lts.spec
     (dump-constants-calls t) (dump-constants-at t) dump-constants.Post dump-constants-Inv-loop dump-constants-μ-loop
-    (λ c κs. values-ready _ _ _ (c .before .before .before .before .before .pre .1))  -- dump-values-requires
+    (λ c κs. values-ready _ _ _ _ (c .before .before .before .before .before .pre .1))  -- dump-values-requires
     (λ c. search needs)  -- word-at-requires
     (dump-constants-dump-word-requires t)
     (dump-constants-loop-holds t)

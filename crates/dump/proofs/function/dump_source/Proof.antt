@@ -9,6 +9,6 @@ pub dump-source-spec : {M : Type 1} → statement M
 dump-source-spec = tie.close (tie.spec
     (λ c. search needs)  -- is-elided-requires
     (λ c. search (needs, source-room))  -- put-source-requires
-    (λ c. omega (arith, source-within))  -- add-t12
+    (λ c. omega (arith, source-within))  -- add-t13
     (λ c. search needs)  -- same-length
     (λ c. search (needs, source-dumped, skips-on)))  -- returns

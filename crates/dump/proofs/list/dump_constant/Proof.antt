@@ -8,6 +8,6 @@ pub dump-constant-spec : {M : Type 1} → statement M
 dump-constant-spec = tie.close (tie.spec
     (λ c. search needs)  -- constant-at-requires
     (λ c. search (needs, constant-room))  -- put-constant-requires
-    (λ c. omega (arith, constant-within))  -- add-t10
+    (λ c. omega (arith, constant-within))  -- add-t11
     (λ c. search needs)  -- same-length
     (λ c. search (needs, constant-dumped)))  -- returns

@@ -8,15 +8,15 @@ use Rattle.dump.proofs.list.dump_locals.Statement.{statement}
 use Rattle.dump.proofs.list.dump_locals.Tie as tie
 
 abbrev Inv-loop : tie.InvT-loop
-Inv-loop words text out₀ at n p₀ i₀ out p i = Writing words text Any localPiece dumpLocal n (reached p₀ out₀) i (reached p out)
+Inv-loop words text out₀ size4 at n p₀ i₀ out p i = Writing words text Any localPiece (dumpLocal size4) n (reached p₀ out₀) i (reached p out)
 
 abbrev μ-loop : tie.MeasureT-loop
-μ-loop words text out₀ at n p₀ i₀ out p i = n - i
+μ-loop words text out₀ size4 at n p₀ i₀ out p i = n - i
 
 pub dump-locals-spec : {M : Type 1} → statement M
 dump-locals-spec = tie.close (tie.spec Inv-loop μ-loop
-    (λ c. omega (arith, count-ready localPiece dumpLocal (c .before .before .before .pre)))  -- mul-n
-    (λ c. omega (arith, count-ready localPiece dumpLocal (c .before .before .before .before .pre)))  -- shared-slice-read-n
+    (λ c. omega (arith, count-ready localPiece _ (c .before .before .before .pre)))  -- mul-n
+    (λ c. omega (arith, count-ready localPiece _ (c .before .before .before .before .pre)))  -- shared-slice-read-n
     (λ c. search (needs, count-ready))  -- dump-word-requires
     (λ c. search (needs, any-start))  -- loop-holds
     (λ c. search (needs, writing-next))  -- dump-local-requires

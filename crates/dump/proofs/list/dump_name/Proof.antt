@@ -9,8 +9,7 @@ dump-name-spec = tie.close (tie.spec
     (λ c. search needs) (λ c. search needs)  -- mul-part, shared-slice-read-part
     (λ c. omega (arith, c .shared-slice-known3 .given (c .before .before .before .before .args .s .at)))  -- cast-part
     (λ c. search needs) (λ c. search needs) (λ c. search needs)  -- add-part, mul-part-2, shared-slice-read-part-2
-    (λ c. search needs) (λ c. search needs)  -- cast-part-2, part-requires
+    (λ c. search needs) (λ c. search needs) (λ c. search needs)  -- cast-part-2, part-requires, add-t9
     (λ c. search (needs, name-room))  -- dump-string-requires
-    (λ c. search needs) (λ c. search needs) (λ c. search needs)  -- add-t8, add-t16, add-t12
     (λ c. search needs)  -- same-length
     (λ c. search (needs, name-dumped)))  -- returns

@@ -9,18 +9,23 @@ use Rattle.dump.proofs.list.dump_names.Statement.{statement}
 use Rattle.dump.proofs.list.dump_names.Tie as tie
 
 abbrev Inv-loop : tie.InvT-loop
-Inv-loop words text out₀ at n p₀ i₀ out p i = Writing words text Any string dumpText n (reached p₀ out₀) i (reached p out)
+Inv-loop words text out₀ size4 at n p₀ i₀ out p i = Writing words text Any string (dumpText size4) n (reached p₀ out₀) i (reached p out)
 
 abbrev μ-loop : tie.MeasureT-loop
-μ-loop words text out₀ at n p₀ i₀ out p i = n - i
+μ-loop words text out₀ size4 at n p₀ i₀ out p i = n - i
+
+dump-name-requires : tie.Need-dump-name-requires Inv-loop μ-loop
+dump-name-requires c κs =
+    let c₁ = c .before .before in
+    name-ready (c₁ .before .before .before .before .before .before .before .before .before .args .size-4) (writing-next (omega arith) (c₁ .loop .inv))
 
 pub dump-names-spec : {M : Type 1} → statement M
 dump-names-spec = tie.close (tie.spec Inv-loop μ-loop
-    (λ c. omega (arith, count-ready string dumpText (c .before .before .before .pre)))  -- mul-n
-    (λ c. omega (arith, count-ready string dumpText (c .before .before .before .before .pre)))  -- shared-slice-read-n
+    (λ c. omega (arith, count-ready string _ (c .before .before .before .pre)))  -- mul-n
+    (λ c. omega (arith, count-ready string _ (c .before .before .before .before .pre)))  -- shared-slice-read-n
     (λ c. search (needs, count-ready))  -- dump-word-requires
     (λ c. search (needs, any-start))  -- loop-holds
-    (λ c κs. name-ready (writing-next (omega arith) (c .before .before .loop .inv)))  -- dump-name-requires
+    dump-name-requires
     (λ c. search needs) (λ c. search needs)  -- add-i, loop-less
     (λ c. search (needs, any-turn))  -- loop-again
     (λ c. search needs)  -- same-length

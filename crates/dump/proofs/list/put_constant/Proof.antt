@@ -1,19 +1,8 @@
 -- The tag of each kind, then what it holds; there is room for it.
-use Rattle.lent.proofs.Prelude.{needs, arith, _∙_, length-set}
-use Rattle.dump.proofs.Steps.{tag-fits, nil-puts, bool-fits, bool-puts, low-fits, high-fits, num-puts, str-room, str-fits, str-puts}
+use Rattle.lent.proofs.Prelude.{needs, _∙_, length-set}
+use Rattle.dump.proofs.Steps.{tag-fits, nil-puts, bool-fits, bool-puts, low-fits, high-fits, num-puts, str-fits, str-puts}
 use Rattle.dump.proofs.list.put_constant.Statement.{statement}
 use Rattle.dump.proofs.list.put_constant.Tie as tie
-
-add-result : tie.Need-add-result
-add-result c =
-    let c₁ = c .before .before .before .before in
-    omega (arith, tag-fits (c₁ .args .text .now) (c₁ .args .out .now) (c₁ .args .k) (c₁ .args .at) (c₁ .pre))
-
-add-result-5 : tie.Need-add-result-5
-add-result-5 c =
-    let c₁ = c .before .before .before .before in let c₂ = c₁ .before .before in
-    let c₃ = c₂ .before .before .before .before in
-    omega (arith, str-room (c₃ .args .text .now) (c₃ .args .out .now) (c₃ .args .k) (c₃ .args .at) (c₃ .pre) (c₂ .k3 .given .1) (c₁ .part .ensures))
 
 same-length-3 : tie.Need-same-length-3
 same-length-3 c = c .before .before .dump-int2 .kept .0 ∙ c .before .before .before .before .before .before .dump-int .kept .0 ∙ simp length-set
@@ -22,7 +11,7 @@ pub put-constant-spec : {M : Type 1} → statement M
 put-constant-spec = tie.close (tie.spec
     (λ c. search needs)  -- enum-told
     (λ c. search (needs, tag-fits))  -- slice-write-out
-    add-result
+    (λ c. search (needs, tag-fits))  -- add-result
     (λ c. search needs)  -- enum-known-k
     (λ c. search (needs, tag-fits))  -- slice-write-out-2
     (λ c. search needs) (λ c. search needs)  -- cast-out, add-out
@@ -37,8 +26,6 @@ put-constant-spec = tie.close (tie.spec
     (λ c. search (needs, tag-fits))  -- slice-write-out-5
     (λ c. search needs)  -- add-dump-string
     (λ c. search (needs, str-fits))  -- dump-string-requires
-    (λ c. search needs)  -- add-result-4
-    add-result-5
     (λ c. search needs)  -- same-length
     (λ c. search (needs, nil-puts))  -- returns
     (λ c. search needs)  -- same-length-2

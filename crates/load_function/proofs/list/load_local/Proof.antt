@@ -8,7 +8,7 @@ returns : tie.Need-returns
 returns c =
     let c₁ = c .before .before in let c₂ = c₁ .before .before .before .before in
     let c₃ = c₂ .before .before .before .before .before .before in
-    local-loaded (c₃ .load-name .ensures) (c₂ .copy-int .ensures) (c₁ .copy-int2 .ensures)
+    local-loaded _ (c₃ .load-name .ensures) (c₂ .copy-int .ensures) (c₁ .copy-int2 .ensures)
 
 pub load-local-spec : {M : Type 1} → statement M
 load-local-spec = tie.close (tie.spec

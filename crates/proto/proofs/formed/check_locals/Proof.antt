@@ -3,14 +3,16 @@ use Rattle.lent.proofs.Prelude.{needs, arith, _-_}
 use Rattle.format.specs.Store.{localPiece}
 use Rattle.format.specs.Valid.{ValidLocal}
 use Rattle.format.proofs.Loops.{Loop, loop-start}
-use Rattle.proto.proofs.Checks.{CheckAll, items-turn, items-stop, items-end}
+use Rattle.proto.proofs.Checks.{CheckAll, items-turn, items-end, count-wrong, item-wrong}
 use Rattle.proto.proofs.formed.check_locals.Statement.{statement}
 use Rattle.proto.proofs.formed.check_locals.Tie as tie
 
 pub check-locals-spec : {M : Type 1} → statement M
 check-locals-spec = tie.close (tie.spec
     (λ words text ascii n p₀ i₀ p i. Loop (CheckAll words text ValidLocal localPiece) n p₀ i p) (λ words text ascii n p₀ i₀ p i. n - i)
-    (λ c. search needs) (λ c. search needs) (λ c. loop-start)  -- word-at-requires, check-word-requires, loop-holds
-    (λ c. search items-stop) (λ c. search needs)  -- returns, check-local-requires
+    (λ c. search needs) (λ c. search needs)  -- word-at-requires, check-word-requires
+    (λ c. count-wrong localPiece (c .before .before .before .word-at .ensures) (c .before .before .check-word .ensures) (c .if1 .taken))  -- returns
+    (λ c. loop-start)  -- loop-holds
+    (λ c. search needs) (λ c. search item-wrong)  -- check-local-requires, returns-2
     (λ c. omega arith) (λ c. omega arith) (λ c. search items-turn)  -- add-i, loop-less, loop-again
-    (λ c. search items-end))  -- returns-2
+    (λ c. search items-end))  -- returns-3

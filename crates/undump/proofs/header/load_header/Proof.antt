@@ -7,5 +7,5 @@ use Rattle.undump.proofs.header.load_header.Tie as tie
 pub load-header-spec : {M : Type 1} → statement M
 load-header-spec = tie.close (tie.spec
     (λ c. search needs) (λ c. search needs)  -- slice-aggregate-load-exactly, load-exactly-requires
-    (λ c. search needs) (λ c. search needs)  -- slice-aggregate-load-exactly-2, load-exactly-requires-2
-    (λ c. search (needs, header-loaded)))  -- returns
+    (λ c. search needs)  -- load-format-requires
+    (λ c. header-loaded (c .before .load-exactly .ensures) (c .load-format .ensures)))  -- returns
