@@ -1,7 +1,8 @@
 #!/usr/bin/env bash
 # differential.sh CORPUS: compares every call with the Rust over the chunks that corpus.sh made, damaged copies of them, made-up trees,
-# trees at the limits and all chunks of at most three bytes, and the listings with luac's own; UTF-8 with Rust's library, and instructions
-# with the Rust. Prints the number of cases for each call, and fails on a difference.
+# trees at the limits and all chunks of at most three bytes, and the listings with luac's own; undump and dump at width 4 with src/lundump.rs
+# and src/ldump.rs, and at both widths with both luacs; UTF-8 with Rust's library, and instructions with the Rust. Prints the number of
+# cases for each call, and fails on a difference.
 set -euo pipefail
 here=$(cd "$(dirname "$0")" && pwd)
 corpus=$(cd "$1" && pwd)
@@ -13,6 +14,7 @@ cargo build -q --release --offline --features chunk
 bin=target/release
 find "$corpus/c" "$corpus/s" -name '*.luac' | LC_ALL=C sort > "$work/all"
 find "$corpus/c" -name '*.luac' -size -12k | LC_ALL=C sort > "$work/small"
+find "$corpus/c4" -name '*.luac' -size -12k | LC_ALL=C sort > "$work/small4"
 echo "UTF-8, instructions:"
 mkdir "$work/leaves"
 "$bin/leaves" many "$work/leaves"
@@ -22,9 +24,13 @@ echo "undump, source_at:"
 "$bin/compare" exhaustive
 "$bin/compare" limits
 xargs -a "$work/small" "$bin/compare" 60
+xargs -a "$work/small4" "$bin/compare" 60
 echo "dump:"
 xargs -a "$work/small" "$bin/compare_dump" 20
+xargs -a "$work/small4" "$bin/compare_dump" 4
 "$bin/compare_dump" limits
+echo "undump and dump, chunks of both luacs:"
+"$bin/widths" "$corpus"
 echo "list_function:"
 xargs -a "$work/all" "$bin/listings" compare 2 20000
 echo "symbexec, get_local_name, get_local_name_in, kname, getobjname:"

@@ -4,6 +4,7 @@
 #[derive(Debug, Clone, Copy, PartialEq)]
 pub struct Undumped {
     pub refusal: u32,
+    pub width: u32,
     pub words: usize,
     pub text: usize,
     pub read: usize,
@@ -132,6 +133,7 @@ unsafe extern "C" {
         name: *const u8,
         name_len: usize,
         strip: bool,
+        size_4: bool,
         out: *mut u8,
         out_len: usize,
     ) -> Written;
@@ -211,7 +213,8 @@ pub fn source_at(words: &[u32], text: &[u8], name: &[u8], place: usize) -> Sourc
     }
 }
 
-pub fn dump(words: &[u32], text: &[u8], name: &[u8], strip: bool, out: &mut [u8]) -> Written {
+/// The width is 4 or 8.
+pub fn dump(words: &[u32], text: &[u8], name: &[u8], strip: bool, width: usize, out: &mut [u8]) -> Written {
     unsafe {
         lua_chunk_dump(
             words.as_ptr(),
@@ -221,6 +224,7 @@ pub fn dump(words: &[u32], text: &[u8], name: &[u8], strip: bool, out: &mut [u8]
             name.as_ptr(),
             name.len(),
             strip,
+            width == 4,
             out.as_mut_ptr(),
             out.len(),
         )

@@ -1,22 +1,23 @@
 //! Compares this library's calls with the Rust's, through the exported functions.
 //!
 //!     compare N CHUNK..        each chunk, and N damaged copies of it
-//!     compare limits           trees at the limits and one beyond them
-//!     compare exhaustive       all chunks of at most three bytes, and the sample with each byte replaced by each other
+//!     compare limits           trees at the limits and one beyond them, at both widths
+//!     compare exhaustive       all chunks of at most three bytes; at both widths the sample with each byte replaced by each other, and
+//!                              strings of all sizes around the end of the data
 //!
-//! undump: the refusal or the whole tree with sources filled in, the bytes read (the shortest prefix that the Rust accepts), that
-//! space beyond the used part and all space on a refusal is untouched, exact space, and one word and one byte too little.
+//! undump: the refusal or the whole tree with sources filled in, the width, the bytes read (the shortest prefix that the Rust accepts),
+//! that space beyond the used part and all space on a refusal is untouched, exact space, and one word and one byte too little.
 //! source_at: the source of every function of a chunk that is not large, and its refusals.
-//! A chunk that is refused by 6 or 7 lies outside the domain of comparison: it is counted apart, and the refusal is held to src/made.rs,
-//! which is written from the scope.
+//! Every answer and store is held to src/lundump.rs too, and a chunk of width 4 to that alone. A chunk that is refused by 6 or 7 lies outside
+//! the domain of comparison with the Rust. Both are counted apart.
 
 use std::panic::{AssertUnwindSafe, catch_unwind};
 
 use oracle::archive::{self, Undumped};
-use oracle::made::{self, Function, Text, listed, nested, tree};
+use oracle::lundump::{self, narrow};
+use oracle::made::{Function, Text, chunk_of, listed, nested, placed, stored, tree};
 use oracle::random::Random;
 use oracle::stored::MOST;
-use oracle::vm::dump::dump;
 use oracle::vm::proto::{Proto, ProtoRef};
 use oracle::vm::undump::undump;
 use oracle::vm::value::Val;
@@ -134,6 +135,15 @@ struct Counts {
     panics: u64,
     differ: u64,
     refusals: [u64; 10],
+    /// Of chunks of width 4 alone.
+    narrow: [u64; 10],
+}
+
+impl Counts {
+    fn refused(&mut self, chunk: &[u8], number: u32) {
+        self.refusals[number as usize] += 1;
+        self.narrow[number as usize] += u64::from(narrow(chunk));
+    }
 }
 
 /// What no call has written.
@@ -164,23 +174,49 @@ fn refusal(message: &str) -> u32 {
     }
 }
 
+/// Whether all numbers but the refusal are 0.
+fn zeros(r: Undumped) -> bool {
+    r == Undumped { refusal: r.refusal, width: 0, words: 0, text: 0, read: 0 }
+}
+
+/// Whether the words and the text hold this tree.
+fn holds(words: &[u32], text: &[u8], p: &Proto) -> bool {
+    catch_unwind(AssertUnwindSafe(|| {
+        let mut walk = Walk { words, text, at: 0, to: 0 };
+        walk.function(p, NAME);
+        assert_eq!([walk.at, walk.to], [words.len(), text.len()]);
+    }))
+    .is_ok()
+}
+
 fn same(chunk: &[u8], words: &mut [u32], text: &mut [u8], counts: &mut Counts) -> bool {
     words.fill(WORD);
     text.fill(BYTE);
     let r = ours(chunk, words, text);
-    counts.refusals[r.refusal as usize] += 1;
-    let zeros = r.refusal == 0 || [r.words, r.text, r.read] == [0, 0, 0];
+    counts.refused(chunk, r.refusal);
     let (words, words_beyond) = words.split_at(r.words);
     let (text, text_beyond) = text.split_at(r.text);
-    if !zeros || words_beyond.iter().any(|x| *x != WORD) || text_beyond.iter().any(|x| *x != BYTE) {
+    let untouched = words_beyond.iter().all(|x| *x == WORD) && text_beyond.iter().all(|x| *x == BYTE);
+    if !untouched || (r.refusal > 0 && !zeros(r)) {
         return false;
     }
-    if r.refusal != made::refusal(chunk) {
+    let agrees = match lundump::undump(chunk, NAME) {
+        Ok(l) => {
+            let store = stored(&l, NAME);
+            let numbers = [r.refusal as usize, r.width as usize, r.read] == [0, l.width, l.read];
+            numbers && store.words == words && store.text == text && (!narrow(chunk) || holds(words, text, &l.root))
+        }
+        Err(n) => r.refusal == u32::from(n),
+    };
+    if !agrees {
         return false;
     }
     if r.refusal >= 6 {
         counts.outside += 1;
         return true;
+    }
+    if narrow(chunk) {
+        return r.refusal > 0 || tight(chunk, r, words, text);
     }
     match catch_unwind(|| undump(chunk, NAME)) {
         Err(_) => {
@@ -190,12 +226,8 @@ fn same(chunk: &[u8], words: &mut [u32], text: &mut [u8], counts: &mut Counts) -
         Ok(Err(e)) => refusal(&format!("{e:?}")) == r.refusal,
         Ok(Ok(p)) => {
             r.refusal == 0
-                && catch_unwind(AssertUnwindSafe(|| {
-                    let mut walk = Walk { words, text, at: 0, to: 0 };
-                    walk.function(&p, NAME);
-                    assert_eq!([walk.at, walk.to], [words.len(), text.len()]);
-                }))
-                .is_ok()
+                && r.width == 8
+                && holds(words, text, &p)
                 && undump(&chunk[..r.read], NAME).is_ok()
                 && undump(&chunk[..r.read - 1], NAME).is_err()
                 && tight(chunk, r, words, text)
@@ -212,7 +244,8 @@ fn compare(chunk: &[u8], counts: &mut Counts) {
     }
 }
 
-/// All chunks of at most three bytes; the sample cut at each place, and with each of its bytes replaced by each other.
+/// All chunks of at most three bytes; at both widths the sample cut at each place, and with each of its bytes replaced by each other, and
+/// strings of many sizes.
 fn exhaustive(counts: &mut Counts) {
     compare(&[], counts);
     for a in 0..=255 {
@@ -222,14 +255,30 @@ fn exhaustive(counts: &mut Counts) {
             (0..=255).for_each(|c| compare(&[a, b, c], counts));
         }
     }
-    let sample = include_bytes!("../../sample.luac");
-    for i in 0..sample.len() {
-        compare(&sample[..i], counts);
-        for b in 0..=255 {
-            let mut chunk = sample.to_vec();
-            chunk[i] = b;
-            compare(&chunk, counts);
+    let sample = Function::sample();
+    assert_eq!(sample.chunk(), include_bytes!("../../sample.luac"));
+    for width in [8, 4] {
+        let sample = sample.wide(width);
+        for i in 0..sample.len() {
+            compare(&sample[..i], counts);
+            for b in 0..=255 {
+                let mut chunk = sample.clone();
+                chunk[i] = b;
+                compare(&chunk, counts);
+            }
         }
+        sizes(width, counts);
+    }
+}
+
+/// A string in each place with each size from 0 to some more than there are bytes, and some that are much greater.
+fn sizes(width: usize, counts: &mut Counts) {
+    let most = u64::MAX >> (64 - 8 * width);
+    for place in 0..4 {
+        let chunk = |size| placed(place, &Text(size, b"abcd\0".to_vec())).wide(width);
+        let near = 0..=chunk(0).len() as u64 + 2;
+        let far = [1 << 16, 1 << 24, i32::MAX as u64, 1 << 31, u32::MAX as u64 - 1, u32::MAX as u64, most / 2, most / 2 + 1, most - 100];
+        near.chain(far).chain(most - 30..=most).for_each(|size| compare(&chunk(size), counts));
     }
 }
 
@@ -237,12 +286,11 @@ fn exhaustive(counts: &mut Counts) {
 fn refused(chunk: &[u8], number: u32, counts: &mut Counts) {
     counts.chunks += 1;
     counts.outside += u64::from(number > 0);
-    counts.refusals[number as usize] += 1;
+    counts.refused(chunk, number);
     let (mut words, mut text) = (vec![WORD; MOST + 1], vec![BYTE; MOST + 1]);
     let r = ours(chunk, &mut words, &mut text);
     let untouched = words[r.words..].iter().all(|x| *x == WORD) && text[r.text..].iter().all(|x| *x == BYTE);
-    let zeros = number == 0 || [r.words, r.text, r.read] == [0, 0, 0];
-    if r.refusal != number || !untouched || !zeros {
+    if r.refusal != number || !untouched || (number > 0 && !zeros(r)) {
         counts.differ += 1;
         eprintln!("differs: {} bytes, {r:?} and not {number}", chunk.len());
     }
@@ -251,20 +299,22 @@ fn refused(chunk: &[u8], number: u32, counts: &mut Counts) {
 /// Each list as long as it can be and one longer, functions nested as deep as they can be and one deeper; as many words and text bytes
 /// as there can be, and one more of each.
 fn limits(counts: &mut Counts) {
-    for list in 0..6 {
-        for n in [65_534, 65_535, 65_536] {
-            compare(&dump(&listed(list, n), None, false), counts);
+    for width in [8, 4] {
+        for list in 0..6 {
+            for n in [65_534, 65_535, 65_536] {
+                compare(&chunk_of(&listed(list, n), false, width), counts);
+            }
         }
-    }
-    for depth in [1, 2, 199, 200, 201, 202] {
-        compare(&nested(depth, Function::empty(Text::of(b"@i"))).chunk(), counts);
-    }
-    for more in [0, 1] {
-        refused(&dump(&Proto::new(&"x".repeat(MOST + more)), None, false), 9 * more as u32, counts);
-        let child = ProtoRef::new(Proto { code: vec![1; 65_535], ..Proto::new("") });
-        let mut p = Proto { protos: vec![child; 255], code: vec![2; 60_000], ..Proto::new("") };
-        p.line_info = vec![3; MOST - tree(&p).words.len() + more];
-        refused(&dump(&p, None, false), 8 * more as u32, counts);
+        for depth in [1, 2, 199, 200, 201, 202] {
+            compare(&nested(depth, Function::empty(Text::of(b"@i"))).wide(width), counts);
+        }
+        for more in [0, 1] {
+            refused(&chunk_of(&Proto::new(&"x".repeat(MOST + more)), false, width), 9 * more as u32, counts);
+            let child = ProtoRef::new(Proto { code: vec![1; 65_535], ..Proto::new("") });
+            let mut p = Proto { protos: vec![child; 255], code: vec![2; 60_000], ..Proto::new("") };
+            p.line_info = vec![3; MOST - tree(&p).words.len() + more];
+            refused(&chunk_of(&p, false, width), 8 * more as u32, counts);
+        }
     }
 }
 
@@ -290,7 +340,8 @@ fn main() {
             compare(&random.damaged(&chunk), &mut counts);
         }
     }
-    let Counts { chunks, outside, panics, differ, refusals } = counts;
+    let Counts { chunks, outside, panics, differ, refusals, narrow } = counts;
     println!("{chunks} chunks, {differ} differ; {outside} outside the domain, {panics} where the Rust panics; by refusal {refusals:?}");
+    println!("{} of them at width 4; by refusal {narrow:?}", narrow.iter().sum::<u64>());
     assert_eq!(differ, 0);
 }

@@ -3,21 +3,25 @@
 //!     compare_dump N CHUNK..   each chunk, N damaged copies of it that undump takes, N damaged copies of its store
 //!     compare_dump limits      trees at the limits and one beyond them
 //!
-//! Each store is dumped under three names, stripped and not, into no space, one byte too few, exactly enough and some more: the answer,
-//! the bytes, and that what lies beyond them, or all of it on a refusal, is untouched. The Rust dumps the tree that its undump
-//! reads from the chunk, and for a damaged store the tree that src/stored.rs finds in it. What was dumped is read back too.
+//! Each store is dumped under three names, stripped and not, at both widths, into no space, one byte too few, exactly enough and some more:
+//! the answer, the bytes, and that what lies beyond them, or all of it on a refusal, is untouched. The Rust dumps the tree that its undump
+//! reads from the chunk, and for a damaged store the tree that src/stored.rs finds in it; at width 4 src/lundump.rs reads, and src/ldump.rs
+//! dumps, which at width 8 must write what the Rust does. What was dumped is read back too.
 
 use oracle::archive::{self, Written};
-use oracle::made::{Constant, Function, Store, Text, listed, nested, stripped, tree};
+use oracle::lundump::narrow;
+use oracle::made::{Constant, Function, Store, Text, chunk_of, listed, nested, root, stripped, tree};
 use oracle::random::Random;
 use oracle::stored::{MOST, tree_of};
-use oracle::vm::dump::dump;
 use oracle::vm::proto::{Proto, ProtoRef};
-use oracle::vm::undump::undump;
 use oracle::vm::value::Val;
 
 /// What no call has written.
 const BYTE: u8 = 0x5A;
+
+/// How a store is dumped: the name, whether stripped, and the width.
+#[derive(Debug, Clone, Copy)]
+struct How<'a>(&'a [u8], bool, usize);
 
 #[derive(Default)]
 struct Counts {
@@ -25,25 +29,29 @@ struct Counts {
     /// Chunks whose dump has their bytes.
     equal: u64,
     calls: u64,
+    /// Calls at width 4.
+    narrow: u64,
     differ: u64,
     refusals: [u64; 12],
 }
 
 impl Counts {
     /// One dump with so many bytes lent: these bytes, or this refusal.
-    fn call(&mut self, store: &Store, name: &[u8], strip: bool, lent: usize, bytes: Result<&[u8], u32>) {
+    fn call(&mut self, store: &Store, how: How, lent: usize, bytes: Result<&[u8], u32>) {
         let mut out = vec![BYTE; lent];
-        let answer = archive::dump(&store.words, &store.text, name, strip, &mut out);
+        let How(name, strip, width) = how;
+        let answer = archive::dump(&store.words, &store.text, name, strip, width, &mut out);
         let bytes = bytes.and_then(|b| if b.len() <= lent { Ok(b) } else { Err(11) });
         let (refusal, bytes) = bytes.map_or_else(|n| (n, &[][..]), |b| (0, b));
         let beyond = out.get(bytes.len()..).is_some_and(|rest| rest.iter().all(|b| *b == BYTE));
         let same = answer == Written { refusal, len: bytes.len() } && beyond && out.starts_with(bytes);
         self.calls += 1;
+        self.narrow += u64::from(width == 4);
         self.refusals[refusal as usize] += 1;
         if !same {
             self.differ += 1;
             let (w, t) = (store.words.len(), store.text.len());
-            eprintln!("differs: {w} words, {t} text bytes, name {name:02x?}, strip {strip}, {lent} lent: {answer:?}, not {refusal}");
+            eprintln!("differs: {w} words, {t} text bytes, {how:02x?}, {lent} lent: {answer:?}, not {refusal}");
             if w + t < 500 {
                 eprintln!("  {:x?} {:02x?}", store.words, store.text);
             }
@@ -52,18 +60,19 @@ impl Counts {
 
     /// All calls for a store under a name; p is the tree that it holds, if any.
     fn named(&mut self, store: &Store, name: &[u8], p: Option<&Proto>, room: usize) {
-        for strip in [false, true] {
+        for (strip, width) in [(false, 8), (true, 8), (false, 4), (true, 4)] {
+            let how = How(name, strip, width);
             match p {
                 None => {
-                    self.call(store, name, strip, 0, Err(10));
-                    self.call(store, name, strip, room, Err(10));
+                    self.call(store, how, 0, Err(10));
+                    self.call(store, how, room, Err(10));
                 }
                 Some(p) => {
-                    let bytes = dump(p, None, strip);
+                    let bytes = chunk_of(p, strip, width);
                     for lent in [0, bytes.len() - 1, bytes.len(), bytes.len() + room] {
-                        self.call(store, name, strip, lent, Ok(&bytes));
+                        self.call(store, how, lent, Ok(&bytes));
                     }
-                    self.back(p, &bytes, strip);
+                    self.back(p, &bytes, strip, width);
                 }
             }
         }
@@ -75,17 +84,18 @@ impl Counts {
         for name in ["=n", "", "@a.lua"] {
             self.named(store, name.as_bytes(), tree(name).as_deref(), room);
         }
-        self.call(store, &[0x41, 0xFF], false, room, Err(1));
+        for width in [8, 4] {
+            self.call(store, How(&[0x41, 0xFF], false, width), room, Err(1));
+        }
     }
 
-    /// Reads a dump back, with bytes behind it, under another name: the same bytes read, and the same tree.
-    fn back(&mut self, p: &Proto, bytes: &[u8], strip: bool) {
+    /// Reads a dump back, with bytes behind it, under another name: the same bytes read, the width, and the same tree.
+    fn back(&mut self, p: &Proto, bytes: &[u8], strip: bool, width: usize) {
         let behind = [bytes, &[0x1B, 7, 7]].concat();
         let (mut words, mut text) = (vec![0; bytes.len() + 64], vec![0; bytes.len() + 64]);
         let u = archive::undump(&behind, b"@other", &mut words, &mut text);
         let p = renamed(&if strip { stripped(p) } else { p.clone() }, "@other");
-        let same = u.refusal == 0
-            && u.read == bytes.len()
+        let same = [u.refusal as usize, u.width as usize, u.read] == [0, width, bytes.len()]
             && tree_of(&words[..u.words], &text[..u.text], "@other").is_some_and(|q| tree(&q) == tree(&p));
         if !same {
             self.differ += 1;
@@ -117,9 +127,9 @@ fn chunk(chunk: &[u8], counts: &mut Counts, room: usize) -> Option<Store> {
     let store = store_of(chunk, chunk.len() + 64, 3 * chunk.len() + 64)?;
     for name in ["=n", ""] {
         let p = tree_of(&store.words, &store.text, name).unwrap();
-        assert_eq!(tree(&p), tree(&undump(chunk, name).unwrap()));
+        assert_eq!(tree(&p), tree(&root(chunk, name)));
     }
-    counts.store(&store, |name| Some(undump(chunk, name).unwrap()), room);
+    counts.store(&store, |name| Some(root(chunk, name)), room);
     Some(store)
 }
 
@@ -159,8 +169,8 @@ fn limits(counts: &mut Counts) {
         }
     }
     let inner = Function { lines: vec![1], ..Function::empty(Text::of(b"@i")) };
-    for depth in [199, 200] {
-        chunk(&nested(depth, inner.clone()).chunk(), counts, 3).unwrap();
+    for (depth, width) in [(199, 8), (200, 8), (200, 4)] {
+        chunk(&nested(depth, inner.clone()).wide(width), counts, 3).unwrap();
     }
     for depth in [200, 201] {
         let p = (1..depth).fold(Proto::new("@d"), |p, _| Proto { protos: vec![ProtoRef::new(p)], ..Proto::new("@d") });
@@ -194,9 +204,11 @@ fn limits(counts: &mut Counts) {
     for (len, bytes) in [(MOST, true), (MOST + 1, false)] {
         let name = "n".repeat(len);
         let p = tree_of(&none.words, &none.text, &name).unwrap();
-        let all = dump(&p, None, false);
-        counts.call(&none, name.as_bytes(), false, all.len(), if bytes { Ok(&all) } else { Err(1) });
-        counts.call(&none, name.as_bytes(), false, all.len() - 1, if bytes { Ok(&all) } else { Err(1) });
+        for width in [8, 4] {
+            let (all, how) = (chunk_of(&p, false, width), How(name.as_bytes(), false, width));
+            counts.call(&none, how, all.len(), if bytes { Ok(&all) } else { Err(1) });
+            counts.call(&none, how, all.len() - 1, if bytes { Ok(&all) } else { Err(1) });
+        }
     }
     sources(counts);
     strings(counts);
@@ -220,12 +232,13 @@ fn sources(counts: &mut Counts) {
 /// 65,535 strings, which the Rust searches one by one; strings of 0 to 300 bytes.
 fn strings(counts: &mut Counts) {
     let many: Vec<Constant> = (0..65_535).map(|i| Constant::Str(Text::of(format!("{i}").as_bytes()))).collect();
-    let bytes = Function::with_constants(&many).chunk();
-    let store = store_of(&bytes, 300_000, 1_000_000).unwrap();
-    let p = undump(&bytes, "=n").unwrap();
-    assert_eq!(dump(&p, None, false), bytes);
-    for lent in [bytes.len() - 1, bytes.len(), bytes.len() + 4] {
-        counts.call(&store, b"=n", false, lent, Ok(&bytes));
+    for width in [8, 4] {
+        let bytes = Function::with_constants(&many).wide(width);
+        let store = store_of(&bytes, 300_000, 1_000_000).unwrap();
+        assert_eq!(chunk_of(&root(&bytes, "=n"), false, width), bytes);
+        for lent in [bytes.len() - 1, bytes.len(), bytes.len() + 4] {
+            counts.call(&store, How(b"=n", false, width), lent, Ok(&bytes));
+        }
     }
     for n in 0..300 {
         let s = Text::of(&vec![b'a' + (n % 26) as u8; n]);
@@ -250,14 +263,15 @@ fn main() {
         for path in &args[1..] {
             let bytes = std::fs::read(path).unwrap();
             let store = chunk(&bytes, &mut counts, 16).unwrap();
-            counts.equal += u64::from(dump(&undump(&bytes, "=n").unwrap(), None, false) == bytes);
+            let width = if narrow(&bytes) { 4 } else { 8 };
+            counts.equal += u64::from(chunk_of(&root(&bytes, "=n"), false, width) == bytes);
             for _ in 0..copies {
                 chunk(&r.damaged(&bytes), &mut counts, 1 + r.below(40));
                 found(&damaged_store(&store, &mut r), &mut counts, 1 + r.below(40));
             }
         }
     }
-    let Counts { stores, equal, calls, differ, refusals } = counts;
-    println!("{stores} stores, {calls} calls, {differ} differ; by refusal {refusals:?}; {equal} chunks are their own dump");
+    let Counts { stores, equal, calls, narrow, differ, refusals } = counts;
+    println!("{stores} stores, {calls} calls, {narrow} of them at width 4, {differ} differ; by refusal {refusals:?}; {equal} chunks are their own dump");
     assert_eq!(differ, 0);
 }
