@@ -3,12 +3,14 @@
  *
  *     servicetool list FILE                        the plain listing
  *     servicetool list-full FILE                   the full listing
+ *     servicetool width FILE                       how many bytes each string's size takes in the chunk: 4 or 8
  *     servicetool places FILE                      each function's number in preorder, as listings give it, and its place
- *     servicetool strip FILE OUT                   the chunk without lines, locals and upvalue names, written to the file OUT
+ *     servicetool strip [--size N] FILE OUT        the chunk without lines, locals and upvalue names, written to the file OUT
  *     servicetool name FILE FUNCTION PC REGISTER   what the register holds at pc; FUNCTION is the number behind # in a listing
  *     servicetool source FILE PLACE                the source of the function at a place
  *
- * Listings and sources take @FILE as the chunk name. strip takes the empty name, so that it writes no source that FILE has not.
+ * Listings and sources take @FILE as the chunk name. strip takes the empty name, so that it writes no source that FILE has not. It writes
+ * the width of FILE, or with --size the width N, 4 or 8: a controller loads chunks of its own width alone.
  *
  * Exit status: 0 done, 1 refused by the library (the number is printed), 2 anything else.
  */
@@ -29,11 +31,13 @@ struct bytes {
     size_t len;
 };
 
+/* The store of a chunk, and the chunk's width, which the store does not hold. */
 struct store {
     uint32_t *words;
     size_t words_len;
     uint8_t *text;
     size_t text_len;
+    uint32_t width;
 };
 
 /* ---- what goes wrong */
@@ -171,6 +175,7 @@ static int undump(const char *file, struct bytes chunk, struct store *s)
         } else {
             s->words_len = r.words;
             s->text_len = r.text;
+            s->width = r.width;
             return r.refusal == LUA_CHUNK_OK ? DONE : refused(file, r.refusal);
         }
     }
@@ -224,13 +229,19 @@ static int list(const char *file, const struct store *s, struct bytes name, bool
     return status;
 }
 
-static int strip(const char *file, const struct store *s, const char *to)
+static int width(const struct store *s)
+{
+    printf("%lu\n", (unsigned long)s->width);
+    return print(s->text, 0);
+}
+
+static int strip(const char *file, const struct store *s, bool size_4, const char *to)
 {
     const uint8_t no_name = 0;
     struct bytes out = {NULL, 0};
     if (!get_space(&out, LUA_CHUNK_DUMP_MOST(s->words_len, s->text_len, 0)))
         return failed(file, "no memory");
-    lua_chunk_Written r = lua_chunk_dump(s->words, s->words_len, s->text, s->text_len, &no_name, 0, true, out.at, out.len);
+    lua_chunk_Written r = lua_chunk_dump(s->words, s->words_len, s->text, s->text_len, &no_name, 0, true, size_4, out.at, out.len);
     int status = r.refusal ? refused(file, r.refusal) : write_file(to, out.at, r.len);
     free(out.at);
     return status;
@@ -283,7 +294,7 @@ static int source(const char *file, const struct store *s, struct bytes chunk_na
 
 static int usage(void)
 {
-    fputs("usage: servicetool list FILE | list-full FILE | places FILE | strip FILE OUT\n"
+    fputs("usage: servicetool list FILE | list-full FILE | width FILE | places FILE | strip [--size 4|8] FILE OUT\n"
           "                   | name FILE FUNCTION PC REGISTER | source FILE PLACE\n",
           stderr);
     return FAILED;
@@ -304,7 +315,14 @@ static bool number(const char *word, size_t most, size_t *n)
     return c != word && *c == '\0';
 }
 
-static int run(int argc, char **argv, const struct store *s, struct bytes chunk_name)
+/* The number behind --size: 4 or 8, or 0 where it is neither. */
+static uint32_t size(const char *word)
+{
+    return strcmp(word, "4") == 0 ? 4 : strcmp(word, "8") == 0 ? 8 : 0;
+}
+
+/* The width to write is 0 where it is that of the chunk. */
+static int run(int argc, char **argv, const struct store *s, struct bytes chunk_name, uint32_t to_write)
 {
     const char *command = argv[1], *file = argv[2];
     size_t n[3] = {0, 0, 0};
@@ -312,10 +330,12 @@ static int run(int argc, char **argv, const struct store *s, struct bytes chunk_
         return list(file, s, chunk_name, false);
     if (argc == 3 && strcmp(command, "list-full") == 0)
         return list(file, s, chunk_name, true);
+    if (argc == 3 && strcmp(command, "width") == 0)
+        return width(s);
     if (argc == 3 && strcmp(command, "places") == 0)
         return places(s);
     if (argc == 4 && strcmp(command, "strip") == 0)
-        return strip(file, s, argv[3]);
+        return strip(file, s, (to_write ? to_write : s->width) == 4, argv[3]);
     if (argc == 6 && strcmp(command, "name") == 0 && number(argv[3], SIZE_MAX, &n[0]) && number(argv[4], SIZE_MAX, &n[1])
         && number(argv[5], UINT32_MAX, &n[2]))
         return name(file, s, n[0], n[1], (uint32_t)n[2]);
@@ -326,10 +346,20 @@ static int run(int argc, char **argv, const struct store *s, struct bytes chunk_
 
 int main(int argc, char **argv)
 {
+    uint32_t to_write = 0;
+    /* --size N is taken out of the words */
+    if (argc > 2 && strcmp(argv[2], "--size") == 0) {
+        to_write = argc > 3 ? size(argv[3]) : 0;
+        if (strcmp(argv[1], "strip") != 0 || to_write == 0)
+            return usage();
+        argv[3] = argv[1];
+        argv += 2;
+        argc -= 2;
+    }
     if (argc < 3)
         return usage();
     struct bytes chunk = {NULL, 0}, chunk_name = {NULL, 0};
-    struct store s = {NULL, 0, NULL, 0};
+    struct store s = {NULL, 0, NULL, 0, 0};
     int status = read_file(argv[2], &chunk);
     if (status == DONE)
         status = undump(argv[2], chunk, &s);
@@ -338,7 +368,7 @@ int main(int argc, char **argv)
     if (status == DONE) {
         chunk_name.at[0] = '@';
         memcpy(chunk_name.at + 1, argv[2], strlen(argv[2]));
-        status = run(argc, argv, &s, chunk_name);
+        status = run(argc, argv, &s, chunk_name, to_write);
     }
     free(chunk.at);
     free(chunk_name.at);

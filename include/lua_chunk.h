@@ -42,6 +42,18 @@
  * Time. Every call but lua_chunk_undump first checks the whole store (refusal 10).
  *
  *
+ * CHUNKS
+ *
+ * A chunk has the formats of the machine that its compiler was built for. Read and written are chunks of Lua 5.1 with the low byte first,
+ * int and instruction of 4 bytes each, double for numbers, and a size_t of 4 or 8 bytes, which is the width of the chunk: the size of each
+ * string in it takes so many bytes. A luac built for 32 bits makes chunks of width 4, one built for 64 bits chunks of width 8.
+ * lua_chunk_undump reads both and answers which it was; lua_chunk_dump is told which to write.
+ *
+ * A Lua loads chunks of its own width alone, and refuses the other: "bad header in precompiled chunk", or "incompatible precompiled chunk".
+ * So a chunk must have the width of the controller that is to load it; the machine that these calls run on makes no difference. The store
+ * does not hold the width: a program has the same store at both. Keep what undump answered, and pass size_4 = tree.width == 4 to dump.
+ *
+ *
  * CHUNK NAMES
  *
  * A chunk can leave out its root function's source. The chunk name then stands for it: valid UTF-8, at most LUA_CHUNK_MOST bytes, empty
@@ -91,7 +103,7 @@ enum lua_chunk_refusal {
     LUA_CHUNK_BAD_NAME = 1,      /* the chunk name is not UTF-8, or above LUA_CHUNK_MOST bytes */
     LUA_CHUNK_TRUNCATED = 2,     /* the chunk ends too early */
     LUA_CHUNK_NOT_A_CHUNK = 3,   /* the first 4 bytes are not 1B 4C 75 61 */
-    LUA_CHUNK_INCOMPATIBLE = 4,  /* the next 8 are not 51 00 01 04 08 04 08 00 */
+    LUA_CHUNK_INCOMPATIBLE = 4,  /* the next 8 are neither 51 00 01 04 08 04 08 00 nor 51 00 01 04 04 04 08 00; fewer than 8 are 2 */
     LUA_CHUNK_BAD_CONSTANT = 5,  /* a constant's tag is not 0, 1, 3 or 4 */
     LUA_CHUNK_BAD_COUNT = 6,     /* a list's count is negative or above LUA_CHUNK_LIST_MOST */
     LUA_CHUNK_TOO_DEEP = 7,      /* a function begins that is 201 deep */
@@ -114,9 +126,10 @@ enum lua_chunk_kind {
     LUA_CHUNK_METHOD = 5
 };
 
-/* The words and the text bytes that a tree takes, and the bytes of the chunk that were read. */
+/* The chunk's width, 4 or 8; the words and the text bytes that a tree takes; and the bytes of the chunk that were read. */
 typedef struct lua_chunk_Undumped {
     uint32_t refusal;
+    uint32_t width;
     size_t words;
     size_t text;
     size_t read;
@@ -158,9 +171,9 @@ typedef struct lua_chunk_SourceAt {
 } lua_chunk_SourceAt;
 
 /*
- * Reads the chunk that begins at the first byte of chunk into words and text. Answers the words and text bytes used, and the bytes read:
- * the header's and the root function's, children included. Bytes behind those are ignored; where chunks stand end to end, the next
- * begins at chunk + read.
+ * Reads the chunk that begins at the first byte of chunk, of width 4 or 8, into words and text. Answers the width, which lua_chunk_dump
+ * needs (see CHUNKS), the words and text bytes used, and the bytes read: the header's and the root function's, children included. Bytes
+ * behind those are ignored; where chunks stand end to end, the next begins at chunk + read and has a width of its own.
  *
  * Sources, local and upvalue names are repaired: each maximal ill-formed part of their UTF-8 becomes EF BF BD. String constants stay as
  * they are. The name is only tested: see CHUNK NAMES.
@@ -179,15 +192,19 @@ lua_chunk_Undumped lua_chunk_undump(const uint8_t *chunk, size_t chunk_len, cons
  * Writes the chunk of a store to out. With strip, lines, locals and upvalue names are left out, and sources kept. A source equal to the
  * one around it is left out, that of the root where it is empty; an inherited root source is written as the name, unless that is empty.
  *
+ * With size_4 the chunk has width 4, for a Lua whose size_t has 4 bytes, without it width 8: see CHUNKS. To keep the width that was read,
+ * pass tree.width == 4. Do not pass tree.width itself: as a bool, 8 is true as well.
+ *
  * Refused by 1, 10, 11.
  *
- * Space. LUA_CHUNK_DUMP_MOST bytes are always enough (proved), and with that much lent the call is faster: with less, it counts first.
+ * Space. LUA_CHUNK_DUMP_MOST bytes are always enough at both widths (proved), and with that much lent the call is faster: with less, it
+ * counts first. At width 4 a chunk is never longer than at 8.
  */
 #define LUA_CHUNK_DUMP_MOST(words_len, text_len, name_len) \
     ((size_t)12 + (size_t)5 * (words_len) + (size_t)(text_len) + (size_t)(name_len))
 
 lua_chunk_Written lua_chunk_dump(const uint32_t *words, size_t words_len, const uint8_t *text, size_t text_len, const uint8_t *name,
-                                 size_t name_len, bool strip, uint8_t *out, size_t out_len);
+                                 size_t name_len, bool strip, bool size_4, uint8_t *out, size_t out_len);
 
 /*
  * Writes the listing of all the functions of a store to out, as luac -l does, or with full as luac -l -l does, with # and the function's
