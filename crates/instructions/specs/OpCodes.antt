@@ -3,7 +3,7 @@
 use Prim.Native.Nat.{ℕ, _-_}
 use Prim.Native.String.{String}
 use Prim.Native.Char.{code}
-use mathlib.Core.Bool.{Bool, false, cond, _||_}
+use mathlib.Core.Bool.{Bool, false, cond, _&&_, _||_}
 use mathlib.Core.List.{List, [], _∷_, _++_}
 use lib.ListN.{length, getD, replicate}
 use lib.Dec.{eqb, ltb}
@@ -12,7 +12,7 @@ use Rattle.instructions.specs.declared.OpMode.the-variants.{IABC, IABx, 
 use Rattle.instructions.specs.declared.OpArgMask.{OpArgMask}
 use Rattle.instructions.specs.declared.OpArgMask.the-variants.{N, U, R, K}
 use Rattle.instructions.specs.declared.OpModes.{OpModes}
-use Rattle.instructions.specs.Fields.{field, GET-OPCODE}
+use Rattle.instructions.specs.Fields.{field, GET-OPCODE, GETARG-C}
 
 -- ==== lopcodes.h, enum OpCode
 
@@ -153,6 +153,12 @@ jumpOps = OP-JMP ∷ OP-FORLOOP ∷ OP-FORPREP ∷ []
 -- whether an opcode jumps
 unfoldable pub isJump : ℕ → Bool
 isJump op = among op jumpOps
+
+-- ==== lopcodes.h, notes
+
+-- "In OP_SETLIST, .. if (C == 0) then next `instruction' is real C"
+abbrev pub nextIsC : ℕ → Bool
+nextIsC i = eqb (opcode i) OP-SETLIST && eqb (GETARG-C i) 0
 
 -- ==== lopcodes.c, luaP_opmodes and luaP_opnames
 

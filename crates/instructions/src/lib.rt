@@ -5,7 +5,7 @@ ghost use Prim.Native.Nat.{_+_, _≤_, _<_};
 ghost use Rattle.instructions.specs.Fields.{field, placed, GETARG-A, GETARG-B, GETARG-C, GETARG-Bx, GETARG-sBx};
 ghost use Rattle.instructions.specs.Fields.{CREATE-ABC, CREATE-ABx, CREATE-AsBx, ISK, INDEXK, RKASK};
 ghost use Rattle.instructions.specs.OpCodes.{Row, opcodes, opcode, orMove, opModes, opName, padded};
-ghost use Rattle.instructions.specs.OpCodes.{isJump, modesOfByte, modeOf, argOf};
+ghost use Rattle.instructions.specs.OpCodes.{isJump, nextIsC, modesOfByte, modeOf, argOf};
 
 // Size and position of opcode arguments. From the low bit: the opcode, A, C, B; Bx is C and B together.
 const SIZE_C: u32 = 9;
@@ -99,6 +99,16 @@ impl Instruction {
         ensures { λ r. ⌜ r ≡ GETARG-sBx (self .0) ⌝ }
     {
         self.bx() as i32 - MAXARG_SBX
+    }
+
+    // Whether the next word is no instruction, but this one's C: SETLIST, where C is 0.
+    pub fn next_is_c(self) -> bool
+        ensures { λ r. ⌜ r ≡ nextIsC (self .0) ⌝ }
+    {
+        if self.opcode() != OP_SETLIST {
+            return false;
+        }
+        self.c() == 0
     }
 
     // The instruction of an opcode, A, B and C, each cut to its field's size.

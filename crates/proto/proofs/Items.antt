@@ -101,8 +101,8 @@ module _ {words text : List ℕ} where
     pub ints-count : (l : List ℕ) → Stands words text at to (ints l) → getD words at 0 ≡ length l
     ints-count l h = here-get (length l) l (h .in-words)
 
-    pub ints-item : (l : List ℕ) (i : ℕ) → i < length l → Stands words text at to (ints l) → getD words (at + suc i) 0 ≡ getD l i 0
-    ints-item l i k h = here-item (length l ∷ l) (suc i) (omega arith) (h .in-words)
+    pub ints-item : {i r x : ℕ} (l : List ℕ) → i < length l → Stands words text at to (ints l) → Skips words (1 + 1 * i) at r → x ≡ getD words r 0 → x ≡ getD l i 0
+    ints-item {i} l k h s e = let n : 1 + 1 * i ≡ suc i = omega arith in rw n at (skip-item (length l ∷ l) (omega arith) (h .in-words) s e)
 
     pub list-count : {A : Type 0} (piece : A → Piece) (l : List A) → Stands words text at to (list piece l) → getD words at 0 ≡ length l
     list-count piece l h = here-get (length l) _ (h .in-words)

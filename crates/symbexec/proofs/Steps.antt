@@ -1,15 +1,14 @@
 -- The tests of one instruction, the code's items, and the walk from one instruction to the next.
-use Rattle.lent.proofs.Prelude.{ℕ, zero, suc, _+_, _*_, _-_, _≤_, _<_, _≡_, sym, ap, _∙_, List, _∷_, true, false, cond, and-false, arith, decLt, length, getD, List·getD-eq-default, lt-ltb, le-ltb}
+use Rattle.lent.proofs.Prelude.{ℕ, zero, suc, _+_, _*_, _-_, _≤_, _<_, _≡_, sym, ap, _∙_, List, true, false, cond, and-false, arith, decLt, length, getD, List·getD-eq-default, lt-ltb, le-ltb}
 use Rattle.format.specs.Tree.{Function, Functions}
 use Rattle.format.specs.Valid.{depth, ValidAll}
 use Rattle.format.specs.Store.{ints, childrenPiece}
-use Rattle.instructions.specs.Fields.{MAXARG-sBx, GETARG-C, GETARG-Bx}
+use Rattle.instructions.specs.Fields.{MAXARG-sBx, GETARG-Bx}
 use Rattle.instructions.specs.OpCodes.{opcode}
 use Rattle.proto.specs.Walk.{Skips, StandsAt, children}
 use Rattle.proto.specs.Children.{ChildAt}
-use Rattle.proto.proofs.Items.{ints-count}
+use Rattle.proto.proofs.Items.{ints-count, ints-item}
 use Rattle.proto.proofs.Checks.{never}
-use Rattle.proto.proofs.Sublists.{skip-item}
 use Rattle.proto.specs.declared.child.Child.{Child}
 use Rattle.symbexec.specs.declared.operands.Skipped.{Skipped}
 use Rattle.symbexec.specs.Operands.{Behind}
@@ -45,7 +44,7 @@ module _ {words text : List ℕ} {code x : ℕ} (l : List ℕ) (h : StandsAt wor
   code-past k = sym (List·getD-eq-default l 0 (omega (arith, code-count)))
 
   pub code-item : {pc r y : ℕ} → pc < x → Skips words (1 + 1 * pc) code r → y ≡ getD words r 0 → y ≡ getD l pc 0
-  code-item {pc} k s g = let n : 1 + 1 * pc ≡ suc pc = omega arith in rw n at (skip-item (length l ∷ l) (omega (arith, code-count)) (h .stands .in-words) s g)
+  code-item k s g = ints-item l (omega (arith, code-count)) (h .stands) s g
 
 -- ---- the walk
 
@@ -82,7 +81,7 @@ module _ {words : List ℕ} {code functions lastpc reg : ℕ} where
   trace-start f k = record { kept = k; traced = λ text l fs h c v. record { left = lastpc; enough = omega arith; same = rw (f text l h) } }
 
   pub trace-turn : {i last last′ pc pc′ : ℕ} {child : Child} {b : Skipped} → pc < lastpc → ((text l : List ℕ) → StandsAt words text code (ints l) → i ≡ getD l pc 0)
-      → last′ ≡ cond (writes i reg) pc last → Behind words functions child (λ fs. operands fs (opcode i) (GETARG-Bx i) (GETARG-C i)) b
+      → last′ ≡ cond (writes i reg) pc last → Behind words functions child (λ fs. operands fs i) b
       → (pc′ ≡ nextPc (opcode i) (GETARG-Bx i) (b .count) lastpc reg pc) × (pc < pc′) → Traced words code functions lastpc reg last child pc → Traced words code functions lastpc reg last′ (b .child) pc′
   trace-turn {i} {pc = pc} {b = b} k e f g m x =
       record {

@@ -6,8 +6,8 @@ use mathlib.Core.Option.{Option, none, some}
 use lib.ListN.{length, getD}
 use lib.Dec.{eqb, leb, ltb}
 use Rattle.format.specs.Tree.{Function}
-use Rattle.instructions.specs.Fields.{GETARG-A, GETARG-B, GETARG-C, GETARG-Bx, MAXARG-sBx, NO-REG}
-use Rattle.instructions.specs.OpCodes.{OP-LOADNIL, OP-SELF, OP-CALL, OP-TAILCALL, OP-TFORLOOP, OP-SETLIST, OP-CLOSURE, isJump, opcode, opModes}
+use Rattle.instructions.specs.Fields.{GETARG-A, GETARG-B, GETARG-Bx, MAXARG-sBx, NO-REG}
+use Rattle.instructions.specs.OpCodes.{OP-LOADNIL, OP-SELF, OP-CALL, OP-TAILCALL, OP-TFORLOOP, OP-CLOSURE, isJump, nextIsC, opcode, opModes}
 use Rattle.proto.specs.Walk.{item, children}
 
 -- ---- what an instruction writes
@@ -44,15 +44,15 @@ upvaluesOf none = 0
 upvaluesOf (some (Function.function p fs)) = p .numUpvalues
 
 -- the words behind an instruction that are none: one for each upvalue of CLOSURE's function, SETLIST's count where C is 0
-unfoldable pub operands : List Function → ℕ → ℕ → ℕ → ℕ
-operands fs op bx c = cond (eqb op OP-CLOSURE) (upvaluesOf (item fs bx)) (cond (eqb op OP-SETLIST && eqb c 0) 1 0)
+unfoldable pub operands : List Function → ℕ → ℕ
+operands fs i = cond (eqb (opcode i) OP-CLOSURE) (upvaluesOf (item fs (GETARG-Bx i))) (cond (nextIsC i) 1 0)
 
 -- the next pc, where so many words are none
 unfoldable pub nextPc : ℕ → ℕ → ℕ → ℕ → ℕ → ℕ → ℕ
 nextPc op bx skipped lastpc reg pc = cond (followed op bx lastpc reg pc) (biased pc bx - MAXARG-sBx) (pc + 1 + skipped)
 
 abbrev pub after : List Function → ℕ → ℕ → ℕ → ℕ → ℕ
-after fs lastpc reg pc i = nextPc (opcode i) (GETARG-Bx i) (operands fs (opcode i) (GETARG-Bx i) (GETARG-C i)) lastpc reg pc
+after fs lastpc reg pc i = nextPc (opcode i) (GETARG-Bx i) (operands fs i) lastpc reg pc
 
 -- ---- the search
 

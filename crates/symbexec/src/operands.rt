@@ -2,13 +2,10 @@
 use format::DEPTH;
 use instructions::Instruction;
 use instructions::OP_CLOSURE;
-use instructions::OP_SETLIST;
 use proto::child::Child;
 use proto::child::child_at;
 use proto::head::head_at;
 use proto::walk::word_at;
-ghost use Rattle.instructions.specs.Fields.{GETARG-C, GETARG-Bx};
-ghost use Rattle.instructions.specs.OpCodes.{opcode};
 ghost use Rattle.proto.specs.Walk.{item};
 ghost use Rattle.symbexec.specs.SymbExec.{upvaluesOf, operands};
 ghost use Rattle.symbexec.specs.Operands.{Behind};
@@ -39,19 +36,16 @@ fn closure_operands(words: &[u32], functions: usize, kept: Child, i: u32) -> Ski
 
 // Those of an instruction, the functions being in the list at a place.
 pub fn operands(words: &[u32], functions: usize, kept: Child, i: Instruction) -> Skipped
-    ensures { λ r. ⌜ Behind (now (words .entry)) functions kept (λ fs. operands fs (opcode (i .0)) (GETARG-Bx (i .0)) (GETARG-C (i .0))) r ⌝ }
+    ensures { λ r. ⌜ Behind (now (words .entry)) functions kept (λ fs. operands fs (i .0)) r ⌝ }
 {
-    let op = i.opcode();
-    if op == OP_CLOSURE {
+    if i.opcode() == OP_CLOSURE {
         return closure_operands(words, functions, kept, i.bx());
     }
-    if op == OP_SETLIST {
-        if i.c() == 0 {
-            return Skipped {
-                count: 1,
-                child: kept,
-            };
-        }
+    if i.next_is_c() {
+        return Skipped {
+            count: 1,
+            child: kept,
+        };
     }
     Skipped {
         count: 0,
