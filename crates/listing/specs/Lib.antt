@@ -1,3 +1,4 @@
 pub mod Listing
+pub mod RustCode
 pub mod Closures
 pub mod Lister

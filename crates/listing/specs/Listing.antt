@@ -1,20 +1,26 @@
--- The listing of a tree: format_code, list_function_recursive and list_function of listing.rs, and what list_function answers and leaves in lent memory.
+-- The listing of a tree: PrintCode's loop of print.c; list_function_recursive and list_function of listing.rs; what list_function answers and leaves in lent memory.
 use Prim.Native.Nat.{ℕ, _+_}
 use mathlib.Core.Bool.{Bool, cond}
-use mathlib.Core.List.{List, [], _++_}
-use Rattle.instructions.specs.OpCodes.{ascii}
+use mathlib.Core.List.{List, [], _∷_, _++_}
+use Rattle.instructions.specs.OpCodes.{ascii, nextIsC}
 use Rattle.format.specs.Tree.{Parts, Function, Functions, filled}
 use Rattle.format.specs.Dump.{WriteLeft, onStore}
 use Rattle.proto.specs.Walk.{total}
 use Rattle.listing_lines.specs.Line.{formatInstruction}
 use Rattle.listing_headers.specs.Header.{formatHeader}
-use Rattle.listing_headers.specs.Tables.{enumerated, formatConstants, formatLocals, formatUpvalues}
+use Rattle.listing_headers.specs.Tables.{formatConstants, formatLocals, formatUpvalues}
 
 -- ==== a function
 
--- format_code
+-- PrintCode's loop from pc on: the line of the instruction there; then pc moves on by one, and by two over a C in the next word (code[++pc])
+unfoldable pub printCode : (ℕ → ℕ → List ℕ) → ℕ → List ℕ → List ℕ
+printCode line pc [] = []
+printCode line pc (i ∷ []) = line pc i
+printCode line pc (i ∷ w ∷ code) = line pc i ++ cond (nextIsC i) (printCode line (pc + 2) code) (printCode line (pc + 1) (w ∷ code))
+
+-- format_code, with that loop
 abbrev pub formatCode : Parts → Functions → ℕ → List ℕ
-formatCode p fs number = enumerated (formatInstruction p fs number) 0 (p .code)
+formatCode p fs number = printCode (formatInstruction p fs number) 0 (p .code)
 
 -- what a full listing adds
 abbrev pub formatLists : Bool → Parts → ℕ → List ℕ

@@ -1,4 +1,4 @@
-// The code of a function (listing.rs: format_code).
+// The code of a function (listing.rs: format_code; print.c: PrintCode).
 use instructions::Instruction;
 use instructions::OP_CLOSURE;
 use listing_lines::format_instruction;
@@ -8,8 +8,11 @@ use proto::child::first_child;
 use proto::lists::Lists;
 use proto::walk::item_at;
 use proto::walk::word_at;
-ghost use Prim.Native.Nat.{_+_, _≤_};
+ghost use Prim.Native.Nat.{_+_, _≤_, _<_, min};
+ghost use mathlib.Core.Bool.{cond};
+ghost use mathlib.Core.Path.{_≡_};
 ghost use Rattle.lent.specs.Memory.{Puts, far};
+ghost use Rattle.instructions.specs.OpCodes.{nextIsC};
 ghost use Rattle.format.specs.Tree.{Parts, Functions};
 ghost use Rattle.format.specs.Valid.{ValidAll};
 ghost use Rattle.proto.specs.Walk.{totalAll};
@@ -38,6 +41,20 @@ fn closure_child(
     child_at(words, functions, number, kept, bx, allowance)
 }
 
+// The pc behind the instruction i at pc, of n words, and behind the word that is its C.
+fn pc_behind(n: u32, pc: u32, i: u32) -> u32
+    requires { ⌜ pc < n ⌝ }
+    ensures { λ r. ⌜ (r ≡ cond (nextIsC i) (min (pc + 2) n) (pc + 1)) × (pc < r) ⌝ }
+{
+    if !Instruction(i).next_is_c() {
+        return pc + 1;
+    }
+    if n - pc < 2 {
+        return n;
+    }
+    pc + 2
+}
+
 // The code, a line for each instruction. The last child looked up is kept, so that children named in order cost one walk.
 pub fn format_code(
     words: &[u32],
@@ -58,7 +75,7 @@ pub fn format_code(
         let i = word_at(words, item_at(words, lists.code, 1, pc));
         kept = closure_child(words, lists.functions, number, kept, i, allowance);
         o = format_instruction(words, text, lists, kept.number, pc, i, out, o);
-        pc += 1;
+        pc = pc_behind(n, pc, i);
     }
     o
 }

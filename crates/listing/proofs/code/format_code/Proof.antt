@@ -19,7 +19,7 @@ format-code-spec = tie.close (tie.spec Inv-loop μ-loop
     loop-holds
     (λ c. search needs) (λ c. search needs)  -- item-at-requires, word-at-requires-2
     (λ c. search needs) (λ c. search needs)  -- closure-child-requires, format-instruction-requires
-    (λ c. search needs) (λ c. search needs)  -- add-pc, loop-less
+    (λ c. search needs) (λ c. search needs)  -- pc-behind-requires, loop-less
     (λ c. search (needs, codes-turn))  -- loop-again
     (λ c. search needs)  -- same-length
     (λ c. search (needs, codes-end)))  -- returns
