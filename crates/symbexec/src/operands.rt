@@ -2,6 +2,7 @@
 use format::DEPTH;
 use instructions::Instruction;
 use instructions::OP_CLOSURE;
+use instructions::OP_SETLIST;
 use proto::child::Child;
 use proto::child::child_at;
 use proto::head::head_at;
@@ -38,14 +39,17 @@ fn closure_operands(words: &[u32], functions: usize, kept: Child, i: u32) -> Ski
 pub fn operands(words: &[u32], functions: usize, kept: Child, i: Instruction) -> Skipped
     ensures { λ r. ⌜ Behind (now (words .entry)) functions kept (λ fs. operands fs (i .0)) r ⌝ }
 {
-    if i.opcode() == OP_CLOSURE {
+    let op = i.opcode();
+    if op == OP_CLOSURE {
         return closure_operands(words, functions, kept, i.bx());
     }
-    if i.next_is_c() {
-        return Skipped {
-            count: 1,
-            child: kept,
-        };
+    if op == OP_SETLIST {
+        if i.c() == 0 {
+            return Skipped {
+                count: 1,
+                child: kept,
+            };
+        }
     }
     Skipped {
         count: 0,

@@ -12,8 +12,10 @@ operands-spec = tie.close (tie.spec
     (λ c. search needs)  -- closure-operands-requires
     -- returns
     (λ c. behind-is (λ fs. rw (← c .before .before .before .opcode .ensures, eq-eqb _ _ (c .before .before .if1 .taken), ← c .before .bx .ensures)) (c .closure-operands .ensures))
-    (λ c. search needs)  -- next-is-c-requires
+    (λ c. search needs)  -- c-requires
     -- returns-2
-    (λ c. behind-kept (λ fs. rw (← c .before .next-is-c .ensures, c .if2 .taken, ← c .before .before .before .opcode .ensures, ne-eqb _ _ (c .before .before .if1 .left))))
+    (λ c. behind-kept (λ fs. rw (← c .before .before .before .before .opcode .ensures, ne-eqb _ _ (c .before .before .before .if1 .left), eq-eqb _ _ (c .before .before .if2 .taken), ← c .before .c .ensures, eq-eqb _ _ (c .if3 .taken))))
     -- returns-3
-    (λ c. behind-kept (λ fs. rw (← c .before .next-is-c .ensures, c .if2 .left, ← c .before .before .before .opcode .ensures, ne-eqb _ _ (c .before .before .if1 .left)))))
+    (λ c. behind-kept (λ fs. rw (← c .before .before .before .before .opcode .ensures, ne-eqb _ _ (c .before .before .before .if1 .left), eq-eqb _ _ (c .before .before .if2 .taken), ← c .before .c .ensures, ne-eqb _ _ (c .if3 .left))))
+    -- returns-4
+    (λ c. behind-kept (λ fs. rw (← c .before .before .opcode .ensures, ne-eqb _ _ (c .before .if1 .left), ne-eqb _ _ (c .if2 .left)))))
