@@ -33,10 +33,14 @@ echo "undump and dump, chunks of both luacs:"
 "$bin/widths" "$corpus"
 echo "list_function:"
 xargs -a "$work/all" "$bin/listings" compare 2 20000
+python3 setlists.py "$work/setlists" 2000
+find "$work/setlists" -name '*.luac' | LC_ALL=C sort | xargs -s 999999 "$bin/listings" compare 2 0
 echo "symbexec, get_local_name, get_local_name_in, kname, getobjname:"
 mkdir "$work/names"
 head -n 44 "$work/small" | xargs "$bin/names" many "$work/names"
 "$bin/compare_names" "$work/names"
 echo "luac -l and luac -l -l:"
 cc -O2 -I../include -o "$work/servicetool" ../examples/servicetool.c ../target/staticlib/libchunk.a
-find "$corpus/c" -name '*.luac' | LC_ALL=C sort | xargs -n 2000 python3 luac.py "$work/servicetool"
+find "$corpus/c" "$work/setlists/luac" -name '*.luac' | LC_ALL=C sort | xargs -n 2000 python3 luac.py "$work/servicetool"
+echo "luac -l and luac -l -l without luaG_checkcode:"
+find "$work/setlists/made" -name '*.luac' | LC_ALL=C sort | LUAC="$corpus/luac_unchecked" xargs -n 2000 python3 luac.py "$work/servicetool"
