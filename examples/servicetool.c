@@ -6,7 +6,8 @@
  *     servicetool width FILE                       how many bytes each string's size takes in the chunk: 4 or 8
  *     servicetool places FILE                      each function's number in preorder, as listings give it, and its place
  *     servicetool strip [--size N] FILE OUT        the chunk without lines, locals and upvalue names, written to the file OUT
- *     servicetool name FILE FUNCTION PC REGISTER   what the register holds at pc; FUNCTION is the number behind # in a listing
+ *     servicetool name FILE FUNCTION PC REGISTER   what the register holds at pc; FUNCTION is the number behind # in a listing, and PC is
+ *                                                  one less than the number that a line begins with
  *     servicetool source FILE PLACE                the source of the function at a place
  *
  * Listings and sources take @FILE as the chunk name. strip takes the empty name, so that it writes no source that FILE has not. It writes

@@ -210,6 +210,10 @@ lua_chunk_Written lua_chunk_dump(const uint32_t *words, size_t words_len, const 
  * Writes the listing of all the functions of a store to out, as luac -l does, or with full as luac -l -l does, with # and the function's
  * number in preorder, from 1, for an address, and 0x and 16 digits of its bits for a number constant.
  *
+ * A line begins with its instruction's index, which counts words of code from 1 (a pc of the other calls counts them from 0). The word
+ * behind a SETLIST with C 0 is its count and no instruction: it stands in SETLIST's comment and has no line, so that the next index is
+ * two higher. The number of instructions in a function's header is that of all words of code, counts too, as luac gives it.
+ *
  * Refused by 1, 10, 11.
  *
  * Space. After 11, call again with more. There is no useful bound: a constant's text is repeated for each instruction that names it.
