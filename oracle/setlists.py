@@ -1,7 +1,7 @@
 #!/usr/bin/env python3
 """setlists.py DIR N: writes chunks in which SETLIST has a C of 0 and its count in the next word.
 
-DIR/luac: programs whose tables have more than 511 times 50 items, compiled by luac5.1 (Debian's package lua5.1). Counts from 512 on look
+DIR/luac: programs whose tables have around 511 times 50 items and more, compiled by luac5.1 (Debian's package lua5.1). Counts from 512 on look
 like instructions, 546 and each 64th behind it like another SETLIST with C 0.
 DIR/made: N chunks of made-up code in which each word is one that PrintCode can print, half of them SETLIST with C 0, so that such words
 stand in a row, behind CLOSURE, and as counts. Only a luac without luaG_checkcode loads them.
