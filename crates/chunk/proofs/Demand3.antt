@@ -10,13 +10,16 @@ use Rattle.format.specs.Write.{dumpChunk}
 use Rattle.format.specs.Valid.{depth, most, Name, Holds, HoldOne}
 use Rattle.format.specs.Agree.{Agree}
 use Rattle.format.specs.Stored.{treeOf}
-use Rattle.format.specs.Undump.{Chunk, loadChunk, UndumpLeft, undumpRefused, Refuses, wordsUsed, textUsed}
+use Rattle.format.specs.Undump.{Chunk, loadChunk, measured, UndumpLeft, undumpRefused, undumped, Refuses, wordsUsed, textUsed}
+use Rattle.format.specs.declared.Undumped.{Undumped}
 use Rattle.format.specs.Dump.{WriteLeft, writeLeft}
-use Rattle.chunk.specs.Demand3.{DumpCall, Accepted, bytesOf, dumpsOf, endToEnd, dumpedSource, UndumpCall, leftBy, Calls, FindsStripped, Takes, CallOnDump, dumpsLeft, Session, Demand3}
+use Rattle.undump.specs.Undump.{undumpLeft}
+use Rattle.chunk.specs.Demand3.{DumpCall, Accepted, bytesOf, dumpsOf, endToEnd, dumpedSource, UndumpCall, answerOf, leftBy, Calls, FindsStripped, Takes, CallOnDump, dumpsLeft, Session, Demand3}
 use Rattle.utf8.proofs.Rows.{by-test}
 use Rattle.format.proofs.RoundTrip.{Reads, either, readBack, chunk-law, found-valid, found-filled}
 use Rattle.format.proofs.Stored.{tree-holds, holds-tree, holds-one}
 use Rattle.format.proofs.Filled.{stripped-not, fill-one}
+use Rattle.format.proofs.Measured.{refused-whole, undump-refused-as, measure-then-store}
 use Rattle.format.proofs.Calls.{Outcome, Stores, undump-outcome, undump-refused, refusal-is, stored-holds, DumpOutcome, dump-positive, dump-outcome}
 
 got-both : {A : Type 0} {a b : A} {s t : List ℕ} → got a s ≡ got b t → (a ≡ b) × (s ≡ t)
@@ -104,6 +107,29 @@ refused-bytes d e = by (outcome-of d)
 stripped-by : (f : Function) (strip : Bool) → strip ≡ false → stripped f strip ≡ f
 stripped-by f strip e = rw e (stripped-not f)
 
+-- ---- measure and store as one call
+
+module _ {bytes : List ℕ} (c : UndumpCall bytes) where
+  abbrev m : Undumped
+  m = c .measure .answer
+
+  -- store, handed what measure answered
+  pub store-is : undumpLeft (c .store .answer) (c .store .words) (c .store .text) ≡ undumped bytes (c .lent .name) (c .lent .words) (c .lent .text)
+  store-is = c .store .contract ∙ rw (c .measure .contract) (measure-then-store bytes (c .lent .name) (c .lent .words) (c .lent .text))
+
+  -- where measure is refused, store answers the same
+  pub one-answer : answerOf c ≡ c .store .answer
+  one-answer =
+      by-test (λ b. cond b (c .store .answer) m ≡ c .store .answer) (eqb (m .refusal) 0) (λ e. refl)
+      (λ e. let n : measured bytes (c .lent .name) .refusal ≡ 0 → ⊥ = λ z. eqb-false _ _ e (ap (λ (a : Undumped). a .refusal) (c .measure .contract) ∙ z) in
+      c .measure .contract
+      ∙ refused-whole bytes (c .lent .name) n
+      ∙ ap (λ (u : UndumpLeft). u .answer) (sym (store-is ∙ undump-refused-as bytes (c .lent .name) (c .lent .words) (c .lent .text) n)))
+
+  -- so that the two are what undumped says
+  pub is-undumped : leftBy c ≡ undumped bytes (c .lent .name) (c .lent .words) (c .lent .text)
+  is-undumped = ap (λ (a : Undumped). undumpLeft a (c .store .words) (c .store .text)) one-answer ∙ store-is
+
 -- ---- one call
 
 module _ (d : DumpCall) (a : Accepted d) (bytes behind : List ℕ) (is : bytes ≡ bytesOf d ++ behind) (c : UndumpCall bytes) where
@@ -118,18 +144,18 @@ module _ (d : DumpCall) (a : Accepted d) (bytes behind : List ℕ) (is : bytes �
 
   -- what its contract says
   outcome : Outcome bytes (c .lent) (got found behind) (leftBy c)
-  outcome = rw (c .contract, ← reads) (undump-outcome bytes (c .lent))
+  outcome = rw (is-undumped c, ← reads) (undump-outcome bytes (c .lent))
 
   abbrev Stored : Type 0
   Stored = Stores bytes (c .lent) (got found behind) (leftBy c)
 
-  read-is : Stored → c .answer .read ≡ length (bytesOf d)
+  read-is : Stored → answerOf c .read ≡ length (bytesOf d)
   read-is s =
       let e : s .rest ≡ behind = sym (got-both (s .reads) .1) in
       let n : length bytes ≡ length (bytesOf d) + length behind = ap length is ∙ length-append (bytesOf d) behind in
       ap (λ (u : UndumpLeft). u .answer .read) (s .leaves) ∙ rw e (omega arith)
 
-  width-is : Stored → c .answer .width ≡ widthOf (d .size4)
+  width-is : Stored → answerOf c .width ≡ widthOf (d .size4)
   width-is s = ap (λ (u : UndumpLeft). u .answer .width) (s .leaves) ∙ ap (λ (x : Chunk). widthOf (x .size4)) (sym (got-both (s .reads) .0))
 
   -- under a chunk name that an empty root source stands for
@@ -162,7 +188,7 @@ module _ (d : DumpCall) (a : Accepted d) (bytes behind : List ℕ) (is : bytes �
       one-tree e f = record { tree = f .tree; tree′ = f .tree′; holds = f .holds; holds′ = f .holds′; one = f .one ∙ rw (stripped-by (f .tree′) (d .strip) e) }
 
   -- a call that is not refused stores; one that is, is refused by that number
-  stores-of : Outcome bytes (c .lent) (got found behind) (leftBy c) → c .answer .refusal ≡ 0 → Stored
+  stores-of : Outcome bytes (c .lent) (got found behind) (leftBy c) → answerOf c .refusal ≡ 0 → Stored
   stores-of (Outcome.refuses n r l) e =
       let p = nonzero r in
       let z : n ≡ 0 = ap (λ (u : UndumpLeft). u .answer .refusal) (sym l) ∙ e in
@@ -174,15 +200,15 @@ module _ (d : DumpCall) (a : Accepted d) (bytes behind : List ℕ) (is : bytes �
       nonzero (Refuses.few-text h k l) = omega arith
   stores-of (Outcome.stores s) e = s
 
-  refuses-of : Outcome bytes (c .lent) (got found behind) (leftBy c) → (n : ℕ) → 0 < n → c .answer .refusal ≡ n → Refuses (c .lent) (got found behind) n
+  refuses-of : Outcome bytes (c .lent) (got found behind) (leftBy c) → (n : ℕ) → 0 < n → answerOf c .refusal ≡ n → Refuses (c .lent) (got found behind) n
   refuses-of (Outcome.refuses m r l) n h e = let i : m ≡ n = ap (λ (u : UndumpLeft). u .answer .refusal) (sym l) ∙ e in rw i at r
-  refuses-of (Outcome.stores s) n h e = let z : c .answer .refusal ≡ 0 = ap (λ (u : UndumpLeft). u .answer .refusal) (s .leaves) in absurd (omega arith)
+  refuses-of (Outcome.stores s) n h e = let z : answerOf c .refusal ≡ 0 = ap (λ (u : UndumpLeft). u .answer .refusal) (s .leaves) in absurd (omega arith)
 
-  refusal-of : (n : ℕ) → Refuses (c .lent) (got found behind) n → c .answer .refusal ≡ n
-  refusal-of n r = ap (λ (u : UndumpLeft). u .answer .refusal) (c .contract) ∙ refusal-is bytes (c .lent) (rw reads r)
+  refusal-of : (n : ℕ) → Refuses (c .lent) (got found behind) n → answerOf c .refusal ≡ n
+  refusal-of n r = ap (λ (u : UndumpLeft). u .answer .refusal) (is-undumped c) ∙ refusal-is bytes (c .lent) (rw reads r)
 
-  pub untouched-law : (n : ℕ) → 0 < n → c .answer .refusal ≡ n → leftBy c ≡ undumpRefused n (c .lent .words) (c .lent .text)
-  untouched-law n h e = c .contract ∙ undump-refused bytes (c .lent) n h (ap (λ (u : UndumpLeft). u .answer .refusal) (sym (c .contract)) ∙ e)
+  pub untouched-law : (n : ℕ) → 0 < n → answerOf c .refusal ≡ n → leftBy c ≡ undumpRefused n (c .lent .words) (c .lent .text)
+  untouched-law n h e = is-undumped c ∙ undump-refused bytes (c .lent) n h (ap (λ (u : UndumpLeft). u .answer .refusal) (sym (is-undumped c)) ∙ e)
 
   step-law : CallOnDump d bytes (c .lent) (leftBy c)
   step-law =
@@ -200,17 +226,17 @@ module _ (d : DumpCall) (a : Accepted d) (bytes behind : List ℕ) (is : bytes �
 
 -- the next call begins at the next dump, or, after a refusal, at the same
 moved-on : (d : DumpCall) → Accepted d → (ds : List DumpCall) (behind bytes : List ℕ) → bytes ≡ bytesOf d ++ (endToEnd ds ++ behind) → (c : UndumpCall bytes)
-    → drop (c .answer .read) bytes ≡ endToEnd (dumpsLeft (c .answer) d ds) ++ behind
+    → drop (answerOf c .read) bytes ≡ endToEnd (dumpsLeft (answerOf c) d ds) ++ behind
 unfolding endToEnd
-moved-on d a ds behind bytes b c = by (eqb (c .answer .refusal) 0) refl
+moved-on d a ds behind bytes b c = by (eqb (answerOf c .refusal) 0) refl
   where
-    by : (none : Bool) → eqb (c .answer .refusal) 0 ≡ none → drop (c .answer .read) bytes ≡ endToEnd (cond none ds (d ∷ ds)) ++ behind
+    by : (none : Bool) → eqb (answerOf c .refusal) 0 ≡ none → drop (answerOf c .read) bytes ≡ endToEnd (cond none ds (d ∷ ds)) ++ behind
     by true e =
-        let read : c .answer .read ≡ length (bytesOf d) = step-law d a bytes (endToEnd ds ++ behind) b c .takes (eqb-true _ _ e) .read in
+        let read : answerOf c .read ≡ length (bytesOf d) = step-law d a bytes (endToEnd ds ++ behind) b c .takes (eqb-true _ _ e) .read in
         rw (read, b) (drop-at (bytesOf d) (endToEnd ds ++ behind) _ refl)
     by false e =
-        let some : 0 < c .answer .refusal = omega (arith, eqb-false (c .answer .refusal) 0 e) in
-        let read : c .answer .read ≡ 0 = ap (λ (u : UndumpLeft). u .answer .read) (untouched-law d a bytes (endToEnd ds ++ behind) b c _ some refl) in
+        let some : 0 < answerOf c .refusal = omega (arith, eqb-false (answerOf c .refusal) 0 e) in
+        let read : answerOf c .read ≡ 0 = ap (λ (u : UndumpLeft). u .answer .read) (untouched-law d a bytes (endToEnd ds ++ behind) b c _ some refl) in
         rw (read, b) (sym (append-assoc (bytesOf d) (endToEnd ds) behind))
 
 session-law : {slice : List ℕ} {place : ℕ} (cs : Calls slice place) (ds : List DumpCall) (behind : List ℕ) → Every Accepted ds → drop place slice ≡ endToEnd ds ++ behind → Session cs ds
@@ -220,7 +246,7 @@ session-law (Calls.call c cs) [] behind a e = tt
 session-law {slice} {place} (Calls.call c cs) (d ∷ ds) behind a e =
     let b : drop place slice ≡ bytesOf d ++ (endToEnd ds ++ behind) = e ∙ append-assoc (bytesOf d) (endToEnd ds) behind in (
       step-law d (a .0) (drop place slice) (endToEnd ds ++ behind) b c,
-      session-law cs _ behind (either (Every Accepted) (eqb (c .answer .refusal) 0) (a .1) a) (sym (drop-drop _ place slice) ∙ moved-on d (a .0) ds behind (drop place slice) b c),
+      session-law cs _ behind (either (Every Accepted) (eqb (answerOf c .refusal) 0) (a .1) a) (sym (drop-drop _ place slice) ∙ moved-on d (a .0) ds behind (drop place slice) b c),
     )
 
 -- ---- refused dump calls
@@ -292,13 +318,13 @@ demand3 =
 
 -- ---- the statement put to use
 
-module _ {slice : List ℕ} (place : ℕ) (c : UndumpCall (drop place slice)) (cs : Calls slice (place + c .answer .read)) (d : DumpCall) (ds : List DumpCall) where
+module _ {slice : List ℕ} (place : ℕ) (c : UndumpCall (drop place slice)) (cs : Calls slice (place + answerOf c .read)) (d : DumpCall) (ds : List DumpCall) where
   -- behind a call that is not refused stands the next dump, behind one that is the same
-  pub session-next : c .answer .refusal ≡ 0 → Session (Calls.call {place = place} c cs) (d ∷ ds) → Session cs ds
+  pub session-next : answerOf c .refusal ≡ 0 → Session (Calls.call {place = place} c cs) (d ∷ ds) → Session cs ds
   unfolding Session
   session-next h s = rw (eq-eqb _ _ h) at (s .1)
 
-  pub session-again : (c .answer .refusal ≡ 0 → ⊥) → Session (Calls.call {place = place} c cs) (d ∷ ds) → Session cs (d ∷ ds)
+  pub session-again : (answerOf c .refusal ≡ 0 → ⊥) → Session (Calls.call {place = place} c cs) (d ∷ ds) → Session cs (d ∷ ds)
   unfolding Session
   session-again n s = rw (ne-eqb _ _ n) at (s .1)
 
@@ -310,18 +336,18 @@ module _ (d e : DumpCall) (a : Accepted d) (b : Accepted e) (behind : List ℕ) 
   unfolding dumpsOf
   both-kept = dump-kept d (e ∷ []) a ∙ ap (λ (l : List DumpCall). d ∷ l) (dump-kept e [] b)
 
-  module _ (c₁ : UndumpCall (drop 0 slice)) (c₂ : UndumpCall (drop (0 + c₁ .answer .read) slice)) (c₃ : UndumpCall (drop (0 + c₁ .answer .read + c₂ .answer .read) slice)) where
-    abbrev third : Calls slice (0 + c₁ .answer .read + c₂ .answer .read)
+  module _ (c₁ : UndumpCall (drop 0 slice)) (c₂ : UndumpCall (drop (0 + answerOf c₁ .read) slice)) (c₃ : UndumpCall (drop (0 + answerOf c₁ .read + answerOf c₂ .read) slice)) where
+    abbrev third : Calls slice (0 + answerOf c₁ .read + answerOf c₂ .read)
     third = Calls.call c₃ Calls.done
 
-    abbrev second : Calls slice (0 + c₁ .answer .read)
+    abbrev second : Calls slice (0 + answerOf c₁ .read)
     second = Calls.call c₂ third
 
     abbrev first : Calls slice 0
     first = Calls.call c₁ second
 
     -- of two dumps, with a refused call between: the call after it finds the second
-    pub second-found : c₁ .answer .refusal ≡ 0 → (c₂ .answer .refusal ≡ 0 → ⊥) → c₃ .answer .refusal ≡ 0 → Takes e (c₃ .lent .name) (leftBy c₃)
+    pub second-found : answerOf c₁ .refusal ≡ 0 → (answerOf c₂ .refusal ≡ 0 → ⊥) → answerOf c₃ .refusal ≡ 0 → Takes e (c₃ .lent .name) (leftBy c₃)
     unfolding Session
     second-found h n k =
         let all : Session first (d ∷ e ∷ []) = rw both-kept at (demand3 .session (d ∷ e ∷ []) behind first) in

@@ -1,3 +1,4 @@
 pub mod Demand3
+pub mod Space
 pub mod LuaChunkGetLocalNameInKinds
 pub mod LuaChunkGetLocalNameInReads

@@ -1,5 +1,5 @@
--- Demand 3 of the scope: dumps laid end to end are found again by calls of undump that begin each where the one before left off.
--- It speaks of calls as they return: each is held to the contract of the call for C, and to nothing else.
+-- Demand 3 of the scope: dumps laid end to end are found again by calls of measure and store, the two counted as one, that begin each where the
+-- one before left off. It speaks of calls as they return: each is held to the contract of the call for C, and to nothing else.
 use Prim.Native.Nat.{ℕ, _+_, _<_}
 use mathlib.Core.Path.{_≡_}
 use mathlib.Core.Logic.{_⊎_, _↔_}
@@ -12,7 +12,7 @@ use Rattle.format.specs.Tree.{Function, rootSource, stripped, fill}
 use Rattle.format.specs.Read.{got, widthOf}
 use Rattle.format.specs.Valid.{Holds, HoldOne}
 use Rattle.format.specs.Stored.{treeOf}
-use Rattle.format.specs.Undump.{Chunk, loadChunk, UndumpLeft, undumpRefused, undumped, UndumpLent, Refuses, wordsUsed, textUsed}
+use Rattle.format.specs.Undump.{Chunk, loadChunk, measured, UndumpLeft, undumpRefused, stored, UndumpLent, Refuses, wordsUsed, textUsed}
 use Rattle.format.specs.Dump.{writeLeft, dumped}
 use Rattle.format.specs.declared.Undumped.{Undumped}
 use Rattle.format.specs.declared.Written.{Written}
@@ -57,24 +57,39 @@ rootOf (some f) name = rootSource f name
 abbrev pub dumpedSource : DumpCall → List ℕ
 dumpedSource d = rootOf (treeOf (d .words) (d .text)) (d .name)
 
--- ---- undump calls
+-- ---- measure and store
 
--- a call of undump on these bytes that has returned: what it was lent, the answer, and what it left in the space
-pub record UndumpCall (bytes : List ℕ) : Type 0 where
-  pub lent : UndumpLent
+-- a call of measure on these bytes that has returned: the answer
+pub record MeasureCall (bytes name : List ℕ) : Type 0 where
+  pub answer : Undumped
+  -- the contract of lua_chunk_measure
+  pub contract : answer ≡ measured bytes name
+
+-- a call of store on these bytes that has returned, lent this and handed what measure answered: the answer, and what it left in the space
+pub record StoreCall (bytes : List ℕ) (lent : UndumpLent) (m : Undumped) : Type 0 where
   pub answer : Undumped
   pub words : List ℕ
   pub text : List ℕ
-  -- the contract of lua_chunk_undump
-  pub contract : undumpLeft answer words text ≡ undumped bytes (lent .name) (lent .words) (lent .text)
+  -- the contract of lua_chunk_store
+  pub contract : undumpLeft answer words text ≡ stored bytes (lent .name) (m .words) (m .text) (m .read) (lent .words) (lent .text)
+
+-- the two as one call, under one chunk name
+pub record UndumpCall (bytes : List ℕ) : Type 0 where
+  pub lent : UndumpLent
+  pub measure : MeasureCall bytes (lent .name)
+  pub store : StoreCall bytes lent (measure .answer)
+
+-- refused where either is: measure's answer where that is refused, else store's
+abbrev pub answerOf : {bytes : List ℕ} → UndumpCall bytes → Undumped
+answerOf c = cond (eqb (c .measure .answer .refusal) 0) (c .store .answer) (c .measure .answer)
 
 abbrev pub leftBy : {bytes : List ℕ} → UndumpCall bytes → UndumpLeft
-leftBy c = undumpLeft (c .answer) (c .words) (c .text)
+leftBy c = undumpLeft (answerOf c) (c .store .words) (c .store .text)
 
 -- calls one after the other: each gets the slice from its place, which moves on by the bytes read that the call answered
 pub data Calls (slice : List ℕ) : ℕ → Type 0 where
   done : {place : ℕ} → Calls slice place
-  call : {place : ℕ} (c : UndumpCall (drop place slice)) → Calls slice (place + c .answer .read) → Calls slice place
+  call : {place : ℕ} (c : UndumpCall (drop place slice)) → Calls slice (place + answerOf c .read) → Calls slice place
 
 -- ---- one call, on bytes that begin with the dump d
 
@@ -114,10 +129,10 @@ dumpsLeft answer d ds = cond (eqb (answer .refusal) 0) ds (d ∷ ds)
 unfoldable pub Session : {slice : List ℕ} {place : ℕ} → Calls slice place → List DumpCall → Type 0
 Session Calls.done ds = Unit {0}
 Session (Calls.call c cs) [] = Unit {0}
-Session {slice} {place} (Calls.call c cs) (d ∷ ds) = CallOnDump d (drop place slice) (c .lent) (leftBy c) × Session cs (dumpsLeft (c .answer) d ds)
+Session {slice} {place} (Calls.call c cs) (d ∷ ds) = CallOnDump d (drop place slice) (c .lent) (leftBy c) × Session cs (dumpsLeft (answerOf c) d ds)
 
 pub record Demand3 : Type 0 where
-  -- any dump calls, and any undump calls on their dumps with any bytes behind, refused ones included
+  -- any dump calls, and any calls on their dumps with any bytes behind, refused ones included
   pub session : (dumps : List DumpCall) (behind : List ℕ) (calls : Calls (endToEnd dumps ++ behind) 0) → Session calls (dumpsOf dumps)
   -- no two widths give one dump
   pub same-width : (d e : DumpCall) → Accepted d → Accepted e → bytesOf d ≡ bytesOf e → d .size4 ≡ e .size4

@@ -6,7 +6,7 @@ use format::Written;
 use local_records::record::LocalRecord;
 use proto::place::SourceAt;
 ghost use mathlib.Core.Path.{_≡_};
-ghost use Rattle.format.specs.Undump.{undumped};
+ghost use Rattle.format.specs.Undump.{measured, stored};
 ghost use Rattle.format.specs.Dump.{writeLeft, dumped};
 ghost use Rattle.listing.specs.Listing.{listed};
 ghost use Rattle.undump.specs.Undump.{undumpLeft};
@@ -14,17 +14,28 @@ ghost use Rattle.debug_info.specs.Calls.{symbexecAnswer, nameLeft, localNamed, 
 ghost use Rattle.local_records.specs.Lookup.{lookupLeft, localNamedIn};
 ghost use Rattle.proto.specs.Places.{sourceAnswer};
 
-// Reads a chunk into lent memory: undump.
+// The space that the tree of a chunk takes: measure.
 #[no_mangle]
-pub extern "C" fn lua_chunk_undump(
+pub extern "C" fn lua_chunk_measure(chunk: &[u8], name: &[u8]) -> Undumped
+    ensures { λ r. ⌜ r ≡ measured (now (chunk .entry)) (now (name .entry)) ⌝ }
+{
+    undump::measure(chunk, name)
+}
+
+// Stores the tree of a chunk, given what was measured, in lent memory: store.
+#[no_mangle]
+pub extern "C" fn lua_chunk_store(
     chunk: &[u8],
     name: &[u8],
+    need_words: usize,
+    need_text: usize,
+    need_read: usize,
     words: &mut [u32],
     text: &mut [u8],
 ) -> Undumped
-    ensures { λ r. ⌜ undumpLeft r (now (words .exit)) (now (text .exit)) ≡ undumped (now (chunk .entry)) (now (name .entry)) (now (words .entry)) (now (text .entry)) ⌝ }
+    ensures { λ r. ⌜ undumpLeft r (now (words .exit)) (now (text .exit)) ≡ stored (now (chunk .entry)) (now (name .entry)) «need_words» «need_text» «need_read» (now (words .entry)) (now (text .entry)) ⌝ }
 {
-    undump::undump(chunk, name, words, text)
+    undump::store(chunk, name, need_words, need_text, need_read, words, text)
 }
 
 // Writes the chunk of a store to lent memory: dump.

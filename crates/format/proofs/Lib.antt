@@ -2,6 +2,7 @@ pub mod RoundTrip
 pub mod Stored
 pub mod Loaded
 pub mod Calls
+pub mod Measured
 pub mod Samples
 pub mod Widths
 pub mod Writing

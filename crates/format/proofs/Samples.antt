@@ -8,7 +8,7 @@ use Rattle.format.specs.Write.{dumpNumber, each, dumpFunction, dumpChunk
 use Rattle.format.specs.Store.{functionPiece, pieces}
 use Rattle.format.specs.Valid.{depth, most, Valid}
 use Rattle.format.specs.Stored.{storedFunction, both?, as?, true?, every?, same?, valid?, treeOf}
-use Rattle.format.specs.Undump.{Chunk, loadChunk, repaired}
+use Rattle.format.specs.Undump.{Chunk, loadChunk, upToMost, repaired}
 
 -- ---- the sample
 
@@ -127,3 +127,7 @@ names-repaired = refl
 
 limits : (countOf 65535 [] ≡ got 65535 []) × (countOf 65536 [] ≡ refused 6) × (leb 200 depth ≡ true) × (leb 201 depth ≡ false) × (leb 16777216 most ≡ true) × (leb 16777217 most ≡ false)
 limits = (refl, refl, refl, refl, refl, refl)
+
+-- what measure answers at the limit, and of all beyond it
+most-measured : (upToMost 16777216 ≡ 16777216) × (upToMost 16777217 ≡ 16777217) × (upToMost 16777218 ≡ 16777217)
+most-measured = (refl, refl, refl)

@@ -12,7 +12,7 @@ use Rattle.listing.specs.Listing.{listed}
 abbrev pub stdin : List ℕ
 stdin = 61 ∷ 115 ∷ 116 ∷ 100 ∷ 105 ∷ 110 ∷ []
 
--- by what undump answered and left: its refusal, or the plain listing of its store
+-- by what measure and store, as one, answered and left: the refusal, or the plain listing of the store
 abbrev pub listedOf : UndumpLeft → List ℕ → WriteLeft
 listedOf u out =
     cond (ltb 0 (u .answer .refusal))

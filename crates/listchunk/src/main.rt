@@ -4,7 +4,8 @@ use format::Written;
 use libc::STDIN_FILENO;
 use libc::STDOUT_FILENO;
 use listing::list_function;
-use undump::undump;
+use undump::measure;
+use undump::store;
 ghost use mathlib.Core.Path.{_≡_};
 ghost use lib.ListN.{take};
 ghost use Rattle.format.specs.Dump.{writeLeft};
@@ -34,11 +35,12 @@ fn first_bytes(bytes: &[u8], n: usize) -> &[u8]
     &bytes[0..end]
 }
 
-// Lists a chunk into out: the length, or the refusal of undump or of the listing.
+// Lists a chunk into out: the length, or the refusal of reading it or of the listing. Where measure is refused, store is refused by the same number.
 fn list(chunk: &[u8], words: &mut [u32], text: &mut [u8], out: &mut [u8]) -> Written
     ensures { λ r. ⌜ writeLeft r (now (out .exit)) ≡ listedChunk (now (chunk .entry)) (now (words .entry)) (now (text .entry)) (now (out .entry)) ⌝ }
 {
-    let u = undump(chunk, &NAME, words, text);
+    let m = measure(chunk, &NAME);
+    let u = store(chunk, &NAME, m.words, m.text, m.read, words, text);
     if 0 < u.refusal {
         return Written {
             refusal: u.refusal,

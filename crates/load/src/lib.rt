@@ -10,6 +10,7 @@ ghost use mathlib.Core.Path.{_≡_};
 ghost use mathlib.Core.List.{List, [], _∷_};
 ghost use Prim.Native.Nat.{ℕ, _-_, _<_};
 ghost use Rattle.lent.specs.Memory.{Puts};
+ghost use Rattle.utf8.specs.Utf8.{repair};
 ghost use Rattle.format.specs.Read.{loadInt, loadCount, loadString, loadText};
 ghost use Rattle.format.specs.Store.{plain, string, _⊕_};
 ghost use Rattle.format.specs.Store.{word as wordPiece};
@@ -105,6 +106,16 @@ pub fn put3(words: &mut [u32], s: Load, a: u32, b: u32, c: u32) -> Load
     }
 }
 
+// Bytes go to the text, repaired. ASCII, which most names are, is copied here, so that no call is made for it.
+fn put_repaired(bytes: &[u8], text: &mut [u8], at: usize) -> usize
+    ensures { λ r. ⌜ Puts (repair (now (bytes .entry))) at (now (text .entry)) r (now (text .exit)) ⌝ }
+{
+    if utf8::is_ascii(bytes) {
+        return lent::put_bytes(text, at, bytes);
+    }
+    utf8::repair(bytes, text, at)
+}
+
 // A name: its bytes, repaired, go to the text, its place and its length to the words.
 pub fn load_name(chunk: &[u8], words: &mut [u32], text: &mut [u8], s: Load, size_4: bool) -> Load
     ensures { λ r. ⌜ Loads (now (chunk .entry)) (loadText «size_4») repairedName (world s (now (words .entry)) (now (text .entry))) (world r (now (words .exit)) (now (text .exit))) ⌝ }
@@ -112,7 +123,7 @@ pub fn load_name(chunk: &[u8], words: &mut [u32], text: &mut [u8], s: Load, size
     let z = load_string(chunk, s.cursor, size_4);
     let start = z.start;
     let end = start + z.len;
-    let t = utf8::repair(&chunk[start..end], text, s.text);
+    let t = put_repaired(&chunk[start..end], text, s.text);
     put_string(words, at(s, z.cursor), t)
 }
 
@@ -127,7 +138,7 @@ pub fn load_source(chunk: &[u8], words: &mut [u32], text: &mut [u8], s: Load, si
     }
     let start = z.start;
     let end = start + z.len;
-    let t = utf8::repair(&chunk[start..end], text, p.text);
+    let t = put_repaired(&chunk[start..end], text, p.text);
     put_tagged(words, p, 1, t)
 }
 

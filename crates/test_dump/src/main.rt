@@ -1,10 +1,10 @@
 // Dumps trees end to end into one buffer, and reads them back: takes cases from standard input, at most 65,536 bytes. A case is a
 // letter and what follows it, all numbers low byte first, a name being 1 byte length and its bytes:
-//   T  name, 2 bytes words lent, 2 bytes text bytes lent, 2 bytes length, a chunk: undump of it into the store, which has this tree from
+//   T  name, 2 bytes words lent, 2 bytes text bytes lent, 2 bytes length, a chunk: measured, and stored in the store, which has this tree from
 //      here on
 //   W  2 bytes place, 4 bytes word: the store has this word there from here on
 //   D  name, 1 byte strip, 1 byte size_4, 2 bytes n: the store dumped, with n bytes of the buffer lent, from where the dump before it ended
-//   U  name, 2 bytes words lent, 2 bytes text bytes lent: undump of the buffer, from where the undump before it left off
+//   U  name, 2 bytes words lent, 2 bytes text bytes lent: the buffer measured and stored, from where the U before it left off
 // T, D and U write a line of text: the letter; the refusal and the other numbers of the answer, in decimal; then in hexadecimal all
 // words and text bytes, or all bytes, that were lent. In the buffer and in what is lent to U, 7 is what stands there before.
 use format::Undumped;
@@ -43,7 +43,8 @@ fn first(words: &[u32], n: usize) -> &[u32] {
 
 // A tree read into the space lent, and its line.
 fn read(letter: &[u8], chunk: &[u8], name: &[u8], words: &mut [u32], text: &mut [u8]) -> Undumped {
-    let u = undump::undump(chunk, name, words, text);
+    let m = undump::measure(chunk, name);
+    let u = undump::store(chunk, name, m.words, m.text, m.read, words, text);
     io::write_all(STDOUT_FILENO, letter);
     test_output::undumped(u, words, text);
     u

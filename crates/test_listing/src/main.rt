@@ -11,7 +11,8 @@ use test_records::after;
 use test_records::byte;
 use test_records::half;
 use test_records::part;
-use undump::undump;
+use undump::measure;
+use undump::store;
 
 // The most words and text bytes of a store, and what stands in the output before.
 const ROOM: usize = 4096;
@@ -45,11 +46,12 @@ fn tell(r: Written, out: &[u8]) {
     io::write_all(STDOUT_FILENO, b"\n");
 }
 
-// The listing of a chunk, held words of its store held back: the refusal of undump, or what list_function answers.
+// The listing of a chunk, held words of its store held back: the refusal of reading it, or what list_function answers.
 fn list(chunk: &[u8], name: &[u8], full: bool, held: usize, out: &mut [u8]) -> Written {
     let mut words = [0u32; ROOM];
     let mut text = [0u8; ROOM];
-    let u = undump(chunk, b"", &mut words, &mut text);
+    let m = measure(chunk, b"");
+    let u = store(chunk, b"", m.words, m.text, m.read, &mut words, &mut text);
     if 0 < u.refusal {
         return Written {
             refusal: u.refusal,

@@ -37,13 +37,18 @@ pub fn all_text(text: &[u8]) {
     }
 }
 
-// What undump answered and left: its numbers, all words lent, all text bytes lent.
-pub fn undumped(u: Undumped, words: &[u32], text: &[u8]) {
+// The numbers of an answer of measure or store.
+pub fn answer(u: Undumped) {
     number(u.refusal as usize);
     number(u.width as usize);
     number(u.words);
     number(u.text);
     number(u.read);
+}
+
+// What store answered and left: its numbers, all words lent, all text bytes lent.
+pub fn undumped(u: Undumped, words: &[u32], text: &[u8]) {
+    answer(u);
     io::write_all(STDOUT_FILENO, b":");
     all_words(words);
     io::write_all(STDOUT_FILENO, b" :");

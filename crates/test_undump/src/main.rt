@@ -1,8 +1,9 @@
 // Reads chunks: takes cases from standard input, at most 65,536 bytes, and writes a line of text for each: the refusal, the width, the words,
-// the text bytes and the bytes read, in decimal; then all words lent and all text bytes lent, in hexadecimal, where 7 is what
-// stands there before. A case is, all numbers low byte first:
+// the text bytes and the bytes read, in decimal, that measure answers; the same that store answers, given these; then all words lent and
+// all text bytes lent, in hexadecimal, where 7 is what stands there before. A case is, all numbers low byte first:
 //   2 bytes length, the chunk, 1 byte length, the chunk name, 2 bytes words lent, 2 bytes text bytes lent
 use libc::STDIN_FILENO;
+use libc::STDOUT_FILENO;
 use test_records::after;
 use test_records::byte;
 use test_records::half;
@@ -14,9 +15,12 @@ const ROOM: usize = 4096;
 
 const UNTOUCHED: u8 = 7;
 
-// Reads a chunk into the space lent, and writes what was found.
+// Measures a chunk and stores it in the space lent, and writes what was found.
 fn read(chunk: &[u8], name: &[u8], words: &mut [u32], text: &mut [u8]) {
-    let u = undump::undump(chunk, name, words, text);
+    let m = undump::measure(chunk, name);
+    test_output::answer(m);
+    io::write_all(STDOUT_FILENO, b"; ");
+    let u = undump::store(chunk, name, m.words, m.text, m.read, words, text);
     test_output::undumped(u, words, text);
 }
 

@@ -1,21 +1,23 @@
--- The header: bytes that are there, or are not, or are others.
--- Then a whole chunk, counted and then written: what undump answers and leaves, at each of its returns.
-use Rattle.lent.proofs.Prelude.{ℕ, _+_, _-_, _≤_, _<_, min, _≡_, refl, sym, ap, _∙_, List, [], _++_, append-nil, Bool, true, false, not, arith, length, take, drop, length-drop, drop-of-length-le, sets, sets-eq, length-take-le, le-leb, lt-leb, not-true, not-false}
+-- The header: bytes that are there, or are not, or are others. Then a whole chunk, loaded; what measure answers at each of its returns,
+-- and what store answers and leaves at each of its.
+use Rattle.lent.proofs.Prelude.{ℕ, _+_, _-_, _≤_, _<_, min, _≡_, refl, sym, ap, _∙_, List, [], _++_, append-nil, Bool, true, false, not, arith, length, take, drop, length-drop, drop-of-length-le, sets, sets-eq, length-take-le, le-leb, not-true, not-false}
 use Rattle.lent.specs.Memory.{far}
 use Rattle.format.specs.Tree.{Function}
 use Rattle.format.specs.Read.{Read, got, refused, _>>=_, return, widthOf, loadFunction, same, signature, format, loadExactly, loadFormat, loadHeader}
 use Rattle.format.specs.Store.{functionPiece, wordsOf, textOf}
 use Rattle.format.specs.Valid.{depth, most}
-use Rattle.format.specs.Undump.{repaired, Chunk, loadChunk, undumpRefused, nameOk, over, undumpedBy, undumped}
+use Rattle.format.specs.Undump.{repaired, Chunk, loadChunk, refusedBy, measuredBy, measured, nameOk, over, undumped, asMeasured, stored}
 use Rattle.format.specs.declared.Undumped.{Undumped}
 use Rattle.load_state.specs.declared.cursor.Cursor.{Cursor}
 use Rattle.load.specs.declared.Load.{Load}
 use Rattle.load_state.specs.ReadAt.{Ends}
 use Rattle.load.specs.Loads.{ReadsBy, space, Does, world, Loads}
 use Rattle.load_function.specs.Repaired.{repairedFunction}
-use Rattle.undump.specs.Undump.{beginning, undumpLeft}
+use Rattle.undump.specs.declared.LoadedChunk.{LoadedChunk}
+use Rattle.undump.specs.Undump.{beginning, unused, LoadsChunk, undumpLeft}
 use Rattle.load.proofs.Steps.{bind, mapped, takes, stops}
 use Rattle.format.proofs.RoundTrip.{same-is}
+use Rattle.format.proofs.Measured.{measuredAs, undumpedAs, refused-whole, store-refused, store-other, store-as, few-words, few-text, enough}
 use Rattle.load_state.proofs.Bytes.{block-at, block-short}
 
 -- a test tells whether the n bytes at a place are these
@@ -62,19 +64,61 @@ header-loaded h k = bind _ h (k .stays) (λ v e. k)
 
 -- ---- a whole chunk
 
--- a state that nothing was stored from
-abbrev pub fresh : Cursor → Load
-fresh c = record { cursor = c; words = 0; text = 0 }
-
 -- the header, then the root function
-pub chunk-loaded : {bs : List ℕ} {c : Cursor} {r : Load} {ws ts ws′ ts′ : List ℕ} (size4 : Bool) → ReadsBy bs loadHeader (λ v. v ≡ size4) beginning c
-    → Loads bs (loadFunction size4 depth) repairedFunction (world (fresh c) ws ts) (world r ws′ ts′)
-    → Ends bs (loadChunk bs) (λ x. (x .size4 ≡ size4) × Does (functionPiece (x .root)) (space (fresh c) ws ts) (space r ws′ ts′)) (r .cursor)
+pub chunk-loaded : {bs : List ℕ} {c : Cursor} {load : Load} {ws ts ws′ ts′ : List ℕ} {size4 : Bool} → ReadsBy bs loadHeader (λ v. v ≡ size4) beginning c
+    → Loads bs (loadFunction size4 depth) repairedFunction (world (record { cursor = c; words = 0; text = 0 }) ws ts) (world load ws′ ts′)
+    → LoadsChunk bs ws ts (record { «size_4» = size4; load = load }) ws′ ts′
 unfolding loadChunk
-chunk-loaded {bs} {c} {r} {ws} {ts} {ws′} {ts′} size4 h k =
-    bind {Q = λ (x : Chunk). (x .size4 ≡ size4) × Does (functionPiece (x .root)) (space (fresh c) ws ts) (space r ws′ ts′)} {r = r .cursor}
-    (λ v. loadFunction v depth >>= λ f. return (record { size4 = v; root = repaired f })) h (k .stays)
-    (λ v e. rw e (mapped (λ (f : Function). record { size4 = size4; root = repaired f }) (λ f d. (refl, d)) k)) .goes refl
+chunk-loaded {bs} {c} {load} {ws} {ts} {ws′} {ts′} {size4} h k =
+    record {
+      ends =
+          bind {Q = λ (x : Chunk). (x .size4 ≡ size4) × Does (functionPiece (x .root)) (unused ws ts) (space load ws′ ts′)} {r = load .cursor}
+          (λ v. loadFunction v depth >>= λ f. return (record { size4 = v; root = repaired f })) h (k .stays)
+          (λ v e. rw e (mapped (λ (f : Function). record { size4 = size4; root = repaired f }) (λ f d. (refl, d)) k)) .goes refl;
+    }
+
+-- ---- measure
+
+-- what is counted where there is no space
+counted : (f : Function) (load : Load) (u v : List ℕ) → Does (functionPiece f) (unused [] []) (space load u v) → (load .words ≡ min (length (wordsOf f)) far) × (load .text ≡ min (length (textOf f)) far)
+counted f load u v d =
+    let a = d .does 0 (omega arith) (omega arith) in
+    (omega (arith, a .many, a .words .puts (omega arith) (omega arith) .0), omega (arith, a .text .puts (omega arith) (omega arith) .0))
+
+module _ (bs : List ℕ) (c : LoadedChunk) (u v : List ℕ) where
+  -- what a run without space says of the chunk that is read
+  abbrev Counts : Chunk → Type 0
+  Counts x = (x .size4 ≡ c .«size_4») × Does (functionPiece (x .root)) (unused [] []) (space (c .load) u v)
+
+  refused-by : (x : Read Chunk) → Ends bs x Counts (c .load .cursor) → 0 < c .load .cursor .refusal → refusedBy (c .load .cursor .refusal) ≡ measuredBy bs x
+  refused-by (got x rest) t h = absurd (omega arith)
+  refused-by (refused k) t h = rw (t .0)
+
+  measured-by : (x : Read Chunk) → Ends bs x Counts (c .load .cursor) → c .load .cursor .refusal ≤ 0 → {w n m rest : ℕ} → w ≡ widthOf (c .«size_4») → n ≡ min (c .load .words) (most + 1)
+      → m ≡ min (c .load .text) (most + 1) → rest ≡ length bs - c .load .cursor .next
+      → record { refusal = 0; width = w; words = n; text = m; read = length bs - rest } ≡ measuredBy bs x
+  measured-by (got x rest) t h ew en em er =
+      let k = counted (x .root) (c .load) u v (t .2 .1) in
+      let nw : min (c .load .words) (most + 1) ≡ min (length (wordsOf (x .root))) (most + 1) = omega arith in
+      let nt : min (c .load .text) (most + 1) ≡ min (length (textOf (x .root))) (most + 1) = omega arith in
+      rw (ew, en, em, er, nw, nt, t .2 .0, t .1, length-drop)
+  measured-by (refused k) t h ew en em er = absurd (omega arith)
+
+module _ {bs : List ℕ} (name : List ℕ) {ok : Bool} {c : LoadedChunk} {u v : List ℕ} (o : ok ≡ nameOk name) (e : not ok ≡ false) (h : LoadsChunk bs [] [] c u v) where
+  pub measure-refused : {a : Undumped} → 0 < c .load .cursor .refusal → a ≡ refusedBy (c .load .cursor .refusal) → a ≡ measured bs name
+  unfolding measured
+  measure-refused z r = rw (r, ← o, not-false ok e) (refused-by bs c u v (loadChunk bs) (h .ends) z)
+
+  pub measure-whole : {w n m rest : ℕ} → c .load .cursor .refusal ≤ 0 → w ≡ widthOf (c .«size_4») → n ≡ min (c .load .words) (most + 1) → m ≡ min (c .load .text) (most + 1)
+      → rest ≡ length bs - c .load .cursor .next → record { refusal = 0; width = w; words = n; text = m; read = length bs - rest } ≡ measured bs name
+  unfolding measured
+  measure-whole z w n m r = rw (← o, not-false ok e) (measured-by bs c u v (loadChunk bs) (h .ends) z w n m r)
+
+pub measure-unnamed : (bs name : List ℕ) {ok : Bool} {a : Undumped} → ok ≡ nameOk name → not ok ≡ true → a ≡ refusedBy 1 → a ≡ measured bs name
+unfolding measured
+measure-unnamed bs name {ok} o e r = rw (r, ← o, not-true ok e)
+
+-- ---- store
 
 -- a part as long as what is written in it holds just that
 written : (w l lent : List ℕ) (n : ℕ) → n ≡ length w → n ≤ length lent → l ≡ sets (take n lent) 0 w → l ++ drop n lent ≡ over w lent
@@ -83,89 +127,61 @@ written w l lent n e h f =
     let a : sets (take n lent) 0 w ≡ w = sets-eq w (take n lent) 0 (omega arith) ∙ rw (drop-of-length-le (take n lent) {i = 0 + length w} (omega arith)) (append-nil w) in
     rw (f ∙ a, e)
 
-module _ (bs ws ts : List ℕ) (c : Cursor) (need : Load) (u v : List ℕ) (size4 : Bool) where
-  -- what the run without space counted
-  abbrev Counts : Chunk → Type 0
-  Counts x = (x .size4 ≡ size4) × Does (functionPiece (x .root)) (space (fresh c) [] []) (space need u v)
+-- what the run over the space left, as long as it was measured
+module _ (bs ws ts : List ℕ) (c : LoadedChunk) (ws′ ts′ : List ℕ) (n k : ℕ) (hn : n ≤ min (length ws) most) (hk : k ≤ min (length ts) most) where
+  stored-as : (ok : Bool) (x : Read Chunk)
+      → Ends bs x (λ y. (y .size4 ≡ c .«size_4») × Does (functionPiece (y .root)) (unused (take n ws) (take k ts)) (space (c .load) ws′ ts′)) (c .load .cursor)
+      → measuredAs bs ok x .refusal ≡ 0 → n ≡ measuredAs bs ok x .words → k ≡ measuredAs bs ok x .text
+      → undumpLeft (undumpedAs bs ws ts ok x .answer) (ws′ ++ drop n ws) (ts′ ++ drop k ts) ≡ undumpedAs bs ws ts ok x
+  stored-as true (got x rest) t z en ek =
+      let nw : n ≡ length (wordsOf (x .root)) = omega arith in
+      let nt : k ≡ length (textOf (x .root)) = omega arith in
+      let lt : length (take k ts) ≡ k = length-take-le k ts (omega arith) in
+      let lw : length (take n ws) ≡ n = length-take-le n ws (omega arith) in
+      let a = t .2 .1 .does 0 (omega arith) (omega arith) in
+      let w : ws′ ≡ sets (take n ws) 0 (wordsOf (x .root)) = a .words .puts (omega arith) (omega arith) .1 ∙ rw (a .exact (omega arith)) in
+      let v : ts′ ≡ sets (take k ts) 0 (textOf (x .root)) = a .text .puts (omega arith) (omega arith) .1 in
+      rw (
+        le-leb (length (wordsOf (x .root))) (min (length ws) most) (omega arith),
+        le-leb (length (textOf (x .root))) (min (length ts) most) (omega arith),
+        written (wordsOf (x .root)) ws′ ws n nw (omega arith) w,
+        written (textOf (x .root)) ts′ ts k nt (omega arith) v,
+      )
+  stored-as true (refused m) t z en ek = absurd (omega arith)
+  stored-as false x t z en ek = absurd (omega arith)
 
-  counted : (f : Function) → Does (functionPiece f) (space (fresh c) [] []) (space need u v) → (need .words ≡ min (length (wordsOf f)) far) × (need .text ≡ min (length (textOf f)) far)
-  counted f d =
-      let a = d .does 0 (omega arith) (omega arith) in
-      (omega (arith, a .many, a .words .puts (omega arith) (omega arith) .0), omega (arith, a .text .puts (omega arith) (omega arith) .0))
+  left : (name : List ℕ) → LoadsChunk bs (take n ws) (take k ts) c ws′ ts′ → measured bs name .refusal ≡ 0 → n ≡ measured bs name .words → k ≡ measured bs name .text
+      → undumpLeft (undumped bs name ws ts .answer) (ws′ ++ drop n ws) (ts′ ++ drop k ts) ≡ undumped bs name ws ts
+  unfolding measured undumped
+  left name d z en ek = stored-as (nameOk name) (loadChunk bs) (d .ends) z en ek
 
-  refused-by : (x : Read Chunk) → Ends bs x Counts (need .cursor) → 0 < need .cursor .refusal → undumpedBy bs x ws ts ≡ undumpRefused (need .cursor .refusal) ws ts
-  refused-by (got x rest) t h = absurd (omega arith)
-  refused-by (refused k) t h = ap (λ (n : ℕ). undumpRefused n ws ts) (sym (t .0))
+-- the returns of store, which measures and is handed three numbers
+module _ (bs name ws ts : List ℕ) {m : Undumped} (e : m ≡ measured bs name) (needWords needText needRead : ℕ) where
+  pub refused-measuring : 0 < m .refusal → undumpLeft m ws ts ≡ stored bs name needWords needText needRead ws ts
+  refused-measuring h =
+      let some : measured bs name .refusal ≡ 0 → ⊥ = λ z. let i : m .refusal ≡ measured bs name .refusal = ap (λ (u : Undumped). u .refusal) e in omega arith in
+      rw (store-refused bs name ws ts needWords needText needRead some, e) (ap (λ (a : Undumped). undumpLeft a ws ts) (refused-whole bs name some))
 
-  few-words : (x : Read Chunk) → Ends bs x Counts (need .cursor) → need .cursor .refusal ≤ 0 → min (length ws) most < need .words → undumpedBy bs x ws ts ≡ undumpRefused 8 ws ts
-  few-words (got x rest) t z h = let n = counted (x .root) (t .2 .1) in rw (lt-leb (length (wordsOf (x .root))) (min (length ws) most) (omega arith))
-  few-words (refused k) t z h = absurd (omega arith)
+  module _ {ok : Bool} (z : m .refusal ≤ 0) (o : ok ≡ asMeasured m needWords needText needRead) where
+    none : measured bs name .refusal ≡ 0
+    none = let i : m .refusal ≡ measured bs name .refusal = ap (λ (u : Undumped). u .refusal) e in omega arith
 
-  few-text : (x : Read Chunk) → Ends bs x Counts (need .cursor) → need .cursor .refusal ≤ 0 → need .words ≤ min (length ws) most → min (length ts) most < need .text → undumpedBy bs x ws ts ≡ undumpRefused 9 ws ts
-  few-text (got x rest) t z h k =
-      let n = counted (x .root) (t .2 .1) in
-      rw (le-leb (length (wordsOf (x .root))) (min (length ws) most) (omega arith), lt-leb (length (textOf (x .root))) (min (length ts) most) (omega arith))
-  few-text (refused k) t z h l = absurd (omega arith)
+    pub refused-other : {a : Undumped} → not ok ≡ true → a ≡ refusedBy 15 → undumpLeft a ws ts ≡ stored bs name needWords needText needRead ws ts
+    refused-other h r = rw r (sym (store-other bs name ws ts needWords needText needRead none (rw (← e, ← o) (not-true ok h))))
 
-  -- what the run over the space left
-  module _ (again : Load) (ws′ ts′ : List ℕ) (z : need .cursor .refusal ≤ 0) (hw : need .words ≤ min (length ws) most) (ht : need .text ≤ min (length ts) most) where
-    stored-by : (x : Read Chunk) → Ends bs x Counts (need .cursor)
-        → Ends bs x (λ y. (y .size4 ≡ size4) × Does (functionPiece (y .root)) (space (fresh c) (take (need .words) ws) (take (need .text) ts)) (space again ws′ ts′)) (again .cursor)
-        → undumpedBy bs x ws ts
-        ≡ record {
-          answer = record { refusal = 0; width = widthOf size4; words = need .words; text = need .text; read = length bs - (length bs - need .cursor .next) };
-          words = ws′ ++ drop (need .words) ws;
-          text = ts′ ++ drop (need .text) ts;
-        }
-    stored-by (got x rest) t u =
-        let n = counted (x .root) (t .2 .1) in
-        let nw : need .words ≡ length (wordsOf (x .root)) = omega arith in
-        let nt : need .text ≡ length (textOf (x .root)) = omega arith in
-        let lt : length (take (need .text) ts) ≡ need .text = length-take-le (need .text) ts (omega arith) in
-        let lw : length (take (need .words) ws) ≡ need .words = length-take-le (need .words) ws (omega arith) in
-        let a = u .2 .1 .does 0 (omega arith) (omega arith) in
-        let w : ws′ ≡ sets (take (need .words) ws) 0 (wordsOf (x .root)) = a .words .puts (omega arith) (omega arith) .1 ∙ rw (a .exact (omega arith)) in
-        let v : ts′ ≡ sets (take (need .text) ts) 0 (textOf (x .root)) = a .text .puts (omega arith) (omega arith) .1 in
-        let rd : length bs - length rest ≡ length bs - (length bs - need .cursor .next) = rw (t .1, length-drop) refl in
-        rw (
-          le-leb (length (wordsOf (x .root))) (min (length ws) most) (omega arith),
-          le-leb (length (textOf (x .root))) (min (length ts) most) (omega arith),
-          rd,
-          written (wordsOf (x .root)) ws′ ws (need .words) nw (omega arith) w,
-          written (textOf (x .root)) ts′ ts (need .text) nt (omega arith) v,
-          nw,
-          nt,
-          t .2 .0,
-        )
-    stored-by (refused k) t u = absurd (omega arith)
+    module _ {l : ℕ} (h : not ok ≡ false) (lw : l ≡ min (length ws) most) where
+      as-measured : stored bs name needWords needText needRead ws ts ≡ undumped bs name ws ts
+      as-measured = store-as bs name ws ts needWords needText needRead (rw (← e, ← o) (not-false ok h))
 
--- ---- the returns of undump
+      pub refused-words : {a : Undumped} → l < m .words → a ≡ refusedBy 8 → undumpLeft a ws ts ≡ stored bs name needWords needText needRead ws ts
+      refused-words i r = rw r (sym (as-measured ∙ few-words bs name ws ts none (rw (← e) (omega arith))))
 
-pub unnamed : (bs name ws ts : List ℕ) {ok : Bool} {a : Undumped} → ok ≡ nameOk name → not ok ≡ true → a ≡ undumpRefused 1 [] [] .answer
-    → undumpLeft a ws ts ≡ undumped bs name ws ts
-unfolding undumped
-unnamed bs name ws ts {ok} o e r = rw (r, ← o, not-true ok e)
+      module _ {k : ℕ} (i : m .words ≤ l) (lt : k ≡ min (length ts) most) where
+        pub refused-text : {a : Undumped} → k < m .text → a ≡ refusedBy 9 → undumpLeft a ws ts ≡ stored bs name needWords needText needRead ws ts
+        refused-text j r = rw r (sym (as-measured ∙ few-text bs name ws ts none (rw (← e) (omega arith)) (rw (← e) (omega arith))))
 
-module _ (name ws ts : List ℕ) {bs u v : List ℕ} {c : Cursor} {need : Load} {ok size4 : Bool} (o : ok ≡ nameOk name) (e : not ok ≡ false)
-    (h : ReadsBy bs loadHeader (λ v. v ≡ size4) beginning c) (k : Loads bs (loadFunction size4 depth) repairedFunction (world (fresh c) [] []) (world need u v)) where
-  pub refused-reading : {a : Undumped} → 0 < need .cursor .refusal → a ≡ undumpRefused (need .cursor .refusal) [] [] .answer → undumpLeft a ws ts ≡ undumped bs name ws ts
-  unfolding undumped
-  refused-reading z r = rw (r, ← o, not-false ok e) (sym (refused-by bs ws ts c need u v size4 (loadChunk bs) (chunk-loaded size4 h k) z))
-
-  module _ {l : ℕ} (z : need .cursor .refusal ≤ 0) (lw : l ≡ min (length ws) most) where
-    pub refused-words : {a : Undumped} → l < need .words → a ≡ undumpRefused 8 [] [] .answer → undumpLeft a ws ts ≡ undumped bs name ws ts
-    unfolding undumped
-    refused-words i r = rw (r, ← o, not-false ok e) (sym (few-words bs ws ts c need u v size4 (loadChunk bs) (chunk-loaded size4 h k) z (omega arith)))
-
-    module _ {m : ℕ} (i : need .words ≤ l) (lt : m ≡ min (length ts) most) where
-      pub refused-text : {a : Undumped} → m < need .text → a ≡ undumpRefused 9 [] [] .answer → undumpLeft a ws ts ≡ undumped bs name ws ts
-      unfolding undumped
-      refused-text j r = rw (r, ← o, not-false ok e) (sym (few-text bs ws ts c need u v size4 (loadChunk bs) (chunk-loaded size4 h k) z (omega arith) (omega arith)))
-
-      pub stored : {again : Load} {ws′ ts′ : List ℕ} {rest w : ℕ} → w ≡ widthOf size4 → need .text ≤ m → rest ≡ length bs - need .cursor .next
-          → Loads bs (loadFunction size4 depth) repairedFunction (world (fresh c) (take (need .words) ws) (take (need .text) ts)) (world again ws′ ts′)
-          → undumpLeft (record { refusal = 0; width = w; words = need .words; text = need .text; read = length bs - rest }) (ws′ ++ drop (need .words) ws) (ts′ ++ drop (need .text) ts)
-          ≡ undumped bs name ws ts
-      unfolding undumped
-      stored {again} {ws′} {ts′} q j r d =
-          rw (q, r, ← o, not-false ok e) (sym (stored-by bs ws ts c need u v size4 again ws′ ts′ z (omega arith) (omega arith) (loadChunk bs) (chunk-loaded size4 h k) (chunk-loaded size4 h d)))
+        pub store-whole : {c : LoadedChunk} {ws′ ts′ : List ℕ} → m .text ≤ k → LoadsChunk bs (take (m .words) ws) (take (m .text) ts) c ws′ ts′
+            → undumpLeft m (ws′ ++ drop (m .words) ws) (ts′ ++ drop (m .text) ts) ≡ stored bs name needWords needText needRead ws ts
+        store-whole {c} {ws′} {ts′} j d =
+            let q : m ≡ undumped bs name ws ts .answer = e ∙ sym (enough bs name ws ts none (rw (← e) (omega arith)) (rw (← e) (omega arith))) in
+            ap (λ (a : Undumped). undumpLeft a (ws′ ++ drop (m .words) ws) (ts′ ++ drop (m .text) ts)) q ∙ left bs ws ts c ws′ ts′ (m .words) (m .text) (omega arith) (omega arith) name d none (rw e) (rw e) ∙ sym as-measured

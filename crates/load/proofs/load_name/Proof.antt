@@ -6,8 +6,8 @@ use Rattle.load.proofs.load_name.Tie as tie
 
 pub load-name-spec : {M : Type 1} → statement M
 load-name-spec = tie.close (tie.spec
-    (λ c. search needs) (λ c. omega arith) (λ c. search needs)  -- load-string-requires, add-end, sub-repair
-    (λ c. search needs) (λ c. search needs) (λ c. search needs)  -- part-repair-start, part-repair-end, repair-requires
+    (λ c. search needs) (λ c. omega arith) (λ c. search needs)  -- load-string-requires, add-end, sub-put-repaired
+    (λ c. search needs) (λ c. search needs) (λ c. search needs)  -- part-put-repaired-start, part-put-repaired-end, put-repaired-requires
     (λ c. search needs) (λ c. search needs) (λ c. search needs)  -- at-requires, put-string-requires, same-length
     (λ c. search needs)  -- same-length-2
     (λ c. search (needs, name-loaded)))  -- returns

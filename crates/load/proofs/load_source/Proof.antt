@@ -15,7 +15,7 @@ load-source-spec = tie.close (tie.spec
     (λ c. search needs) (λ c. search needs) (λ c. search needs)  -- load-string-requires, at-requires, put3-requires
     (λ c. search needs)  -- same-length
     returns
-    (λ c. search needs) (λ c. search needs) (λ c. search needs)  -- add-end, sub-repair, part-repair-start
-    (λ c. search needs) (λ c. search needs)  -- part-repair-end, repair-requires
+    (λ c. search needs) (λ c. search needs) (λ c. search needs)  -- add-end, sub-put-repaired, part-put-repaired-start
+    (λ c. search needs) (λ c. search needs)  -- part-put-repaired-end, put-repaired-requires
     (λ c. search needs) (λ c. search needs) (λ c. search needs)  -- put-tagged-requires, same-length-2, same-length-3
     (λ c. search (needs, source-own, not-false)))  -- returns-2

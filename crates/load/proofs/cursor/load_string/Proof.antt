@@ -19,5 +19,5 @@ load-string-spec = tie.close (tie.spec
     (λ c. search needs) (λ c. search needs)  -- remaining-requires, refused-requires
     (λ c. search needs)  -- no-string-requires-3
     returns-3
-    (λ c. search needs) (λ c. search needs)  -- sub-t9, add-t12
+    (λ c. search needs) (λ c. search needs)  -- sub-t10, add-t13
     returns-4)
