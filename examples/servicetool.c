@@ -4,6 +4,8 @@
  *     servicetool list FILE                        the plain listing
  *     servicetool list-full FILE                   the full listing
  *     servicetool width FILE                       how many bytes each string's size takes in the chunk: 4 or 8
+ *     servicetool space FILE                       what lua_chunk_measure answers: the words and text bytes that the chunk's tree takes,
+ *                                                  how many of the file's bytes were read, and the width
  *     servicetool places FILE                      each function's number in preorder, as listings give it, and its place
  *     servicetool strip [--size N] FILE OUT        the chunk without lines, locals and upvalue names, written to the file OUT
  *     servicetool name FILE FUNCTION PC REGISTER   what the register holds at pc; FUNCTION is the number behind # in a listing, and PC is
@@ -12,6 +14,13 @@
  *
  * Listings and sources take @FILE as the chunk name. strip takes the empty name, so that it writes no source that FILE has not. It writes
  * the width of FILE, or with --size the width N, 4 or 8: a controller loads chunks of its own width alone.
+ *
+ * space prints a line such as
+ *
+ *     14 words, 2 text bytes, 67 of 67 bytes read, width 8
+ *
+ * from which the pool of a controller can be sized: a word is 4 bytes, a text byte 1. Where words or text bytes are above LUA_CHUNK_MOST,
+ * "above the limit of 16777216" stands for their number; the other commands refuse such a chunk by 8 or 9.
  *
  * Exit status: 0 done, 1 refused by the library (the number is printed), 2 anything else.
  */
@@ -67,6 +76,7 @@ static const char *reason(uint32_t refusal)
         "no function begins there",
         "pc above the length of the code",
         "register above 255",
+        "the numbers are not those measured",
     };
     return refusal < sizeof reasons / sizeof reasons[0] ? reasons[refusal] : "unknown";
 }
@@ -79,7 +89,7 @@ static int refused(const char *file, uint32_t refusal)
 
 /* ---- memory: a pointer that is lent is never null, so at least one element is had */
 
-static void *space(size_t count, size_t size)
+static void *allocate(size_t count, size_t size)
 {
     return count <= SIZE_MAX / 2 / size ? malloc((count ? count : 1) * size) : NULL;
 }
@@ -93,7 +103,7 @@ static size_t least(size_t a, size_t b)
 static bool get_space(struct bytes *b, size_t len)
 {
     free(b->at);
-    b->at = space(len, 1);
+    b->at = allocate(len, 1);
     b->len = b->at ? len : 0;
     return b->at != NULL;
 }
@@ -110,7 +120,7 @@ static bool read_all(FILE *f, struct bytes *chunk)
 {
     size_t room = 65536;
     chunk->len = 0;
-    chunk->at = space(room, 1);
+    chunk->at = allocate(room, 1);
     while (chunk->at) {
         size_t n = fread(chunk->at + chunk->len, 1, room - chunk->len, f);
         chunk->len += n;
@@ -156,30 +166,31 @@ static int print(const uint8_t *at, size_t len)
 
 /* ---- the store of a chunk */
 
-static int undump(const char *file, struct bytes chunk, struct store *s)
+static const uint8_t no_name = 0;
+
+static int measure(const char *file, struct bytes chunk, lua_chunk_Undumped *need)
 {
-    const uint8_t no_name = 0;
-    size_t words = least(chunk.len / 4 + 16, LUA_CHUNK_MOST);
-    size_t text = least(chunk.len / 4 + 16, LUA_CHUNK_MOST);
-    for (;;) {
-        free(s->words);
-        free(s->text);
-        s->words = space(words, sizeof *s->words);
-        s->text = space(text, 1);
-        if (!s->words || !s->text)
-            return failed(file, "no memory");
-        lua_chunk_Undumped r = lua_chunk_undump(chunk.at, chunk.len, &no_name, 0, s->words, words, s->text, text);
-        if (r.refusal == LUA_CHUNK_FEW_WORDS && words < LUA_CHUNK_MOST) {
-            words = least(2 * words, LUA_CHUNK_MOST);
-        } else if (r.refusal == LUA_CHUNK_LITTLE_TEXT && text < LUA_CHUNK_MOST) {
-            text = least(2 * text, LUA_CHUNK_MOST);
-        } else {
-            s->words_len = r.words;
-            s->text_len = r.text;
-            s->width = r.width;
-            return r.refusal == LUA_CHUNK_OK ? DONE : refused(file, r.refusal);
-        }
-    }
+    *need = lua_chunk_measure(chunk.at, chunk.len, &no_name, 0);
+    return need->refusal ? refused(file, need->refusal) : DONE;
+}
+
+/* Lends exactly what was measured; and nothing to a tree above the limits, which lua_chunk_store refuses by these numbers in any space. */
+static int store(const char *file, struct bytes chunk, lua_chunk_Undumped need, struct store *s)
+{
+    if (need.words > LUA_CHUNK_MOST)
+        return refused(file, LUA_CHUNK_FEW_WORDS);
+    if (need.text > LUA_CHUNK_MOST)
+        return refused(file, LUA_CHUNK_LITTLE_TEXT);
+    s->words = allocate(need.words, sizeof *s->words);
+    s->text = allocate(need.text, 1);
+    if (!s->words || !s->text)
+        return failed(file, "no memory");
+    lua_chunk_Undumped tree = lua_chunk_store(chunk.at, chunk.len, &no_name, 0, need.words, need.text, need.read, s->words, need.words,
+                                              s->text, need.text);
+    s->words_len = tree.words;
+    s->text_len = tree.text;
+    s->width = tree.width;
+    return tree.refusal ? refused(file, tree.refusal) : DONE;
 }
 
 /* A walk over the functions of a well-formed store, in preorder: looks for one by its number, or prints all where that is 0. */
@@ -230,6 +241,22 @@ static int list(const char *file, const struct store *s, struct bytes name, bool
     return status;
 }
 
+static void print_count(size_t n, const char *what)
+{
+    if (n <= LUA_CHUNK_MOST)
+        printf("%zu %s, ", n, what);
+    else
+        printf("above the limit of %lu %s, ", (unsigned long)LUA_CHUNK_MOST, what);
+}
+
+static int space(lua_chunk_Undumped need, struct bytes chunk)
+{
+    print_count(need.words, "words");
+    print_count(need.text, "text bytes");
+    printf("%zu of %zu bytes read, width %lu\n", need.read, chunk.len, (unsigned long)need.width);
+    return print(chunk.at, 0);
+}
+
 static int width(const struct store *s)
 {
     printf("%lu\n", (unsigned long)s->width);
@@ -238,7 +265,6 @@ static int width(const struct store *s)
 
 static int strip(const char *file, const struct store *s, bool size_4, const char *to)
 {
-    const uint8_t no_name = 0;
     struct bytes out = {NULL, 0};
     if (!get_space(&out, LUA_CHUNK_DUMP_MOST(s->words_len, s->text_len, 0)))
         return failed(file, "no memory");
@@ -295,7 +321,7 @@ static int source(const char *file, const struct store *s, struct bytes chunk_na
 
 static int usage(void)
 {
-    fputs("usage: servicetool list FILE | list-full FILE | width FILE | places FILE | strip [--size 4|8] FILE OUT\n"
+    fputs("usage: servicetool list FILE | list-full FILE | width FILE | space FILE | places FILE | strip [--size 4|8] FILE OUT\n"
           "                   | name FILE FUNCTION PC REGISTER | source FILE PLACE\n",
           stderr);
     return FAILED;
@@ -322,7 +348,7 @@ static uint32_t size(const char *word)
     return strcmp(word, "4") == 0 ? 4 : strcmp(word, "8") == 0 ? 8 : 0;
 }
 
-/* The width to write is 0 where it is that of the chunk. */
+/* A command that needs the store. The width to write is 0 where it is that of the chunk. */
 static int run(int argc, char **argv, const struct store *s, struct bytes chunk_name, uint32_t to_write)
 {
     const char *command = argv[1], *file = argv[2];
@@ -345,6 +371,24 @@ static int run(int argc, char **argv, const struct store *s, struct bytes chunk_
     return usage();
 }
 
+static int run_on_store(int argc, char **argv, struct bytes chunk, lua_chunk_Undumped need, uint32_t to_write)
+{
+    struct bytes chunk_name = {NULL, 0};
+    struct store s = {NULL, 0, NULL, 0, 0};
+    int status = store(argv[2], chunk, need, &s);
+    if (status == DONE && !get_space(&chunk_name, strlen(argv[2]) + 1))
+        status = failed(argv[2], "no memory");
+    if (status == DONE) {
+        chunk_name.at[0] = '@';
+        memcpy(chunk_name.at + 1, argv[2], strlen(argv[2]));
+        status = run(argc, argv, &s, chunk_name, to_write);
+    }
+    free(chunk_name.at);
+    free(s.words);
+    free(s.text);
+    return status;
+}
+
 int main(int argc, char **argv)
 {
     uint32_t to_write = 0;
@@ -359,21 +403,15 @@ int main(int argc, char **argv)
     }
     if (argc < 3)
         return usage();
-    struct bytes chunk = {NULL, 0}, chunk_name = {NULL, 0};
-    struct store s = {NULL, 0, NULL, 0, 0};
+    struct bytes chunk = {NULL, 0};
+    lua_chunk_Undumped need = {0, 0, 0, 0, 0};
     int status = read_file(argv[2], &chunk);
     if (status == DONE)
-        status = undump(argv[2], chunk, &s);
-    if (status == DONE && !get_space(&chunk_name, strlen(argv[2]) + 1))
-        status = failed(argv[2], "no memory");
-    if (status == DONE) {
-        chunk_name.at[0] = '@';
-        memcpy(chunk_name.at + 1, argv[2], strlen(argv[2]));
-        status = run(argc, argv, &s, chunk_name, to_write);
-    }
+        status = measure(argv[2], chunk, &need);
+    if (status == DONE && argc == 3 && strcmp(argv[1], "space") == 0)
+        status = space(need, chunk);
+    else if (status == DONE)
+        status = run_on_store(argc, argv, chunk, need, to_write);
     free(chunk.at);
-    free(chunk_name.at);
-    free(s.words);
-    free(s.text);
     return status;
 }

@@ -6,16 +6,27 @@
  *
  *     cc -Iinclude tool.c target/staticlib/libchunk.a
  *
- * A chunk is what luac writes: bytes. lua_chunk_undump reads one into a store, which is a run of words and a run of text bytes in
- * memory that you lend. Every other call takes such a store.
+ * A chunk is what luac writes: bytes. The tree of its functions goes into a store, which is a run of words and a run of text bytes in
+ * memory that you lend: lua_chunk_measure answers how much of each it takes, and lua_chunk_store, handed these numbers, stores it. Every
+ * other call takes such a store.
  *
- *     uint32_t words[1000];
- *     uint8_t text[1000], out[20000];
- *     lua_chunk_Undumped tree = lua_chunk_undump(chunk, chunk_len, name, name_len, words, 1000, text, 1000);
- *     if (tree.refusal == LUA_CHUNK_OK) {
- *         lua_chunk_Written listing = lua_chunk_list_function(words, tree.words, text, tree.text, name, name_len, false, out, 20000);
- *         if (listing.refusal == LUA_CHUNK_OK)
- *             fwrite(out, 1, listing.len, stdout);
+ *     uint8_t out[20000];
+ *     lua_chunk_Undumped need = lua_chunk_measure(chunk, chunk_len, name, name_len);
+ *     if (need.refusal == LUA_CHUNK_OK && need.words <= LUA_CHUNK_MOST && need.text <= LUA_CHUNK_MOST) {
+ *         uint32_t *words = malloc(need.words * sizeof *words);    // a tree has 12 words or more
+ *         uint8_t *text = malloc(need.text ? need.text : 1);       // it can have no text, and the pointer is not null even so
+ *         if (words && text) {
+ *             lua_chunk_Undumped tree = lua_chunk_store(chunk, chunk_len, name, name_len, need.words, need.text, need.read,
+ *                                                       words, need.words, text, need.text);
+ *             if (tree.refusal == LUA_CHUNK_OK) {
+ *                 lua_chunk_Written listing = lua_chunk_list_function(words, tree.words, text, tree.text, name, name_len, false,
+ *                                                                     out, sizeof out);
+ *                 if (listing.refusal == LUA_CHUNK_OK)
+ *                     fwrite(out, 1, listing.len, stdout);
+ *             }
+ *         }
+ *         free(words);
+ *         free(text);
  *     }
  *
  * examples/servicetool.c is a whole program, for chunks of any size.
@@ -31,7 +42,8 @@
  *
  * Memory. A call allocates nothing, keeps no pointer and no state, and waits for nothing. So calls may run at once in any number of
  * threads, as long as nobody else writes what a call reads, or touches what it writes, before it returns. 256 KB of stack are enough
- * for any call (measured: 178 KB at most, by getobjname 200 functions deep over a chain of 255 MOVEs; reading and writing take 70 KB).
+ * for any call (measured: 178 KB at most, by getobjname 200 functions deep over a chain of 255 MOVEs; lua_chunk_measure,
+ * lua_chunk_store and writing take 70 KB).
  *
  * What the caller owes. A run is a pointer and a count of elements, a size in bytes for bytes, and:
  *   - the pointer is not null and is aligned for its type (4 bytes for words and records), also where the count is 0;
@@ -39,7 +51,7 @@
  *   - what is lent for writing (no const) overlaps nothing else that the same call is lent. Runs that are only read may overlap.
  * Nothing else is asked: every content of every run, and every number, has a defined answer.
  *
- * Time. Every call but lua_chunk_undump first checks the whole store (refusal 10).
+ * Time. Every call but lua_chunk_measure and lua_chunk_store first checks the whole store (refusal 10).
  *
  *
  * CHUNKS
@@ -47,24 +59,25 @@
  * A chunk has the formats of the machine that its compiler was built for. Read and written are chunks of Lua 5.1 with the low byte first,
  * int and instruction of 4 bytes each, double for numbers, and a size_t of 4 or 8 bytes, which is the width of the chunk: the size of each
  * string in it takes so many bytes. A luac built for 32 bits makes chunks of width 4, one built for 64 bits chunks of width 8.
- * lua_chunk_undump reads both and answers which it was; lua_chunk_dump is told which to write.
+ * lua_chunk_measure and lua_chunk_store read both and answer which it was; lua_chunk_dump is told which to write.
  *
  * A Lua loads chunks of its own width alone, and refuses the other: "bad header in precompiled chunk", or "incompatible precompiled chunk".
  * So a chunk must have the width of the controller that is to load it; the machine that these calls run on makes no difference. The store
- * does not hold the width: a program has the same store at both. Keep what undump answered, and pass size_4 = tree.width == 4 to dump.
+ * does not hold the width: a program has the same store at both. Keep what measure answered, which store repeats, and pass
+ * size_4 = tree.width == 4 to dump.
  *
  *
  * CHUNK NAMES
  *
  * A chunk can leave out its root function's source. The chunk name then stands for it: valid UTF-8, at most LUA_CHUNK_MOST bytes, empty
  * too. Lua's custom is @FILE for a file and =TEXT for other things. The store keeps such a source as inherited and does not hold the
- * name, so that each call that needs sources is given one.
+ * name, so that each call that needs sources is given one. measure and store only test it; it need not be the same for both.
  *
  *
  * THE STORE
  *
- * A store is handed over at exactly its used length: tree.words words and tree.text bytes, as undump answered, and not all the space
- * that was lent. A function is named by its place, the index of its first word; the root's is 0. In order, a function has
+ * A store is handed over at exactly its used length: tree.words words and tree.text bytes, as measure and store answered, and not all
+ * the space that was lent. A function is named by its place, the index of its first word; the root's is 0. In order, a function has
  *
  *     source              3 words: 1, place in text, length; or 0, 0, 0 where it is the source around it (for the root, the chunk name)
  *     line_defined        1 word
@@ -79,7 +92,7 @@
  *     upvalue names       a count, then 2 words for each: place in text, length
  *
  * Strings stand in the text in this order, without gap or overlap. A store is well formed where it is exactly this, with sources, local
- * and upvalue names in UTF-8, and within the limits below. What undump leaves is well formed; anything else is refused by 10.
+ * and upvalue names in UTF-8, and within the limits below. What store leaves is well formed; anything else is refused by 10.
  */
 #ifndef LUA_CHUNK_H
 #define LUA_CHUNK_H
@@ -113,7 +126,8 @@ enum lua_chunk_refusal {
     LUA_CHUNK_LITTLE_OUTPUT = 11, /* the output is longer than the space lent */
     LUA_CHUNK_NO_FUNCTION = 12,  /* no function begins at this place */
     LUA_CHUNK_BAD_PC = 13,       /* the pc is above the length of the code */
-    LUA_CHUNK_BAD_REGISTER = 14  /* the register is above 255 */
+    LUA_CHUNK_BAD_REGISTER = 14, /* the register is above 255 */
+    LUA_CHUNK_NOT_MEASURED = 15  /* the numbers handed to store are not those that measure answers of the chunk */
 };
 
 /* What a name is of. */
@@ -171,22 +185,44 @@ typedef struct lua_chunk_SourceAt {
 } lua_chunk_SourceAt;
 
 /*
- * Reads the chunk that begins at the first byte of chunk, of width 4 or 8, into words and text. Answers the width, which lua_chunk_dump
- * needs (see CHUNKS), the words and text bytes used, and the bytes read: the header's and the root function's, children included. Bytes
- * behind those are ignored; where chunks stand end to end, the next begins at chunk + read and has a width of its own.
+ * How much space the tree of a chunk takes. The chunk begins at the first byte of chunk and is of width 4 or 8. Answers the width, which
+ * lua_chunk_dump needs (see CHUNKS), the words and the text bytes that lua_chunk_store needs, and the bytes read: the header's and the root
+ * function's, children included. Bytes behind those are ignored: with and without them the answer is the same. Where chunks stand end to
+ * end, the next begins at chunk + read and has a width of its own. Nothing is written.
+ *
+ * Words or text bytes above LUA_CHUNK_MOST are answered as LUA_CHUNK_MOST + 1 (16,777,217), whatever their number is. No space is enough
+ * for such a tree. So compare both with LUA_CHUNK_MOST before you allocate, and do not allocate LUA_CHUNK_MOST + 1.
+ *
+ * Refused by 1; then 2 to 7, whichever reading meets first; by nothing else.
+ *
+ * Time. It grows with the number of functions, constants, locals and upvalue names, and with the bytes of sources and of local and upvalue
+ * names; not with the number of instructions and lines, nor with the bytes of string constants.
+ */
+lua_chunk_Undumped lua_chunk_measure(const uint8_t *chunk, size_t chunk_len, const uint8_t *name, size_t name_len);
+
+/*
+ * Stores the tree of a chunk in words and text. need_words, need_text and need_read are the words, text and read that lua_chunk_measure
+ * answered of this chunk. Answers the same as measure; the store is the first tree.words of words and the first tree.text of text.
  *
  * Sources, local and upvalue names are repaired: each maximal ill-formed part of their UTF-8 becomes EF BF BD. String constants stay as
- * they are. The name is only tested: see CHUNK NAMES.
+ * they are.
  *
- * Refused by 1; then 2 to 7, whichever reading meets first; then, the chunk being read to its end, 8; 9.
+ * The chunk is measured again, and the three numbers are compared with the answer. Hand them over as measure gave them, not rounded up: it
+ * is the space lent, words_len and text_len, that may be more. Any other number, such as one of another chunk or of this chunk before it
+ * was changed, is refused by 15; then measure again. A chunk that was changed between the calls and has kept its three numbers is stored
+ * as it is now, and nothing is ever written beyond the space lent. During a call it must not change: see Memory. The width is not
+ * compared; store answers that of the chunk as it is now.
  *
- * Space. After 8 or 9, call again with more words or text, unless LUA_CHUNK_MOST were lent: then the tree is above the limit. Three words
- * and three text bytes for each byte of the chunk, and no more than LUA_CHUNK_MOST of either, are always enough for a tree within the
- * limits (a constant nil is one byte and takes three words; an ill-formed byte is repaired to three). A chunk made by luac takes about
- * one word for each four bytes, and less text than it has bytes.
+ * Refused by 1; 2 to 7, as measure is, whatever the three numbers are; 15; 8; 9.
+ *
+ * Space. What measure answered is enough and no more than enough (proved): with so many words and text bytes lent, both at most
+ * LUA_CHUNK_MOST, there is no 8 and no 9; with one less of either there is. A tree above the limits is refused by 8 or 9 whatever is lent.
+ *
+ * Time. That of measure, then that of writing, which grows with the words and the text bytes of the store too.
  */
-lua_chunk_Undumped lua_chunk_undump(const uint8_t *chunk, size_t chunk_len, const uint8_t *name, size_t name_len, uint32_t *words,
-                                    size_t words_len, uint8_t *text, size_t text_len);
+lua_chunk_Undumped lua_chunk_store(const uint8_t *chunk, size_t chunk_len, const uint8_t *name, size_t name_len, size_t need_words,
+                                   size_t need_text, size_t need_read, uint32_t *words, size_t words_len, uint8_t *text,
+                                   size_t text_len);
 
 /*
  * Writes the chunk of a store to out. With strip, lines, locals and upvalue names are left out, and sources kept. A source equal to the
