@@ -1,8 +1,8 @@
 #!/usr/bin/env bash
 # differential.sh CORPUS: compares every call with the Rust over the chunks that corpus.sh made, damaged copies of them, made-up trees,
-# trees at the limits and all chunks of at most three bytes, and the listings with luac's own; undump and dump at width 4 with src/lundump.rs
-# and src/ldump.rs, and at both widths with both luacs; UTF-8 with Rust's library, and instructions with the Rust. Prints the number of
-# cases for each call, and fails on a difference.
+# trees at the limits and all chunks of at most three bytes, and the listings with luac's own; measure and store with src/measured.rs, whatever
+# numbers store is given; undump, which is both, and dump at width 4 with src/lundump.rs and src/ldump.rs, and at both widths with both luacs;
+# UTF-8 with Rust's library, and instructions with the Rust. Prints the number of cases for each call, and fails on a difference.
 set -euo pipefail
 here=$(cd "$(dirname "$0")" && pwd)
 corpus=$(cd "$1" && pwd)
@@ -20,7 +20,8 @@ mkdir "$work/leaves"
 "$bin/leaves" many "$work/leaves"
 for f in "$work/leaves"/*; do ../target/bin/test_leaves < "$f"; done |
     awk '{ n += $1; d += $4 } END { print NR " files, " n " answers compared, " d " differ"; exit d > 0 }'
-echo "undump, source_at:"
+echo "measure, store, source_at:"
+"$bin/measures" compare
 "$bin/compare" exhaustive
 "$bin/compare" limits
 xargs -a "$work/small" "$bin/compare" 60

@@ -1,5 +1,7 @@
 //! This library's exported calls, through its archive.
 
+use crate::measured::{Need, Numbers};
+
 #[repr(C)]
 #[derive(Debug, Clone, Copy, PartialEq)]
 pub struct Undumped {
@@ -8,6 +10,18 @@ pub struct Undumped {
     pub words: usize,
     pub text: usize,
     pub read: usize,
+}
+
+impl Undumped {
+    /// As src/measured.rs has them.
+    pub fn numbers(self) -> Numbers {
+        [self.refusal as usize, self.width as usize, self.words, self.text, self.read]
+    }
+
+    /// What store is given of it.
+    pub fn need(self) -> Need {
+        [self.words, self.text, self.read]
+    }
 }
 
 #[repr(C)]
@@ -114,11 +128,16 @@ unsafe extern "C" {
         name_len: usize,
         place: usize,
     ) -> SourceAt;
-    fn lua_chunk_undump(
+    fn lua_chunk_measure(chunk: *const u8, chunk_len: usize, name: *const u8, name_len: usize) -> Undumped;
+
+    fn lua_chunk_store(
         chunk: *const u8,
         chunk_len: usize,
         name: *const u8,
         name_len: usize,
+        need_words: usize,
+        need_text: usize,
+        need_read: usize,
         words: *mut u32,
         words_len: usize,
         text: *mut u8,
@@ -151,19 +170,36 @@ unsafe extern "C" {
     ) -> Written;
 }
 
-pub fn undump(chunk: &[u8], name: &[u8], words: &mut [u32], text: &mut [u8]) -> Undumped {
+pub fn measure(chunk: &[u8], name: &[u8]) -> Undumped {
+    unsafe { lua_chunk_measure(chunk.as_ptr(), chunk.len(), name.as_ptr(), name.len()) }
+}
+
+pub fn store(chunk: &[u8], name: &[u8], need: Need, words: &mut [u32], text: &mut [u8]) -> Undumped {
+    let [need_words, need_text, need_read] = need;
     unsafe {
-        lua_chunk_undump(
+        lua_chunk_store(
             chunk.as_ptr(),
             chunk.len(),
             name.as_ptr(),
             name.len(),
+            need_words,
+            need_text,
+            need_read,
             words.as_mut_ptr(),
             words.len(),
             text.as_mut_ptr(),
             text.len(),
         )
     }
+}
+
+/// Both calls: measure, then store with what it answered. Where measure is refused, by 1 to 7, store is refused by the same number; else
+/// store answers the same, or is refused by 8 or 9.
+pub fn undump(chunk: &[u8], name: &[u8], words: &mut [u32], text: &mut [u8]) -> Undumped {
+    let m = measure(chunk, name);
+    let s = store(chunk, name, m.need(), words, text);
+    assert!(m.refusal <= 7 && (s == m || m.refusal == 0 && matches!(s.refusal, 8 | 9)), "{m:?}, then {s:?}");
+    s
 }
 
 pub fn symbexec(words: &[u32], text: &[u8], place: usize, lastpc: usize, reg: u32) -> SymbExec {
@@ -247,14 +283,10 @@ pub fn list_function(words: &[u32], text: &[u8], name: &[u8], full: bool, out: &
     }
 }
 
-/// The store of a chunk, where it is not refused.
-pub fn store(chunk: &[u8], name: &[u8]) -> Result<(Vec<u32>, Vec<u8>), u32> {
-    let (mut words, mut text) = (vec![0; chunk.len() + 64], vec![0; 3 * chunk.len() + 64]);
-    let r = undump(chunk, name, &mut words, &mut text);
-    if 0 < r.refusal {
-        return Err(r.refusal);
-    }
-    words.truncate(r.words);
-    text.truncate(r.text);
-    Ok((words, text))
+/// The store of a chunk, in exactly the space that was measured, or the refusal.
+pub fn load(chunk: &[u8], name: &[u8]) -> Result<(Vec<u32>, Vec<u8>), u32> {
+    let m = measure(chunk, name);
+    let (mut words, mut text) = (vec![0; m.words], vec![0; m.text]);
+    let s = store(chunk, name, m.need(), &mut words, &mut text);
+    if s.refusal == 0 { Ok((words, text)) } else { Err(s.refusal) }
 }

@@ -1,9 +1,10 @@
 //! bench RUNS PATH..: times this library's calls and the Rust's, in turn, over the same chunks.
 //!
 //! A path is a chunk, or a folder of chunks that are timed together. Prints the least, the middle and the greatest time of each in
-//! ns per chunk byte, and the ratio of the least times. `undump 4` and `dump 4` are this library's calls on the same programs as chunks of
-//! width 4, beside its own at 8, each per byte of its own chunks. `bench dump RUNS PATH..` runs this library's dump alone, for a profiler,
-//! and `bench plain` and `bench full` its listing.
+//! ns per chunk byte, and the ratio of the least times. `undump` is measure, then store with what it answered; measure, store and both stand
+//! beside the Rust's undump. `undump 4` and `dump 4` are this library's calls on the same programs as chunks of width 4, beside its own at 8,
+//! each per byte of its own chunks. `bench dump RUNS PATH..` runs this library's dump alone, for a profiler, `bench measure`, `bench store`
+//! and `bench undump` those calls, and `bench plain` and `bench full` its listing.
 //! The Rust's dump makes a vector and lets it grow, ours writes to lent memory; trees are dropped outside the time.
 
 use std::hint::black_box;
@@ -13,12 +14,16 @@ use oracle::archive;
 use oracle::hexnum;
 use oracle::hexnum::listing::list_function;
 use oracle::made::converted;
+use oracle::measured::Need;
 use oracle::requests::count;
 use oracle::vm::dump::dump;
 use oracle::vm::proto::ProtoRef;
 use oracle::vm::undump::undump;
 
 const NAME: &str = "=bench";
+
+/// What can be run alone.
+const ALONE: [&str; 6] = ["measure", "store", "undump", "dump", "plain", "full"];
 
 /// A chunk, with space for what the calls leave.
 struct Chunk {
@@ -28,6 +33,8 @@ struct Chunk {
     tree: ProtoRef,
     /// The same with numbers that print as 16 digits, to list.
     hex: hexnum::proto::ProtoRef,
+    /// What measure answers of it.
+    need: Need,
     words: Vec<u32>,
     text: Vec<u8>,
     out: Vec<u8>,
@@ -38,14 +45,28 @@ impl Chunk {
     fn read(bytes: Vec<u8>) -> Chunk {
         let tree = undump(&bytes, NAME).unwrap();
         let hex = hexnum::undump::undump(&bytes, NAME).unwrap();
-        let (words, text) = archive::store(&bytes, NAME.as_bytes()).unwrap();
+        let need = archive::measure(&bytes, NAME.as_bytes()).need();
+        let (words, text) = archive::load(&bytes, NAME.as_bytes()).unwrap();
         // an address is longer than the number that stands for it
         let list = vec![0; list_function(&hex, true).len()];
         // room for any chunk of the store
         let out = vec![0; 12 + 5 * words.len() + text.len() + NAME.len()];
-        Chunk { out, list, narrow: converted(&bytes), bytes, tree, hex, words, text }
+        Chunk { out, list, narrow: converted(&bytes), bytes, tree, hex, need, words, text }
     }
 
+    fn measure(&self) -> usize {
+        let m = archive::measure(black_box(&self.bytes), NAME.as_bytes());
+        assert_eq!(m.refusal, 0);
+        m.read
+    }
+
+    fn store(&mut self) -> usize {
+        let s = archive::store(black_box(&self.bytes), NAME.as_bytes(), self.need, &mut self.words, &mut self.text);
+        assert_eq!(s.refusal, 0);
+        s.read
+    }
+
+    /// Both calls.
     fn undump(&mut self, width: usize) -> usize {
         let chunk = if width == 4 { &self.narrow } else { &self.bytes };
         let u = archive::undump(black_box(chunk), NAME.as_bytes(), &mut self.words, &mut self.text);
@@ -136,11 +157,11 @@ fn sorted(mut ns: Vec<f64>) -> [f64; 3] {
 
 fn main() {
     let mut args: Vec<String> = std::env::args().skip(1).collect();
-    let alone = args.first().filter(|a| ["dump", "plain", "full"].contains(&a.as_str())).cloned();
+    let alone = args.first().filter(|a| ALONE.contains(&a.as_str())).cloned();
     if alone.is_some() {
         args.remove(0);
     }
-    let runs: usize = args.first().and_then(|n| n.parse().ok()).expect("bench [dump | plain | full] RUNS PATH..");
+    let runs: usize = args.first().and_then(|n| n.parse().ok()).unwrap_or_else(|| panic!("bench [{}] RUNS PATH..", ALONE.join(" | ")));
     for path in &args[1..] {
         let chunks = chunks(path);
         let bytes = chunks.iter().map(|c| c.bytes.len()).sum();
@@ -149,6 +170,9 @@ fn main() {
         if let Some(call) = &alone {
             (0..runs).for_each(|_| {
                 _ = b.time(bytes, |c| match call.as_str() {
+                    "measure" => c.measure(),
+                    "store" => c.store(),
+                    "undump" => c.undump(8),
                     "dump" => c.dump(false, false, 8),
                     call => c.list(call == "full"),
                 })
@@ -158,7 +182,10 @@ fn main() {
         let functions: usize = b.chunks.iter().map(|c| count(&c.tree)).sum();
         let count = b.chunks.len();
         println!("{path}: {count} chunks, {bytes} bytes, {narrow} at width 4, {functions} functions, {runs} runs, ns a byte");
-        b.rust("undump", |c| c.undump(8), |c| undump(black_box(&c.bytes), NAME));
+        let rust = |c: &mut Chunk| undump(black_box(&c.bytes), NAME);
+        b.rust("measure", |c| c.measure(), rust);
+        b.rust("store", |c| c.store(), rust);
+        b.rust("undump", |c| c.undump(8), rust);
         b.widths("undump 4", Chunk::undump);
         for (call, strip, exact) in [("dump", false, false), ("dump strip", true, false), ("dump exact", false, true)] {
             b.rust(call, |c| c.dump(strip, exact, 8), |c| dump(black_box(&c.tree), None, strip).len());

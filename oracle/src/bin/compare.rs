@@ -1,21 +1,25 @@
 //! Compares this library's calls with the Rust's, through the exported functions.
 //!
 //!     compare N CHUNK..        each chunk, and N damaged copies of it
-//!     compare limits           trees at the limits and one beyond them, at both widths
+//!     compare limits           trees at the limits and beyond them, at both widths
 //!     compare exhaustive       all chunks of at most three bytes; at both widths the sample with each byte replaced by each other, and
 //!                              strings of all sizes around the end of the data
 //!
-//! undump: the refusal or the whole tree with sources filled in, the width, the bytes read (the shortest prefix that the Rust accepts),
-//! that space beyond the used part and all space on a refusal is untouched, exact space, and one word and one byte too little.
+//! measure, then store with what it answered, which is undump: the refusal or the whole tree with sources filled in, the width, the bytes
+//! read (the shortest prefix that the Rust accepts), that space beyond the used part and all space on a refusal is untouched, exact space,
+//! one word and one byte too little, none.
+//! store with other numbers, under another name, into enough space, exact space and none: src/measured.rs says by what it is refused; it
+//! writes nothing. Chunks of at most three bytes get one such call each. With bytes behind it a chunk is measured and stored the same.
 //! source_at: the source of every function of a chunk that is not large, and its refusals.
-//! Every answer and store is held to src/lundump.rs too, and a chunk of width 4 to that alone. A chunk that is refused by 6 or 7 lies outside
+//! Every answer and store is held to src/lundump.rs too, and a chunk of width 4 to that alone. A chunk that is refused by 6 to 9 lies outside
 //! the domain of comparison with the Rust. Both are counted apart.
 
 use std::panic::{AssertUnwindSafe, catch_unwind};
 
 use oracle::archive::{self, Undumped};
-use oracle::lundump::{self, narrow};
-use oracle::made::{Function, Text, chunk_of, listed, nested, placed, stored, tree};
+use oracle::lundump::{self, Loaded, narrow};
+use oracle::made::{Function, Store, Text, chunk_of, listed, nested, nils, placed, stored, tree};
+use oracle::measured::{Counted, Need, expected_measure, expected_store, others, right};
 use oracle::random::Random;
 use oracle::stored::MOST;
 use oracle::vm::proto::{Proto, ProtoRef};
@@ -23,6 +27,9 @@ use oracle::vm::undump::undump;
 use oracle::vm::value::Val;
 
 const NAME: &str = "=n";
+
+/// No UTF-8.
+const BAD: &[u8] = b"n\xff";
 
 fn ours(chunk: &[u8], words: &mut [u32], text: &mut [u8]) -> Undumped {
     archive::undump(chunk, NAME.as_bytes(), words, text)
@@ -128,6 +135,9 @@ impl<'a> Walk<'a> {
     }
 }
 
+/// What src/lundump.rs counts in a chunk, or its refusal.
+type Read = Result<Counted, u8>;
+
 #[derive(Default)]
 struct Counts {
     chunks: u64,
@@ -137,12 +147,25 @@ struct Counts {
     refusals: [u64; 10],
     /// Of chunks of width 4 alone.
     narrow: [u64; 10],
+    /// Calls of store with other numbers, and how many were refused by 15.
+    others: [u64; 2],
+    /// Chunks with bytes behind them.
+    behind: u64,
 }
 
 impl Counts {
-    fn refused(&mut self, chunk: &[u8], number: u32) {
-        self.refusals[number as usize] += 1;
-        self.narrow[number as usize] += u64::from(narrow(chunk));
+    fn refused(&mut self, chunk: &[u8], number: usize) {
+        self.refusals[number] += 1;
+        self.narrow[number] += u64::from(narrow(chunk));
+    }
+
+    /// Whether store with these numbers answers as it must.
+    fn store(&mut self, chunk: &[u8], counted: Read, name: &[u8], need: Need, words: &mut [u32], text: &mut [u8]) -> bool {
+        let lent = [words.len(), text.len()];
+        let r = archive::store(chunk, name, need, words, text);
+        self.others[0] += u64::from(need != right(counted));
+        self.others[1] += u64::from(r.refusal == 15);
+        r.numbers() == expected_store(name, counted, need, lent)
     }
 }
 
@@ -150,21 +173,110 @@ impl Counts {
 const WORD: u32 = 0xA5A5_A5A5;
 const BYTE: u8 = 0x5A;
 
-/// Whether exact space and one too little of each give what they must.
-fn tight(chunk: &[u8], answer: Undumped, words: &[u32], text: &[u8]) -> bool {
-    let (mut w, mut t) = (vec![WORD; words.len()], vec![BYTE; text.len()]);
-    let exact = ours(chunk, &mut w, &mut t) == answer && w == words && t == text;
-    let mut few = vec![WORD; words.len() - 1];
-    let eight = ours(chunk, &mut few, &mut t).refusal == 8 && few.iter().all(|x| *x == WORD) && t == text;
-    let nine = text.is_empty() || {
-        let mut few = vec![BYTE; text.len() - 1];
-        ours(chunk, &mut w, &mut few).refusal == 9 && few.iter().all(|x| *x == BYTE) && w == words
-    };
-    exact && eight && nine
+fn clear(words: &mut [u32], text: &mut [u8]) {
+    words.fill(WORD);
+    text.fill(BYTE);
+}
+
+fn untouched(words: &[u32], text: &[u8]) -> bool {
+    words.iter().all(|w| *w == WORD) && text.iter().all(|b| *b == BYTE)
+}
+
+/// A chunk, and what src/lundump.rs finds in it.
+struct Case<'a> {
+    chunk: &'a [u8],
+    loaded: Result<(Loaded, Store), u8>,
+}
+
+impl Case<'_> {
+    fn new(chunk: &[u8]) -> Case<'_> {
+        let loaded = lundump::undump(chunk, NAME).map(|l| {
+            let store = stored(&l, NAME);
+            (l, store)
+        });
+        Case { chunk, loaded }
+    }
+
+    fn counted(&self) -> Read {
+        self.loaded.as_ref().map(|(l, store)| Counted::of(l, store)).map_err(|n| *n)
+    }
+
+    /// Whether these bytes, which have the case's tree, are measured as they must be under a name.
+    fn measured(&self, chunk: &[u8], name: &[u8]) -> bool {
+        archive::measure(chunk, name).numbers() == expected_measure(name, self.counted())
+    }
+
+    /// Whether undump of these bytes, which have the case's tree, answers and leaves what it must in this space.
+    fn undumps(&self, chunk: &[u8], words: &mut [u32], text: &mut [u8]) -> bool {
+        clear(words, text);
+        let r = ours(chunk, words, text);
+        let lent = [words.len(), text.len()];
+        if r.numbers() != expected_store(NAME.as_bytes(), self.counted(), right(self.counted()), lent) {
+            return false;
+        }
+        let (words, words_beyond) = words.split_at(r.words);
+        let (text, text_beyond) = text.split_at(r.text);
+        let stored = match &self.loaded {
+            Ok((_, store)) if r.refusal == 0 => store.words == words && store.text == text,
+            _ => words.is_empty() && text.is_empty(),
+        };
+        stored && untouched(words_beyond, text_beyond)
+    }
+
+    /// Whether exact space, one too little of each, and none give what they must.
+    fn tight(&self, words: &mut [u32], text: &mut [u8]) -> bool {
+        let Ok(Counted { words: w, text: t, .. }) = self.counted() else { return true };
+        let mut lent = vec![[w, t], [w - 1, t], [0, t], [0, 0]];
+        if t > 0 {
+            lent.extend([[w, t - 1], [w - 1, t - 1], [w, 0]]);
+        }
+        lent.iter().all(|[w, t]| self.undumps(self.chunk, &mut words[..*w], &mut text[..*t]))
+    }
+
+    /// Whether store with other numbers is refused as it must be, and writes nothing: of a long chunk each into one of the spaces, in turn.
+    fn others(&self, words: &mut [u32], text: &mut [u8], counts: &mut Counts) -> bool {
+        clear(words, text);
+        let (chunk, counted, name) = (self.chunk, self.counted(), NAME.as_bytes());
+        if chunk.len() <= 3 {
+            return counts.store(chunk, counted, name, [1, 2, 3], words, text) && untouched(words, text);
+        }
+        let others = others(counted);
+        let mut lent = vec![[words.len(), text.len()], [0, 0]];
+        lent.extend(counted.map(|c| [c.words, c.text]));
+        let step = if chunk.len() < 1 << 20 { 1 } else { lent.len() };
+        let refused = lent.iter().enumerate().all(|(i, [w, t])| {
+            let (words, text) = (&mut words[..*w], &mut text[..*t]);
+            others.iter().skip(i % step).step_by(step).all(|need| counts.store(chunk, counted, name, *need, words, text))
+        });
+        refused && self.badly_named(BAD, words, text, counts)
+    }
+
+    /// Whether a name that is refused is refused before all else, this space being untouched.
+    fn badly_named(&self, name: &[u8], words: &mut [u32], text: &mut [u8], counts: &mut Counts) -> bool {
+        let counted = self.counted();
+        let mut needs = others(counted);
+        needs.truncate(2);
+        needs.push(right(counted));
+        self.measured(self.chunk, name)
+            && needs.iter().all(|need| counts.store(self.chunk, counted, name, *need, words, text))
+            && untouched(words, text)
+    }
+
+    /// Whether all is the same with bytes behind, and other numbers where they are counted as read.
+    fn behind(&self, words: &mut [u32], text: &mut [u8], counts: &mut Counts) -> bool {
+        let Ok(c) = self.counted() else { return true };
+        counts.behind += 1;
+        let tails = [&[0][..], &[0xFF, 1, 2], &self.chunk[..c.read.min(9999)]];
+        let longer = [self.chunk, tails[counts.behind as usize % 3]].concat();
+        let same = self.measured(&longer, NAME.as_bytes()) && self.undumps(&longer, words, text);
+        let [w, t, _] = right(Ok(c));
+        clear(words, text);
+        same && counts.store(&longer, Ok(c), NAME.as_bytes(), [w, t, longer.len()], words, text) && untouched(words, text)
+    }
 }
 
 /// The refusal that the Rust's message stands for.
-fn refusal(message: &str) -> u32 {
+fn refusal(message: &str) -> usize {
     match () {
         () if message.contains("truncated") => 2,
         () if message.contains("not a precompiled") => 3,
@@ -172,11 +284,6 @@ fn refusal(message: &str) -> u32 {
         () if message.contains("bad constant") => 5,
         () => 99,
     }
-}
-
-/// Whether all numbers but the refusal are 0.
-fn zeros(r: Undumped) -> bool {
-    r == Undumped { refusal: r.refusal, width: 0, words: 0, text: 0, read: 0 }
 }
 
 /// Whether the words and the text hold this tree.
@@ -189,59 +296,53 @@ fn holds(words: &[u32], text: &[u8], p: &Proto) -> bool {
     .is_ok()
 }
 
-fn same(chunk: &[u8], words: &mut [u32], text: &mut [u8], counts: &mut Counts) -> bool {
-    words.fill(WORD);
-    text.fill(BYTE);
-    let r = ours(chunk, words, text);
-    counts.refused(chunk, r.refusal);
-    let (words, words_beyond) = words.split_at(r.words);
-    let (text, text_beyond) = text.split_at(r.text);
-    let untouched = words_beyond.iter().all(|x| *x == WORD) && text_beyond.iter().all(|x| *x == BYTE);
-    if !untouched || (r.refusal > 0 && !zeros(r)) {
+fn same(case: &Case, words: &mut [u32], text: &mut [u8], counts: &mut Counts) -> bool {
+    let Case { chunk, loaded } = case;
+    if !case.measured(chunk, NAME.as_bytes()) || !case.undumps(chunk, words, text) {
         return false;
     }
-    let agrees = match lundump::undump(chunk, NAME) {
-        Ok(l) => {
-            let store = stored(&l, NAME);
-            let numbers = [r.refusal as usize, r.width as usize, r.read] == [0, l.width, l.read];
-            numbers && store.words == words && store.text == text && (!narrow(chunk) || holds(words, text, &l.root))
+    let lent = [words.len(), text.len()];
+    let [refusal, _, n, m, read] = expected_store(NAME.as_bytes(), case.counted(), right(case.counted()), lent);
+    counts.refused(chunk, refusal);
+    let agrees = match (loaded, narrow(chunk)) {
+        _ if refusal >= 6 => {
+            counts.outside += 1;
+            true
         }
-        Err(n) => r.refusal == u32::from(n),
+        (Ok((l, _)), true) => holds(&words[..n], &text[..m], &l.root),
+        (Err(_), true) => true,
+        (_, false) => match catch_unwind(|| undump(chunk, NAME)) {
+            Err(_) => {
+                counts.panics += 1;
+                refusal == 2
+            }
+            Ok(Err(e)) => self::refusal(&format!("{e:?}")) == refusal,
+            Ok(Ok(p)) => {
+                refusal == 0
+                    && holds(&words[..n], &text[..m], &p)
+                    && undump(&chunk[..read], NAME).is_ok()
+                    && undump(&chunk[..read - 1], NAME).is_err()
+            }
+        },
     };
-    if !agrees {
-        return false;
+    agrees && case.tight(words, text) && case.others(words, text, counts) && case.behind(words, text, counts)
+}
+
+/// With more words and text bytes lent than so many, and than the tree takes.
+fn compare_lent(chunk: &[u8], most: usize, counts: &mut Counts) -> Read {
+    counts.chunks += 1;
+    let case = Case::new(chunk);
+    let [w, t] = case.counted().map_or([0, 0], |c| [c.words, c.text]);
+    let (mut words, mut text) = (vec![0; most.max(w) + 1], vec![0; most.max(t) + 1]);
+    if !catch_unwind(AssertUnwindSafe(|| same(&case, &mut words, &mut text, counts))).is_ok_and(|same| same) {
+        counts.differ += 1;
+        eprintln!("differs: {} bytes: {:02x?}", chunk.len(), &chunk[..chunk.len().min(9999)]);
     }
-    if r.refusal >= 6 {
-        counts.outside += 1;
-        return true;
-    }
-    if narrow(chunk) {
-        return r.refusal > 0 || tight(chunk, r, words, text);
-    }
-    match catch_unwind(|| undump(chunk, NAME)) {
-        Err(_) => {
-            counts.panics += 1;
-            r.refusal == 2
-        }
-        Ok(Err(e)) => refusal(&format!("{e:?}")) == r.refusal,
-        Ok(Ok(p)) => {
-            r.refusal == 0
-                && r.width == 8
-                && holds(words, text, &p)
-                && undump(&chunk[..r.read], NAME).is_ok()
-                && undump(&chunk[..r.read - 1], NAME).is_err()
-                && tight(chunk, r, words, text)
-        }
-    }
+    case.counted()
 }
 
 fn compare(chunk: &[u8], counts: &mut Counts) {
-    counts.chunks += 1;
-    let (mut words, mut text) = (vec![0; 3 * chunk.len() + 64], vec![0; 3 * chunk.len() + 64]);
-    if !same(chunk, &mut words, &mut text, counts) {
-        counts.differ += 1;
-        eprintln!("differs: {chunk:02x?}");
-    }
+    _ = compare_lent(chunk, 3 * chunk.len() + 63, counts);
 }
 
 /// All chunks of at most three bytes; at both widths the sample cut at each place, and with each of its bytes replaced by each other, and
@@ -282,22 +383,14 @@ fn sizes(width: usize, counts: &mut Counts) {
     }
 }
 
-/// A chunk that is refused by this number, or not, where one word and one text byte more than the limits are lent.
-fn refused(chunk: &[u8], number: u32, counts: &mut Counts) {
-    counts.chunks += 1;
-    counts.outside += u64::from(number > 0);
-    counts.refused(chunk, number);
-    let (mut words, mut text) = (vec![WORD; MOST + 1], vec![BYTE; MOST + 1]);
-    let r = ours(chunk, &mut words, &mut text);
-    let untouched = words[r.words..].iter().all(|x| *x == WORD) && text[r.text..].iter().all(|x| *x == BYTE);
-    if r.refusal != number || !untouched || (number > 0 && !zeros(r)) {
-        counts.differ += 1;
-        eprintln!("differs: {} bytes, {r:?} and not {number}", chunk.len());
-    }
+/// A chunk with a tree at a limit or above, with more words and text bytes lent than the limits.
+fn large(chunk: &[u8], words: usize, text: usize, counts: &mut Counts) {
+    let found = compare_lent(chunk, MOST, counts);
+    assert!(found.is_ok_and(|c| [c.words, c.text] == [words, text]));
 }
 
 /// Each list as long as it can be and one longer, functions nested as deep as they can be and one deeper; as many words and text bytes
-/// as there can be, and one more of each.
+/// as there can be, and more of each; a chunk name as long as it can be, and one byte longer.
 fn limits(counts: &mut Counts) {
     for width in [8, 4] {
         for list in 0..6 {
@@ -309,12 +402,42 @@ fn limits(counts: &mut Counts) {
             compare(&nested(depth, Function::empty(Text::of(b"@i"))).wide(width), counts);
         }
         for more in [0, 1] {
-            refused(&chunk_of(&Proto::new(&"x".repeat(MOST + more)), false, width), 9 * more as u32, counts);
+            large(&chunk_of(&Proto::new(&"x".repeat(MOST + more)), false, width), 12, MOST + more, counts);
             let child = ProtoRef::new(Proto { code: vec![1; 65_535], ..Proto::new("") });
             let mut p = Proto { protos: vec![child; 255], code: vec![2; 60_000], ..Proto::new("") };
             p.line_info = vec![3; MOST - tree(&p).words.len() + more];
-            refused(&chunk_of(&p, false, width), 8 * more as u32, counts);
+            large(&chunk_of(&p, false, width), MOST + more, 0, counts);
         }
+        // A byte that is repaired takes three text bytes, and a nil of one byte three words.
+        let repaired = |more: &[u8]| Text::of(&[&[0xFF; MOST / 3], more].concat());
+        for (more, bytes) in [(&b""[..], 0), (b"a", 1), (b"ab", 2), (b"\xff", 3)] {
+            large(&Function::empty(repaired(more)).wide(width), 12, MOST - 1 + bytes, counts);
+        }
+        let children = vec![nils(65_535); 85];
+        let most = Function { children, ..nils(21_586) };
+        for (code, words) in [(0, MOST - 1), (1, MOST), (2, MOST + 1), (3, MOST + 2)] {
+            large(&Function { code: vec![9; code], ..most.clone() }.wide(width), words, 0, counts);
+        }
+        let both = Function { source: repaired(b"\xff"), code: vec![9; 1000], ..most };
+        large(&both.wide(width), MOST + 999, MOST + 2, counts);
+    }
+    names(counts);
+}
+
+/// The longest chunk name, and one byte more.
+fn names(counts: &mut Counts) {
+    let (mut words, mut text) = (vec![0; 14], vec![0; 2]);
+    let name = vec![b'n'; MOST + 1];
+    for chunk in [Function::sample().chunk(), Function::empty(Text::none()).wide(4)] {
+        let case = Case::new(&chunk);
+        let (longest, counted) = (&name[1..], case.counted());
+        clear(&mut words, &mut text);
+        let mut same = case.badly_named(&name, &mut words, &mut text, counts) && case.measured(&chunk, longest);
+        same &= others(counted).iter().all(|need| counts.store(&chunk, counted, longest, *need, &mut words, &mut text));
+        same &= untouched(&words, &text) && counts.store(&chunk, counted, longest, right(counted), &mut words, &mut text);
+        same &= case.loaded.is_ok_and(|(_, store)| words.starts_with(&store.words) && text.starts_with(&store.text));
+        counts.chunks += 1;
+        counts.differ += u64::from(!same);
     }
 }
 
@@ -340,8 +463,9 @@ fn main() {
             compare(&random.damaged(&chunk), &mut counts);
         }
     }
-    let Counts { chunks, outside, panics, differ, refusals, narrow } = counts;
+    let Counts { chunks, outside, panics, differ, refusals, narrow, others: [others, fifteen], behind } = counts;
     println!("{chunks} chunks, {differ} differ; {outside} outside the domain, {panics} where the Rust panics; by refusal {refusals:?}");
     println!("{} of them at width 4; by refusal {narrow:?}", narrow.iter().sum::<u64>());
+    println!("{others} calls of store with other numbers, {fifteen} of them refused by 15; {behind} chunks with bytes behind");
     assert_eq!(differ, 0);
 }

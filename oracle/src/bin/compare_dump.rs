@@ -1,12 +1,12 @@
 //! Compares this library's dump with the Rust's, through the exported function.
 //!
-//!     compare_dump N CHUNK..   each chunk, N damaged copies of it that undump takes, N damaged copies of its store
+//!     compare_dump N CHUNK..   each chunk, those of N damaged copies of it that store takes, N damaged copies of its store
 //!     compare_dump limits      trees at the limits and one beyond them
 //!
 //! Each store is dumped under three names, stripped and not, at both widths, into no space, one byte too few, exactly enough and some more:
 //! the answer, the bytes, and that what lies beyond them, or all of it on a refusal, is untouched. The Rust dumps the tree that its undump
 //! reads from the chunk, and for a damaged store the tree that src/stored.rs finds in it; at width 4 src/lundump.rs reads, and src/ldump.rs
-//! dumps, which at width 8 must write what the Rust does. What was dumped is read back too.
+//! dumps, which at width 8 must write what the Rust does. What was dumped is read back too, by measure and store.
 
 use oracle::archive::{self, Written};
 use oracle::lundump::narrow;
@@ -92,7 +92,7 @@ impl Counts {
     /// Reads a dump back, with bytes behind it, under another name: the same bytes read, the width, and the same tree.
     fn back(&mut self, p: &Proto, bytes: &[u8], strip: bool, width: usize) {
         let behind = [bytes, &[0x1B, 7, 7]].concat();
-        let (mut words, mut text) = (vec![0; bytes.len() + 64], vec![0; bytes.len() + 64]);
+        let (mut words, mut text) = (vec![0; 3 * bytes.len()], vec![0; bytes.len()]);
         let u = archive::undump(&behind, b"@other", &mut words, &mut text);
         let p = renamed(&if strip { stripped(p) } else { p.clone() }, "@other");
         let same = [u.refusal as usize, u.width as usize, u.read] == [0, width, bytes.len()]
@@ -114,17 +114,13 @@ fn renamed(p: &Proto, name: &str) -> Proto {
 }
 
 /// The store of a chunk, by this library.
-fn store_of(chunk: &[u8], words: usize, text: usize) -> Option<Store> {
-    let mut store = Store { words: vec![0; words], text: vec![0; text] };
-    let u = archive::undump(chunk, b"=n", &mut store.words, &mut store.text);
-    store.words.truncate(u.words);
-    store.text.truncate(u.text);
-    (u.refusal == 0).then_some(store)
+fn store_of(chunk: &[u8]) -> Option<Store> {
+    archive::load(chunk, b"=n").ok().map(|(words, text)| Store { words, text })
 }
 
-/// A chunk that undump takes.
+/// A chunk, where store takes it.
 fn chunk(chunk: &[u8], counts: &mut Counts, room: usize) -> Option<Store> {
-    let store = store_of(chunk, chunk.len() + 64, 3 * chunk.len() + 64)?;
+    let store = store_of(chunk)?;
     for name in ["=n", ""] {
         let p = tree_of(&store.words, &store.text, name).unwrap();
         assert_eq!(tree(&p), tree(&root(chunk, name)));
@@ -200,7 +196,7 @@ fn limits(counts: &mut Counts) {
         found(&store, counts, 2);
     }
     // The longest name, and one byte more.
-    let none = store_of(&Function::empty(Text::none()).chunk(), 99, 99).unwrap();
+    let none = store_of(&Function::empty(Text::none()).chunk()).unwrap();
     for (len, bytes) in [(MOST, true), (MOST + 1, false)] {
         let name = "n".repeat(len);
         let p = tree_of(&none.words, &none.text, &name).unwrap();
@@ -234,7 +230,7 @@ fn strings(counts: &mut Counts) {
     let many: Vec<Constant> = (0..65_535).map(|i| Constant::Str(Text::of(format!("{i}").as_bytes()))).collect();
     for width in [8, 4] {
         let bytes = Function::with_constants(&many).wide(width);
-        let store = store_of(&bytes, 300_000, 1_000_000).unwrap();
+        let store = store_of(&bytes).unwrap();
         assert_eq!(chunk_of(&root(&bytes, "=n"), false, width), bytes);
         for lent in [bytes.len() - 1, bytes.len(), bytes.len() + 4] {
             counts.call(&store, How(b"=n", false, width), lent, Ok(&bytes));
