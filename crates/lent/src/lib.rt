@@ -1,4 +1,6 @@
 // Writing to lent memory. What is past the end is not written, and a place stops at the farthest.
+#![tactic(auto)]
+
 ghost use Rattle.std.specs.Prelude.{◌+◌, ◌≤◌, min, ◌≡◌, [], ◌∷◌, length, take, drop};
 ghost use Rattle.std.proofs.lemmas.List.Edits.{sets};
 ghost use Rattle.lent.specs.Memory.{far, Puts};
