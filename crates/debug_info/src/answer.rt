@@ -2,7 +2,7 @@
 
 // An instruction.
 #[repr(C)]
-#[derive(Drop)]
+#[derive(Clone, Copy)]
 pub struct SymbExec {
     pub refusal: u32,
     pub instruction: u32,
@@ -10,7 +10,7 @@ pub struct SymbExec {
 
 // What a name is of (1 a local, 2 a global, 3 a field, 4 an upvalue, 5 a method, 0 nothing), and how many bytes it has.
 #[repr(C)]
-#[derive(Drop)]
+#[derive(Clone, Copy)]
 pub struct Named {
     pub refusal: u32,
     pub kind: u32,

@@ -15,7 +15,7 @@ use proto::constant::constant_at;
 use proto::walk::{item_at, skip, word_at};
 
 // A local's name, and the pcs from which and before which it is active.
-#[derive(Drop)]
+#[derive(Clone, Copy)]
 struct LocalVar {
     name: Name,
     start: u32,

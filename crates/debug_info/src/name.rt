@@ -14,7 +14,7 @@ use proto::walk::{part, skip, word_at};
 use utf8::repair;
 
 // A name: ?, or its place and length in the text; a constant's is repaired as it is written.
-#[derive(Drop)]
+#[derive(Clone, Copy)]
 pub enum Name {
     Unknown,
     Text(usize, usize),
@@ -22,7 +22,7 @@ pub enum Name {
 }
 
 // What is known of a register: a kind, and a name; kind 0 and an empty name where nothing is.
-#[derive(Drop)]
+#[derive(Clone, Copy)]
 pub struct Known {
     pub kind: u32,
     pub name: Name,

@@ -17,14 +17,14 @@ use proto::constant::constant_at;
 use proto::walk::{after_debug, part};
 
 // Where the writer stands: a place in the words, and the bytes written so far.
-#[derive(Drop)]
+#[derive(Clone, Copy)]
 pub struct DumpState {
     pub at: usize,
     pub len: usize,
 }
 
 // How it writes: whether without debug lists, and whether sizes take four bytes.
-#[derive(Drop)]
+#[derive(Clone, Copy)]
 pub struct Options {
     pub strip: bool,
     pub size_4: bool,

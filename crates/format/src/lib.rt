@@ -7,7 +7,7 @@ ghost use Rattle.format.specs.Undump.{name_ok};
 
 // How many bytes the chunk's sizes take, 4 or 8, the words and the text bytes that a tree takes, and the bytes of the chunk that were read.
 #[repr(C)]
-#[derive(Drop)]
+#[derive(Clone, Copy)]
 pub struct Undumped {
     pub refusal: u32,
     pub width: u32,
@@ -18,14 +18,14 @@ pub struct Undumped {
 
 // The bytes that were written.
 #[repr(C)]
-#[derive(Drop)]
+#[derive(Clone, Copy)]
 pub struct Written {
     pub refusal: u32,
     pub len: usize,
 }
 
 // A constant: a number by its halves, a string by its place and length in the bytes that hold it.
-#[derive(Drop)]
+#[derive(Clone, Copy)]
 pub enum Constant {
     Nil,
     Bool(bool),

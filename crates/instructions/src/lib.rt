@@ -54,7 +54,7 @@ fn placed(x: u32, from: u32, size: u32) -> u32
 }
 
 // An instruction word.
-#[derive(Drop)]
+#[derive(Clone, Copy)]
 pub struct Instruction(pub u32);
 
 impl Instruction {
@@ -268,7 +268,7 @@ pub fn is_jump(op: u8) -> bool
 }
 
 // Basic instruction format.
-#[derive(Drop)]
+#[derive(Clone, Copy)]
 pub enum OpMode {
     IABC,
     IABx,
@@ -276,7 +276,7 @@ pub enum OpMode {
 }
 
 // What an operand is: not used, used, a register or a jump offset, a constant or register/constant.
-#[derive(Drop)]
+#[derive(Clone, Copy)]
 pub enum OpArgMask {
     N,
     U,
@@ -285,7 +285,7 @@ pub enum OpArgMask {
 }
 
 // An opcode's attributes.
-#[derive(Drop)]
+#[derive(Clone, Copy)]
 pub struct OpModes {
     pub mode: OpMode,
     pub b_mode: OpArgMask,

@@ -18,7 +18,7 @@ use proto::lists::{Lists, lists_on_way};
 use proto::walk::{after_debug, functions_at, skip, source_of, word_at};
 
 // Where the listing stands: a place in the words, the number of the function there, and a place in the output.
-#[derive(Drop)]
+#[derive(Clone, Copy)]
 pub struct ListState {
     pub at: usize,
     pub number: usize,

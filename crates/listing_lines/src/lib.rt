@@ -30,7 +30,7 @@ pub fn put_index(n: u64, out: &mut [u8], at: usize) -> usize
 }
 
 // The line of an instruction, where it is known.
-#[derive(Drop)]
+#[derive(Clone, Copy)]
 pub struct Line {
     pub known: bool,
     pub number: u32,

@@ -9,7 +9,7 @@ use load_state::cursor::{Byte, Cursor, Int, Size, refused, remaining};
 use load_state::{read_byte, read_int, read_size};
 
 // Where a string stands in the chunk; own is false where there is none.
-#[derive(Drop)]
+#[derive(Clone, Copy)]
 pub struct Span {
     pub own: bool,
     pub start: usize,
@@ -18,7 +18,7 @@ pub struct Span {
 }
 
 // A constant that was read, a string by its place and length in the chunk, and the next cursor.
-#[derive(Drop)]
+#[derive(Clone, Copy)]
 pub struct Loaded {
     pub constant: Constant,
     pub cursor: Cursor,

@@ -14,7 +14,7 @@ use cursor::{load_count, load_int, load_string};
 use load_state::cursor::Cursor;
 
 // The state of the reader: the cursor, and the words and text bytes so far.
-#[derive(Drop)]
+#[derive(Clone, Copy)]
 pub struct Load {
     pub cursor: Cursor,
     pub words: usize,
@@ -22,7 +22,7 @@ pub struct Load {
 }
 
 // A count, and the state after it.
-#[derive(Drop)]
+#[derive(Clone, Copy)]
 pub struct Counted {
     pub n: u32,
     pub load: Load,

@@ -5,28 +5,28 @@ ghost use Rattle.format.specs.Read.{load_byte, load_number, load_int};
 ghost use Rattle.load_state.specs.ReadAt.{four_at, ReadAt};
 
 // Where reading stands: the refusal, 0 while there is none, and the place in the chunk.
-#[derive(Drop)]
+#[derive(Clone, Copy)]
 pub struct Cursor {
     pub refusal: u32,
     pub next: usize,
 }
 
 // A byte that was read, and the next cursor.
-#[derive(Drop)]
+#[derive(Clone, Copy)]
 pub struct Byte {
     pub value: u8,
     pub cursor: Cursor,
 }
 
 // A 4-byte integer.
-#[derive(Drop)]
+#[derive(Clone, Copy)]
 pub struct Int {
     pub value: u32,
     pub cursor: Cursor,
 }
 
 // The size of a string, at either width.
-#[derive(Drop)]
+#[derive(Clone, Copy)]
 pub struct Size {
     pub value: u64,
     pub cursor: Cursor,

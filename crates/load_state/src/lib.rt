@@ -8,7 +8,7 @@ ghost use Rattle.load_state.specs.ReadAt.{ReadAt};
 use cursor::{Byte, Int, Size, byte_at, int_at, size_at};
 
 // The chunk, and the place of the next byte.
-#[derive(Drop)]
+#[derive(Clone, Copy)]
 pub struct LoadState<'a> {
     pub chunk: &'a [u8],
     pub pos: usize,

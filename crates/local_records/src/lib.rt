@@ -16,7 +16,7 @@ use proto::walk::{skip, word_at};
 use record::{LocalRecord, Seen, look, nothing, record_at, text_name};
 
 // The refusal of a lookup, 0 for none; then where the function's locals stand in the words, behind their count, and how many there are.
-#[derive(Drop)]
+#[derive(Clone, Copy)]
 struct Locals {
     refusal: u32,
     at: usize,

@@ -6,7 +6,7 @@ use debug_info::name::{Known, Name};
 
 // A local: where its name stands in the text, how many bytes it has, and the pcs from which and before which it is active.
 #[repr(C)]
-#[derive(Drop)]
+#[derive(Clone, Copy)]
 pub struct LocalRecord {
     pub place: u32,
     pub len: u32,
@@ -15,7 +15,7 @@ pub struct LocalRecord {
 }
 
 // There is nothing to be found, or a name stands there, or so many locals are still to be counted.
-#[derive(Drop)]
+#[derive(Clone, Copy)]
 pub enum Seen {
     Nothing,
     Found(usize, usize),

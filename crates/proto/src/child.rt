@@ -7,7 +7,7 @@ use crate::walk::{Next, pass_all, skip};
 use lent::further;
 
 // A function in a function: its index, the place where it begins, and its number in preorder.
-#[derive(Drop)]
+#[derive(Clone, Copy)]
 pub struct Child {
     pub index: u32,
     pub at: usize,

@@ -16,7 +16,7 @@ use format::{DEPTH, LIMIT, MOST};
 const ANY: u32 = 4294967295;
 
 // Whether a store is well formed so far, and the places reached in the words and in the text.
-#[derive(Drop)]
+#[derive(Clone, Copy)]
 pub struct Checked {
     pub ok: bool,
     pub at: usize,

@@ -9,7 +9,7 @@ ghost use Rattle.proto.specs.Walk.{StandsAt};
 use crate::walk::{skip, word_at};
 
 // The fields of a function that are no lists.
-#[derive(Drop)]
+#[derive(Clone, Copy)]
 pub struct Head {
     pub line_defined: u32,
     pub last_line_defined: u32,

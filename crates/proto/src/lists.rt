@@ -13,7 +13,7 @@ use format::DEPTH;
 use lent::further;
 
 // Places of lists, each of its count.
-#[derive(Drop)]
+#[derive(Clone, Copy)]
 pub struct Lists {
     pub code: usize,
     pub constants: usize,

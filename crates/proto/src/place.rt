@@ -11,7 +11,7 @@ use crate::walk::{after_debug, functions_at, part, skip, word_at};
 use format::DEPTH;
 
 // Where a source stands: in the text, or in the chunk name where in_text is 0.
-#[derive(Drop)]
+#[derive(Clone, Copy)]
 pub struct Span {
     pub in_text: u32,
     pub start: usize,
@@ -19,7 +19,7 @@ pub struct Span {
 }
 
 // The function looked for with its source, or else the place behind those searched.
-#[derive(Drop)]
+#[derive(Clone, Copy)]
 pub struct Sought {
     pub found: bool,
     pub at: usize,
@@ -28,7 +28,7 @@ pub struct Sought {
 
 // The answer of source_at.
 #[repr(C)]
-#[derive(Drop)]
+#[derive(Clone, Copy)]
 pub struct SourceAt {
     pub refusal: u32,
     pub in_text: u32,

@@ -10,7 +10,7 @@ ghost use Rattle.proto.specs.Walk.{Stands, StandsAt, Skips, SkipsItems, Past, Pa
 use lent::least;
 
 // A place in the words, and the number in preorder of the function that begins there.
-#[derive(Drop)]
+#[derive(Clone, Copy)]
 pub struct Next {
     pub at: usize,
     pub number: usize,

@@ -10,7 +10,7 @@ use proto::head::head_at;
 use proto::walk::word_at;
 
 // How many they are, and the child looked up last.
-#[derive(Drop)]
+#[derive(Clone, Copy)]
 pub struct Skipped {
     pub count: u32,
     pub child: Child,

@@ -21,7 +21,7 @@ const BUFFER: usize = 32768;
 const UNTOUCHED: u8 = 7;
 
 // Where the next case stands, how many words and text bytes the store has, where the dumps end, and how far they are read.
-#[derive(Drop)]
+#[derive(Clone, Copy)]
 struct State {
     next: usize,
     words: usize,

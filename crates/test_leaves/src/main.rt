@@ -12,14 +12,14 @@ use libc::{STDIN_FILENO, STDOUT_FILENO};
 use test_records::{after, byte};
 
 // Where the next record stands, and whether the answers are the same.
-#[derive(Drop)]
+#[derive(Clone, Copy)]
 pub struct Compared {
     pub next: usize,
     pub same: bool,
 }
 
 // How far the records are read, and what was found.
-#[derive(Drop)]
+#[derive(Clone, Copy)]
 struct Tally {
     at: usize,
     compared: u32,

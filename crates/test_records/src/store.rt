@@ -2,7 +2,7 @@
 use crate::{after, half, part, within, word};
 
 // Where the next record stands, and how many words and text bytes the store has.
-#[derive(Drop)]
+#[derive(Clone, Copy)]
 pub struct Read {
     pub next: usize,
     pub words: usize,

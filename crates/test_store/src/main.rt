@@ -15,7 +15,7 @@ const ROOM: usize = 4096;
 const UNTOUCHED: u8 = 7;
 
 // What a case asks for: the three numbers, how many words and text bytes are lent, and where the next case stands.
-#[derive(Drop)]
+#[derive(Clone, Copy)]
 struct Case {
     need_words: usize,
     need_text: usize,
@@ -26,7 +26,7 @@ struct Case {
 }
 
 // How long a chunk is that was made of runs, and where the runs end.
-#[derive(Drop)]
+#[derive(Clone, Copy)]
 struct Made {
     len: usize,
     next: usize,

@@ -7,7 +7,7 @@ ghost use Rattle.undump.specs.Undump.{beginning};
 use load_state::cursor::{Cursor, refused, remaining};
 
 // What the header says: whether a size takes 4 bytes, and the cursor behind it. Beside a refusal size_4 is open: nothing reads it.
-#[derive(Drop)]
+#[derive(Clone, Copy)]
 pub struct Header {
     pub size_4: bool,
     pub cursor: Cursor,

@@ -16,7 +16,7 @@ use load_state::cursor::remaining;
 const ABOVE: usize = MOST + 1;
 
 // A chunk that was loaded: whether its sizes take 4 bytes, and the state of the reader behind it. Beside a refusal size_4 is open: nothing reads it.
-#[derive(Drop)]
+#[derive(Clone, Copy)]
 pub struct LoadedChunk {
     pub size_4: bool,
     pub load: Load,

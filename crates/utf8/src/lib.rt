@@ -6,7 +6,7 @@ ghost use Rattle.utf8.specs.Rows.{row_of, second_low, second_high, second_range,
 ghost use Rattle.utf8.specs.Text.{Text, TextEnd};
 
 // What stands first in some bytes: how many they are, and whether they are a well-formed sequence or a maximal subpart of an ill-formed one.
-#[derive(Drop)]
+#[derive(Clone, Copy)]
 pub struct Step {
     pub len: usize,
     pub well_formed: bool,
