@@ -1,4 +1,6 @@
 // UTF-8: whether bytes are well-formed, and their repair.
+#![tactic(auto)]
+
 ghost use Rattle.std.specs.Prelude.{◌+◌, ◌≤◌, ◌<◌, ◌≡◌, true, length, take, drop, get_or};
 ghost use Rattle.lent.specs.Memory.{Puts};
 ghost use Rattle.utf8.specs.Utf8.{◌‥◌, table3_7, first_step, is_utf8, is_ascii, replacement, repair as repaired};

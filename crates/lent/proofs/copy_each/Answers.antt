@@ -1,5 +1,5 @@
 -- i bytes are copied so far; each turn stores the next.
-use Rattle.lent.proofs.Prelude.{◌-◌, arith, length, length-set, sets}
+use Rattle.lent.proofs.Prelude.{arith, length-set}
 use Rattle.lent.proofs.Writes.{sets_suc}
 use Rattle.lent.proofs.copy_each.Goals as goal
 

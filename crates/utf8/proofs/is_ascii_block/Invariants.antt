@@ -1,0 +1,10 @@
+-- The greatest byte so far says whether those so far are ASCII.
+use Rattle.lent.proofs.Prelude.{◌-◌, ◌≤◌}
+use Rattle.utf8.proofs.Ascii.{Greatest}
+use Rattle.utf8.proofs.is_ascii_block.Given as goal
+
+abbrev pub invariant-loop-i : goal.invariant-loop-i
+invariant-loop-i l = (l.i ≤ 32) × Greatest l.bytes l.at l.i l.top
+
+abbrev pub decreases-loop-i : goal.decreases-loop-i
+decreases-loop-i l = 32 - l.i

@@ -1,0 +1,25 @@
+-- ASCII goes on with the text so far, and so does each well-formed sequence.
+use Rattle.lent.proofs.Prelude.{rules, arith}
+use Rattle.utf8.proofs.Texts.{text_none, text_byte, text_join, text_step, step_least, step_most}
+use Rattle.utf8.proofs.text_end.Goals as goal
+
+pub loop-i-init : goal.loop-i-init
+loop-i-init c = search (rules, text_none)
+
+pub loop-i-preserved-then-bytes-i-lt128 : goal.loop-i-preserved-then-bytes-i-lt128
+loop-i-preserved-then-bytes-i-lt128 c = search (rules, text_join, text_byte)
+
+pub loop-i-preserved-then-two : goal.loop-i-preserved-then-two
+loop-i-preserved-then-two c = search (rules, text_join, c.two.ensures)
+
+pub loop-i-preserved-then-three : goal.loop-i-preserved-then-three
+loop-i-preserved-then-three c = search (rules, text_join, c.three.ensures)
+
+pub overflow_add-i-else-three : goal.overflow_add-i-else-three
+overflow_add-i-else-three c = omega (arith, step_most)
+
+pub loop-i-smaller : goal.loop-i-smaller
+loop-i-smaller c = omega (arith, step_least, step_most)
+
+pub loop-i-preserved : goal.loop-i-preserved
+loop-i-preserved c = search (rules, text_join, text_step)
