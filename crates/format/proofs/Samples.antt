@@ -1,5 +1,5 @@
 -- The definitions evaluated on the scope's sample and on a tree of three levels, so that the theorems speak of something.
-use Rattle.lent.proofs.Prelude.{ℕ, ◌≡◌, refl, Bool, true, false, none, some, List, [], ◌∷◌, ◌++◌, map, dec_le, dec_lt, ℕ_discrete, leb}
+use Rattle.lent.proofs.Prelude.{ℕ, ◌≡◌, refl, Bool, true, false, some, List, [], ◌∷◌, ◌++◌, map, dec_le, dec_lt, ℕ_discrete, leb}
 use Rattle.lent.specs.Memory.{Every}
 use Rattle.utf8.specs.Utf8.{utf8_up_to, repair_up_to, first_step, whole, begun, matched}
 use Rattle.format.specs.Tree.{Constant, Source, Debug, Function, Functions, count, parts_of, preorder, fill, no_debug}

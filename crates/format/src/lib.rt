@@ -1,5 +1,7 @@
 // The answers of the calls that read and write chunks: the refusal, 0 where there is none, then numbers, all 0 on refusal.
 // What the calls answer and leave in lent memory is defined in specs/. Beside the answers stand the limits, the width of sizes and the test of a chunk name, which the calls share.
+#![tactic(auto)]
+
 ghost use Rattle.std.specs.Prelude.{◌≡◌, ◌≤◌};
 ghost use Rattle.format.specs.Read.{limit, width_of};
 ghost use Rattle.format.specs.Valid.{depth, most};
