@@ -1,4 +1,6 @@
 // A tree in lent memory: all that knows how a store is laid out.
+#![tactic(auto)]
+
 pub mod child;
 pub mod constant;
 pub mod formed;
