@@ -1,4 +1,6 @@
 // The last instruction that wrote a register (ldebug.c, symbexec; in the Rust, debug_info.rs).
+#![tactic(auto)]
+
 pub mod operands;
 pub mod step;
 

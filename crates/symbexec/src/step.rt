@@ -22,6 +22,7 @@ fn between(low: u32, x: u32, high: u32) -> bool
 }
 
 // Whether an instruction writes a register beside A.
+#[tactic(auto, unfolding(crate::specs::SymbExec::also_writes))]
 fn also_writes(i: Instruction, reg: u32) -> bool
     ensures { result ≡ also_writes (opcode i.0) (GETARG_A i.0) (GETARG_B i.0) reg }
 {
