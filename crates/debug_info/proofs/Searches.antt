@@ -51,7 +51,7 @@ module _ {words : List ℕ} {s : Lists} (pc reg : ℕ) (before : List Bool) wher
     opened : (text : List ℕ) (p : Parts) (fs : Functions) → ListsAt words text s p fs → (i : ℕ) → i ≡ symbexec (Function.function p fs) pc reg → searched (Function.function p fs) pc (unsearched before) reg before
         ≡ or_else (object_of text x) (cond (moves_up i) (searched (Function.function p fs) pc (unsearched (set before reg true)) (GETARG_B i) (set before reg true)) (wrote p i))
     unfolding searched get_local_name
-    opened text p fs h i e = let m : pc % 2 ^ 32 ≡ pc = omega arith in rw (marked before reg (omega arith) new, new, m, e, active text p.debug.locals h.locals)
+    opened text p fs h i e = let m : pc % 2 ^ 32 ≡ pc = omega arith in rw (marked before reg (omega arith) new, new, m, e, ← active text p.debug.locals h.locals)
 
     -- it is a local
     pub search_local : 0 < x.kind → Gives words s pc reg before x

@@ -1,4 +1,6 @@
 // The names of what registers hold (debug_info.rs; in Lua ldebug.c).
+#![tactic(auto)]
+
 pub mod answer;
 pub mod list;
 pub mod name;

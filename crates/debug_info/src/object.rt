@@ -14,6 +14,7 @@ use proto::lists::Lists;
 use symbexec::symbexec_at;
 
 // What an instruction other than MOVE wrote.
+#[tactic(auto, unfolding(crate::specs::Names::wrote))]
 fn wrote(words: &[u32], s: Lists, i: Instruction) -> Known
     ensures { (text : List ℕ) (p : Parts) (fs : Functions) → ListsAt words.now text s p fs → object_of text result ≡ wrote p i.0 }
 {

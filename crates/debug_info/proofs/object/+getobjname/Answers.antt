@@ -1,0 +1,22 @@
+-- Each call marks a register, so that fewer are left to search; that number is the measure, and bounds the definition's search.
+use Rattle.lent.proofs.Prelude.{arith, sym, ◌∙◌}
+use Rattle.debug_info.proofs.Searches.{marked, moves_below, search_again, search_local, search_moved, search_wrote}
+use Rattle.debug_info.proofs.object.+getobjname.Goals as goal
+
+pub returns-then-before-n : goal.returns-then-before-n
+returns-then-before-n t c = search search_again
+
+pub returns-then-v-gt0 : goal.returns-then-v-gt0
+returns-then-v-gt0 t c = search search_local
+
+pub getobjname-requires : goal.getobjname-requires
+getobjname-requires t c = (
+  omega (arith, marked c.args.before c.args.reg (omega (arith, c.requires)) c.if-before-n.false, c.decreases),
+  rw c.b.ensures (moves_below _ (sym c.moves_up.ensures ∙ c.if-moves_up.true)),
+)
+
+pub returns-then-moves_up : goal.returns-then-moves_up
+returns-then-moves_up t c = search search_moved
+
+pub returns : goal.returns
+returns t c = search search_wrote
