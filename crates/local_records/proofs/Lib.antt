@@ -1,9 +1,2 @@
 pub mod Records
 pub mod Lookup
-pub mod LocalRow
-pub mod FillKinds
-pub mod FillReads
-pub mod FindKinds
-pub mod FindReads
-pub mod GetLocalNameInKinds
-pub mod GetLocalNameInReads

@@ -1,4 +1,6 @@
 // The name of an active local, looked up in a lent slice of records that is filled from the store (debug_info.rs, get_local_name).
+#![tactic(auto)]
+
 pub mod record;
 
 ghost use Rattle.std.specs.Prelude.{◌≡◌, ◌+◌, ◌*◌, ◌<◌, ◌≤◌, length, take};
