@@ -1,4 +1,6 @@
 // Numbers and strings as text, into lent bytes. What is past the end is not written; each call answers the next place.
+#![tactic(auto)]
+
 ghost use Rattle.std.specs.Prelude.{◌+◌, ◌%◌, ◌≤◌, ◌<◌, ◌≡◌, true, cond, [], ◌∷◌, length, ltb};
 ghost use Rattle.std.proofs.lemmas.List.Edits.{sets};
 ghost use Rattle.lent.specs.Memory.{Puts};
@@ -207,6 +209,7 @@ pub fn put_number(out: &mut [u8], at: usize, high: u32, low: u32) -> usize
 }
 
 // The letter that stands for a byte after a backslash, 0 where there is none.
+#[tactic(auto, unfolding(crate::specs::Digits::letter_in))]
 fn letter(b: u8) -> u8
     ensures { result ≡ letter_in letters b }
 {

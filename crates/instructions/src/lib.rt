@@ -1,4 +1,6 @@
 // Instructions of Lua 5.1 and their opcodes, as lopcodes.h and lopcodes.c have them.
+#![tactic(auto)]
+
 ghost use Rattle.std.specs.Prelude.{◌≡◌, map, ◌+◌, ◌≤◌, ◌<◌};
 ghost use Rattle.instructions.specs.Fields.{field, placed, GETARG_A, GETARG_B, GETARG_C, GETARG_Bx, GETARG_sBx};
 ghost use Rattle.instructions.specs.Fields.{CREATE_ABC, CREATE_ABx, CREATE_AsBx, ISK, INDEXK, RKASK};
@@ -256,6 +258,7 @@ fn or_move(n: u8) -> u8
 }
 
 // Whether an opcode jumps.
+#[tactic(auto, unfolding(crate::specs::OpCodes::is_jump))]
 pub fn is_jump(op: u8) -> bool
     ensures { result ≡ is_jump op }
 {
@@ -408,6 +411,7 @@ pub fn op_modes(op: u8) -> OpModes
 }
 
 // The name of an opcode, padded with spaces, MOVE's for a number that is no opcode's.
+#[tactic(auto, unfolding(crate::specs::OpCodes::opcodes))]
 pub fn name(op: u8) -> [u8; 9]
     ensures { result ≡ padded (op_name op) }
 {
