@@ -14,7 +14,7 @@ TOP = subprocess.run(['git', 'rev-parse', '--show-toplevel'], capture_output=Tru
 CRATES = os.path.join(TOP, 'crates')
 # a lemma that would get the name of a definition says that it is its law
 LAWS = ['to-functions', 'source-part', 'constant-words', 'constant-from', 'tree-of', 'root-source', 'undump-refused', 'undumped-by',
-        'no-debug', 'refused-by', 'measured-by', 'as-measured', 'dumped-source', 'name-refused', 'in-text', 'row_step']
+        'no-debug', 'refused-by', 'measured-by', 'as-measured', 'dumped-source', 'name-refused', 'row_step']
 # names that come from the library
 KEPT = ['take-suc', 'length-append', 'le-leb']
 # variables, and names given in an import

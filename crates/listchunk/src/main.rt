@@ -1,12 +1,15 @@
 // Lists a chunk: reads the first 16,384 bytes of standard input as a chunk named =stdin, lends 16,384 words, 16,384 text bytes and
 // 65,536 output bytes, and writes the plain listing, or the line "refused N".
+#![tactic(auto)]
+
 ghost use Rattle.std.specs.Prelude.{◌≡◌, take};
 ghost use Rattle.format.specs.Dump.{write_left};
 ghost use Rattle.listchunk.specs.ListChunk.{listed_chunk};
 
 use format::Written;
-use libc::{STDIN_FILENO, STDOUT_FILENO};
 use listing::list_function;
+use std::io;
+use std::io::Read;
 use undump::{measure, store};
 
 // The most bytes of the chunk, the words and the text bytes lent.
@@ -55,22 +58,19 @@ fn list(chunk: &[u8], words: &mut [u32], text: &mut [u8], out: &mut [u8]) -> Wri
 }
 
 // Writes the listing, or the refusal.
-fn tell(r: Written, out: &[u8]) {
+fn tell(r: Written, out: &[u8], rt: &impl Print) -> io::Result<()> {
     if 0 < r.refusal {
-        io::write_all(STDOUT_FILENO, b"refused ");
-        io::print_decimal(STDOUT_FILENO, r.refusal as u64);
-        io::write_all(STDOUT_FILENO, b"\n");
-        return;
+        return println!(rt; "refused {}", r.refusal);
     }
-    io::write_all(STDOUT_FILENO, first_bytes(out, r.len));
+    rt.write_all(first_bytes(out, r.len))
 }
 
-fn main() {
-    let mut chunk = [0u8; ROOM];
-    let n = io::read_full(STDIN_FILENO, &mut chunk);
+fn main(rt: HostRuntime) -> io::Result<()> {
+    let mut chunk = Vec::new(rt.alloc());
+    rt.reader().take(ROOM as u64).read_to_end(&mut chunk)?;
     let mut words = [0u32; ROOM];
     let mut text = [0u8; ROOM];
     let mut out = [0u8; OUT];
-    let r = list(first_bytes(&chunk, n), &mut words, &mut text, &mut out);
-    tell(r, &out);
+    let r = list(&chunk, &mut words, &mut text, &mut out);
+    tell(r, &out, &rt)
 }

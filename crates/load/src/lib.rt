@@ -1,4 +1,6 @@
 // What is read goes to lent memory: words and text by total writes, which also count.
+#![tactic(auto)]
+
 pub mod cursor;
 pub mod ints;
 

@@ -1,4 +1,6 @@
 // Functions, one inside the other. The width of sizes is passed along.
+#![tactic(auto)]
+
 pub mod list;
 
 ghost use Rattle.std.specs.Prelude.{List, ℕ};

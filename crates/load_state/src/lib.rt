@@ -1,4 +1,6 @@
 // LoadState, the reader of undump.rs: the chunk and the place in it. Its calls are thin: each takes the struct apart and reads by the cursor.
+#![tactic(auto)]
+
 pub mod cursor;
 
 ghost use Rattle.std.specs.Prelude.{◌≡◌};

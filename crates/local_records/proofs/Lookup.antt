@@ -44,7 +44,7 @@ module _ {words text : List ℕ} where
   records_lead (v ∷ l) {at} {to} n pc h =
       let s = stands_left (local_piece v) (pieces local_piece l) h in
       let t = stands_right (local_piece v) (pieces local_piece l) h in
-      let e : part text to (length v.name) ≡ v.name = here_part v.name (stands_left (string v.name) (word v.start ⊕ word v.end) s).in_text_law in
+      let e : part text to (length v.name) ≡ v.name = here_part v.name (stands_left (string v.name) (word v.start ⊕ word v.end) s).in_text in
       ap (λ (r : LocalRecord). object_of text (after (look_at r n pc) (λ m. active_in (records_at words (at + 4) (length l)) m pc))) (record_is v s)
       ∙ by e (λ m. records_lead l m pc t) (ltb pc v.start) (ltb pc v.end) (eqb n 1)
     where

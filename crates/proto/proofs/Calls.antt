@@ -15,7 +15,7 @@ use Rattle.proto.proofs.Stores.{held_tree, no_tree}
 
 -- the root stands at the beginning of its store
 pub root_stands : {words text : List ℕ} {f : Function} → Holds words text f → Stands words text 0 0 (function_piece f)
-root_stands {words} {text} {f} h = record { in_words = whole_here (words_of f) words h.words_are; in_text_law = whole_here (text_of f) text h.text_is }
+root_stands {words} {text} {f} h = record { in_words = whole_here (words_of f) words h.words_are; in_text = whole_here (text_of f) text h.text_is }
 
 module _ (bytes : Function → List ℕ) (words text name out : List ℕ) where
   pub refused_name : name_ok name ≡ false → write_refused 1 out ≡ on_store bytes words text name out

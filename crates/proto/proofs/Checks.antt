@@ -84,6 +84,10 @@ module _ {words text : List ℕ} where
               passed_same y.same (c.complete h y.value y.valid (stands_same (same_sym y.same) t));
         }
 
+    -- the same, where the values are told by what was checked
+    pub check_of : {s r : Checked} → Check words text ok p s r → ((a : A) → ok a → As ok' q (p a)) → ((b : B) → ok' b → Stands words text s.at s.to (q b) → As ok p (q b)) → Check words text ok' q s r
+    check_of c f g = check_as f g c
+
     pub check_then : {s m r : Checked} → Check words text ok p s m → Check words text ok' q m r → Check {A = A × B} words text (λ v. ok v.0 × ok' v.1) (λ v. p v.0 ⊕ q v.1) s r
     check_then {s} {m} {r} c d =
         record {
@@ -109,7 +113,7 @@ module _ {words text : List ℕ} where
   module _ {s : Checked} {low high : ℕ} where
     pub word_good : s.ok ≡ true → s.at < length words → low ≤ get_or words s.at 0 → get_or words s.at 0 ≤ high
         → Check words text (Within low high) word s (record { ok = true; at = s.at + 1; to = s.to })
-    word_good e h l k = check_good _ e (record { above = l; below = k }) (record { in_words = here_one h; in_text_law = here_none }) (λ v t. record { ok = refl; at = refl; to = sym (add-zero _) })
+    word_good e h l k = check_good _ e (record { above = l; below = k }) (record { in_words = here_one h; in_text = here_none }) (λ v t. record { ok = refl; at = refl; to = sym (add-zero _) })
 
     pub word_bad : {r : Checked} → r.ok ≡ false → (s.at < length words → low ≤ get_or words s.at 0 → get_or words s.at 0 ≤ high → ⊥) → Check words text (Within low high) word s r
     word_bad e f =
@@ -128,7 +132,7 @@ module _ {words text : List ℕ} where
     pub pair_good : ((i : ℕ) → get_or words i 0 < 2 ^ 32) → s.ok ≡ true → s.at + 2 ≤ length words
         → Check {A = ℕ × ℕ} words text (λ v. Word v.0 × Word v.1) (λ v. word v.0 ⊕ word v.1) s (record { ok = true; at = s.at + 2; to = s.to })
     pair_good w e h =
-        check_good (get_or words s.at 0, get_or words (s.at + 1) 0) e (w s.at, w (s.at + 1)) (record { in_words = here_two h; in_text_law = here_none })
+        check_good (get_or words s.at 0, get_or words (s.at + 1) 0) e (w s.at, w (s.at + 1)) (record { in_words = here_two h; in_text = here_none })
         (λ v t. record { ok = refl; at = refl; to = sym (add-zero _) })
 
   -- ---- three words
@@ -138,7 +142,7 @@ module _ {words text : List ℕ} where
         → Check words text (Three kind x y) three s (record { ok = true; at = s.at + 3; to = s.to })
     three_good e h i j k =
         check_good (record { first = get_or words s.at 0; second = get_or words (s.at + 1) 0; third = get_or words (s.at + 2) 0 }) e (record { is = i; second = j; third = k })
-        (record { in_words = here_three h; in_text_law = here_none }) (λ v t. record { ok = refl; at = refl; to = sym (add-zero _) })
+        (record { in_words = here_three h; in_text = here_none }) (λ v t. record { ok = refl; at = refl; to = sym (add-zero _) })
 
     pub three_bad : {r : Checked} → r.ok ≡ false → (get_or words s.at 0 ≡ kind → get_or words (s.at + 1) 0 ≤ x → get_or words (s.at + 2) 0 ≤ y → ⊥) → Check words text (Three kind x y) three s r
     three_bad e f =
@@ -161,7 +165,7 @@ module _ {A : Type 0} {words text : List ℕ} {P : A → Type 0} {piece : A → 
   all_none =
       record {
         all = record {
-          sound = λ h. (h, record { value = []; valid = (refl, tt); stands = record { in_words = here_none; in_text_law = here_none } });
+          sound = λ h. (h, record { value = []; valid = (refl, tt); stands = record { in_words = here_none; in_text = here_none } });
           complete = λ h. elim [ [] ↦ λ k t. record { ok = h; at = sym (add-zero _); to = sym (add-zero _) } | a ∷ l ↦ λ k t. absurd (omega (arith, k.0)) ];
         };
       }
@@ -246,14 +250,14 @@ module _ {words : List ℕ} (text : List ℕ) {s m : Checked} {n : ℕ} (e : n �
       let l = part words (s.at + 1) n in
       let g : length l ≡ n = length-take-le n (drop (s.at + 1) words) (rw length-drop (omega arith)) in
       let u : Here words s.at (length l ∷ l) = rw g (rw (← e) at (here_join (get_or words s.at 0 ∷ []) l (here_one k.2) (here_take n))) in
-      check_good l ((c text).sound o).0 (record { items = part_below (2 ^ 32) words (s.at + 1) n w; short = omega arith }) (record { in_words = u; in_text_law = here_none })
+      check_good l ((c text).sound o).0 (record { items = part_below (2 ^ 32) words (s.at + 1) n w; short = omega arith }) (record { in_words = u; in_text = here_none })
       (λ x t. let q = here_get (length x) x t.in_words in record { ok = refl; at = omega arith; to = omega arith })
 
   pub ints_bad : {r : Checked} → r.ok ≡ false → (m.ok ≡ true → n ≤ length words - m.at → ⊥) → Check words text (ValidList Word) ints s r
   ints_bad o f =
       check_wrong o
       (λ h l v t.
-      let p = (c text).complete h (length l) (record { above = zero-le; below = v.short }) (record { in_words = here_left (length l ∷ []) l t.in_words; in_text_law = here_none }) in
+      let p = (c text).complete h (length l) (record { above = zero-le; below = v.short }) (record { in_words = here_left (length l ∷ []) l t.in_words; in_text = here_none }) in
       let q = here_get (length l) l t.in_words in
       f p.ok (omega (arith, here_length (length l ∷ l) t.in_words, p.at)))
 
@@ -266,7 +270,7 @@ module _ {words text : List ℕ} {s : Checked} where
       let n = get_or words (s.at + 1) 0 in
       let l = part text s.to n in
       let g : length l ≡ n = length-take-le n (drop s.to text) (rw length-drop q) in
-      check_good l o (part_below 256 text s.to n y) (record { in_words = rw g (rw p at (here_two {xs = words} {at = s.at} h)); in_text_law = here_take n })
+      check_good l o (part_below 256 text s.to n y) (record { in_words = rw g (rw p at (here_two {xs = words} {at = s.at} h)); in_text = here_take n })
       (λ x t. let i = here_item (s.to ∷ length x ∷ []) 1 (omega arith) t.in_words in record { ok = refl; at = refl; to = omega (arith, i) })
 
   pub string_bad : {r : Checked} → r.ok ≡ false → (get_or words s.at 0 ≡ s.to → get_or words (s.at + 1) 0 ≤ length text - s.to → ⊥) → Check words text Bytes string s r
@@ -274,7 +278,7 @@ module _ {words text : List ℕ} {s : Checked} where
       check_wrong e
       (λ o x v t.
       let i : get_or words (s.at + 1) 0 ≡ length x = here_item (s.to ∷ length x ∷ []) 1 (omega arith) t.in_words in
-      f (here_get s.to _ t.in_words) (omega (arith, here_length x t.in_text_law)))
+      f (here_get s.to _ t.in_words) (omega (arith, here_length x t.in_text)))
 
 module _ {words text : List ℕ} {s r : Checked} (c : Check words text Bytes string s r) where
   pub string_within : r.ok ≡ true → s.to ≤ r.to
@@ -290,7 +294,7 @@ module _ {words text : List ℕ} {s r : Checked} (c : Check words text Bytes str
 
   module _ {b : List ℕ} {u : Bool} (e : u ≡ is_utf8 b) (f : b ≡ part text s.to (r.to - s.to)) where
     string_is : (l : List ℕ) → Stands words text s.at s.to (string l) → Passed (string l) s r → b ≡ l
-    string_is l t p = let n : r.to - s.to ≡ length l = omega (arith, p.to) in f ∙ rw n (here_part l t.in_text_law)
+    string_is l t p = let n : r.to - s.to ≡ length l = omega (arith, p.to) in f ∙ rw n (here_part l t.in_text)
 
     pub name_good : u ≡ true → Check words text (λ n. Name n) string s r
     name_good k = named (λ l t p. rw (string_is l t p) at (sym e ∙ k))
@@ -303,4 +307,4 @@ module _ {words text : List ℕ} {s r : Checked} (c : Check words text Bytes str
 
   -- each name is text where all of the text is ASCII
   pub ascii_name : is_ascii text ≡ true → Check words text (λ n. Name n) string s r
-  ascii_name h = named (λ l t p. utf8_ascii l (rw (here_part l t.in_text_law) at (part_below 0x80 text s.to (length l) (ascii_at text h))))
+  ascii_name h = named (λ l t p. utf8_ascii l (rw (here_part l t.in_text) at (part_below 0x80 text s.to (length l) (ascii_at text h))))

@@ -148,7 +148,7 @@ module _ {words text : List ℕ} where
       let w = h.in_words in
       let u : y ≡ to = e ∙ here_get to _ w in
       let v : z ≡ length s = skip_item (to ∷ length s ∷ []) (omega arith) w f g in
-      q ∙ rw (u, v) (here_part s h.in_text_law)
+      q ∙ rw (u, v) (here_part s h.in_text)
 
   pub source_inherited : {at to x : ℕ} (around : List ℕ) (s : Source) → Stands words text at to (source_piece s) → x ≡ get_or words at 0 → x ≡ 0 → around ≡ filled around s
   source_inherited around Source.inherited h e z = refl
@@ -181,7 +181,7 @@ constant_from kind a b = cond (eqb kind 0) Nil (cond (eqb kind 1) (Truth (not (e
 module _ {words : List ℕ} {at : ℕ} where
   constant_from_law : (k : Value) (text : List ℕ) (to : ℕ) → Stands words text at to (constant_piece k) → let r = constant_from (get_or words at 0) (get_or words (at + 1) 0) (get_or words (at + 2) 0) in
       (value_of text r ≡ k) × Here words at (constant_words r)
-  constant_from_law k text to h = by k h.in_words h.in_text_law
+  constant_from_law k text to h = by k h.in_words h.in_text
     where
       here : {u v w : ℕ} → Here words at (u ∷ v ∷ w ∷ []) → (get_or words at 0 ≡ u) × (get_or words (at + 1) 0 ≡ v) × (get_or words (at + 2) 0 ≡ w)
       here {u} {v} {w} i = (here_get u _ i, here_item (u ∷ v ∷ w ∷ []) 1 (omega arith) i, here_item (u ∷ v ∷ w ∷ []) 2 (omega arith) i)

@@ -43,18 +43,18 @@ function_debug p fs =
 
 module _ {words text : List ℕ} {at to : ℕ} where
   pub stands_same : {p q : Piece} → Same p q → Stands words text at to p → Stands words text at to q
-  stands_same s h = record { in_words = rw (s.words to) at h.in_words; in_text_law = rw s.text at h.in_text_law }
+  stands_same s h = record { in_words = rw (s.words to) at h.in_words; in_text = rw s.text at h.in_text }
 
   pub stands_left : (p q : Piece) → Stands words text at to (p ⊕ q) → Stands words text at to p
   stands_left p q h =
-      record { in_words = here_left (p.words to) (q.words (to + length p.text)) h.in_words; in_text_law = here_left p.text q.text h.in_text_law }
+      record { in_words = here_left (p.words to) (q.words (to + length p.text)) h.in_words; in_text = here_left p.text q.text h.in_text }
 
   pub stands_right : (p q : Piece) → Stands words text at to (p ⊕ q) → Stands words text (at + length (p.words to)) (to + length p.text) q
   stands_right p q h =
-      record { in_words = here_right (p.words to) (q.words (to + length p.text)) h.in_words; in_text_law = here_right p.text q.text h.in_text_law }
+      record { in_words = here_right (p.words to) (q.words (to + length p.text)) h.in_words; in_text = here_right p.text q.text h.in_text }
 
   pub stands_join : (p q : Piece) → Stands words text at to p → Stands words text (at + length (p.words to)) (to + length p.text) q → Stands words text at to (p ⊕ q)
-  stands_join p q h k = record { in_words = here_join (p.words to) _ h.in_words k.in_words; in_text_law = here_join p.text _ h.in_text_law k.in_text_law }
+  stands_join p q h k = record { in_words = here_join (p.words to) _ h.in_words k.in_words; in_text = here_join p.text _ h.in_text k.in_text }
 
 -- ---- how many words
 

@@ -24,7 +24,7 @@ use Rattle.proto.proofs.Calls.{root_stands}
 
 -- the bytes at a span
 abbrev pub at_span : List ℕ → List ℕ → ℕ → ℕ → ℕ → List ℕ
-at_span text name in_text_law start end = cond (eqb in_text_law 1) (part text start (end - start)) (part name start (end - start))
+at_span text name in_text start end = cond (eqb in_text 1) (part text start (end - start)) (part name start (end - start))
 
 -- a source stands where its span says
 pub record Sourced (text name : List ℕ) (s : Filled) : Type 0 where
@@ -58,7 +58,7 @@ module _ {words text : List ℕ} (name : List ℕ) where
   filled_sourced Source.inherited h k = k
   filled_sourced {to = to} (Source.own s) h k =
       let e : to + length s - to ≡ length s = omega arith in
-      record { ordered = omega arith; is = rw e (here_part s h.in_text_law) }
+      record { ordered = omega arith; is = rw e (here_part s h.in_text) }
 
 -- where a function stands, the functions in it stand
 pub stands_children : {words text : List ℕ} {at to : ℕ} (p : Parts) (fs : Functions) → Stands words text at to (function_piece (Function.function p fs))

@@ -12,7 +12,7 @@ use Rattle.proto.specs.Formed.{is_held, Check, Within, three, Three, ValidChildr
 use Rattle.proto.proofs.Sublists.{here_get, here_whole, whole_here}
 use Rattle.proto.proofs.Pieces.{same_refl, same_is}
 use Rattle.proto.proofs.Walks.{none_deep}
-use Rattle.proto.proofs.Checks.{never, As, check_wrong, check_as, check_then, check_passed, any_word}
+use Rattle.proto.proofs.Checks.{never, As, check_wrong, check_as, check_of, check_then, check_passed, any_word}
 
 -- the first word of a constant
 abbrev kind_of : Constant → ℕ
@@ -209,7 +209,8 @@ module _ {words text : List ℕ} where
   function_checked {allowance} z c₁ c₂ c₃ c₄ c₅ c₆ c₇ c₈ c₉ c₁₀ =
       let y : allowance ≡ suc (allowance - 1) = omega arith in
       rw y
-      (check_as
+      (check_of
+      (check_then c₁ (check_then (any_word (c₂ text)) (check_then (any_word (c₃ text)) (check_then (any_word (c₄ text)) (check_then (c₅ text) (check_then c₆ (check_then c₇ (debug_checked (c₈ text) c₉ c₁₀))))))))
       (λ v k. record {
         value = Function.function (parts_from v.0 v.1.0 v.1.1.0 v.1.1.1.0 v.1.1.1.1.0 v.1.1.1.1.1.0 v.1.1.1.1.1.1.1) v.1.1.1.1.1.1.0;
         valid = (
@@ -239,8 +240,7 @@ module _ {words text : List ℕ} where
           );
           same = same_refl;
         }
-      ])
-      (check_then c₁ (check_then (any_word (c₂ text)) (check_then (any_word (c₃ text)) (check_then (any_word (c₄ text)) (check_then (c₅ text) (check_then c₆ (check_then c₇ (debug_checked (c₈ text) c₉ c₁₀)))))))))
+      ]))
 
   pub function_deep : {n : ℕ} {s r : Checked} → n ≡ 0 → r.ok ≡ false → Check words text (λ f. Valid f n) function_piece s r
   function_deep e o = check_wrong o (λ h f k t. none_deep e f k)
@@ -264,7 +264,7 @@ module _ {words text : List ℕ} {r : Checked} (c : Check words text (λ f. Vali
   -- what holds a tree is passed to its end
   pub store_passed : (f : Function) → Holds words text f → (r.ok ≡ true) × (r.at ≡ length words) × (r.to ≡ length text)
   store_passed f h =
-      let p = c.complete refl f h.valid (record { in_words = whole_here (words_of f) words h.words_are; in_text_law = whole_here (text_of f) text h.text_is }) in
+      let p = c.complete refl f h.valid (record { in_words = whole_here (words_of f) words h.words_are; in_text = whole_here (text_of f) text h.text_is }) in
       (p.ok, p.at ∙ rw h.words_are (omega arith), p.to ∙ rw h.text_is (omega arith))
 
   -- what is passed to its end holds a tree
@@ -274,7 +274,7 @@ module _ {words text : List ℕ} {r : Checked} (c : Check words text (λ f. Vali
         let x = (c.sound o).1 in
         let p = check_passed c o in
         let w : words_of x.value ≡ words = here_whole words (words_of x.value) x.stands.in_words (omega (arith, p.at)) in
-        let t : text_of x.value ≡ text = here_whole text (text_of x.value) x.stands.in_text_law (omega (arith, p.to)) in
+        let t : text_of x.value ≡ text = here_whole text (text_of x.value) x.stands.in_text (omega (arith, p.to)) in
         eq-eqb r.to (length text) h ∙ rw (holds_tree (record { valid = x.valid; words_are = w; text_is = t; words_fit = k; text_fits = l }))
     | no h ↦ ne_eqb r.to (length text) h ∙ held_no words text (λ f g. h (store_passed f g).2)
   ]

@@ -11,7 +11,7 @@ use Rattle.proto.specs.declared.walk.Next.{Next}
 -- the piece stands in the words at a place, its text at a place of the text
 pub record Stands (words text : List ℕ) (at to : ℕ) (p : Piece) : Type 0 where
   pub in_words : Here words at (p.words to)
-  pub in_text_law : Here text to p.text
+  pub in_text : Here text to p.text
 
 -- and its text somewhere
 pub record StandsAt (words text : List ℕ) (at : ℕ) (p : Piece) : Type 0 where

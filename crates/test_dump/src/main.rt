@@ -7,8 +7,11 @@
 //   U  name, 2 bytes words lent, 2 bytes text bytes lent: the buffer measured and stored, from where the U before it left off
 // T, D and U write a line of text: the letter; the refusal and the other numbers of the answer, in decimal; then in hexadecimal all
 // words and text bytes, or all bytes, that were lent. In the buffer and in what is lent to U, 7 is what stands there before.
+#![tactic(auto)]
+
 use format::Undumped;
-use libc::{STDIN_FILENO, STDOUT_FILENO};
+use std::io;
+use std::io::{BufWriter, Write};
 use test_records::{after, byte, half, part, within, word};
 
 // The most words and text bytes of the store, and the most that are lent to read back.
@@ -37,12 +40,19 @@ fn first(words: &[u32], n: usize) -> &[u32] {
 }
 
 // A tree read into the space lent, and its line.
-fn read(letter: &[u8], chunk: &[u8], name: &[u8], words: &mut [u32], text: &mut [u8]) -> Undumped {
+fn read(
+    letter: &[u8],
+    chunk: &[u8],
+    name: &[u8],
+    words: &mut [u32],
+    text: &mut [u8],
+    to: &mut impl Write,
+) -> io::Result<Undumped> {
     let m = undump::measure(chunk, name);
     let u = undump::store(chunk, name, m.words, m.text, m.read, words, text);
-    io::write_all(STDOUT_FILENO, letter);
-    test_output::undumped(u, words, text);
-    u
+    to.write_all(letter)?;
+    test_output::undumped(u, words, text, to)?;
+    Ok(u)
 }
 
 // T, from its numbers on: the tree of a chunk, read into the store.
@@ -53,19 +63,20 @@ fn tree(
     words: &mut [u32],
     text: &mut [u8],
     s: State,
-) -> State {
+    to: &mut impl Write,
+) -> io::Result<State> {
     let w = within(half(cases, at) as usize, words.len());
     let t = within(half(cases, after(cases, at, 2)) as usize, text.len());
     let n = half(cases, after(cases, at, 4)) as usize;
     let chunk = part(cases, after(cases, at, 6), n);
-    let u = read(b"T ", chunk, name, &mut words[0..w], &mut text[0..t]);
-    State {
+    let u = read(b"T ", chunk, name, &mut words[0..w], &mut text[0..t], to)?;
+    Ok(State {
         next: after(cases, at, 6 + n),
         words: u.words,
         text: u.text,
         end: s.end,
         read: s.read,
-    }
+    })
 }
 
 // Another word in the store, where it is in range.
@@ -96,11 +107,12 @@ fn write<'a>(
     strip: bool,
     size_4: bool,
     out: &mut [u8],
-) -> usize {
+    to: &mut impl Write,
+) -> io::Result<usize> {
     let w = dump::dump(words, text, name, strip, size_4, out);
-    io::write_all(STDOUT_FILENO, b"D ");
-    test_output::written(w, out);
-    w.len
+    to.write_all(b"D ")?;
+    test_output::written(w, out, to)?;
+    Ok(w.len)
 }
 
 // D, from its numbers on: the same behind the dumps so far.
@@ -112,45 +124,61 @@ fn append<'a>(
     text: &'a [u8],
     buffer: &mut [u8],
     s: State,
-) -> State {
+    to: &mut impl Write,
+) -> io::Result<State> {
     let strip = byte(cases, at) != 0;
     let size_4 = byte(cases, after(cases, at, 1)) != 0;
     let n = half(cases, after(cases, at, 2)) as usize;
     let from = within(s.end, buffer.len());
-    let to = from + within(n, buffer.len() - from);
-    let len = write(words, text, name, strip, size_4, &mut buffer[from..to]);
-    State {
+    let until = from + within(n, buffer.len() - from);
+    let len = write(
+        words,
+        text,
+        name,
+        strip,
+        size_4,
+        &mut buffer[from..until],
+        to,
+    )?;
+    Ok(State {
         next: after(cases, at, 4),
         words: s.words,
         text: s.text,
         end: after(buffer, from, len),
         read: s.read,
-    }
+    })
 }
 
 // The tree at the start of the dumps, read back with n words and m text bytes lent. Answers the bytes read.
-fn back(dumps: &[u8], name: &[u8], n: usize, m: usize) -> usize {
+fn back(dumps: &[u8], name: &[u8], n: usize, m: usize, to: &mut impl Write) -> io::Result<usize> {
     let mut words = [UNTOUCHED as u32; ROOM];
     let mut text = [UNTOUCHED; ROOM];
     let w = within(n, ROOM);
     let t = within(m, ROOM);
-    let u = read(b"U ", dumps, name, &mut words[0..w], &mut text[0..t]);
-    u.read
+    let u = read(b"U ", dumps, name, &mut words[0..w], &mut text[0..t], to)?;
+    Ok(u.read)
 }
 
 // U, from its numbers on: the next tree of the buffer, read back.
-fn next_back(cases: &[u8], at: usize, name: &[u8], buffer: &[u8], s: State) -> State {
+fn next_back(
+    cases: &[u8],
+    at: usize,
+    name: &[u8],
+    buffer: &[u8],
+    s: State,
+    to: &mut impl Write,
+) -> io::Result<State> {
     let n = half(cases, at) as usize;
     let m = half(cases, after(cases, at, 2)) as usize;
     let from = after(buffer, s.read, 0);
-    let read = back(&buffer[from..], name, n, m);
-    State {
+    let read = back(&buffer[from..], name, n, m, to)?;
+    Ok(State {
         next: after(cases, at, 4),
         words: s.words,
         text: s.text,
         end: s.end,
         read: after(buffer, from, read),
-    }
+    })
 }
 
 // One case, its letter read. Another letter ends the cases.
@@ -161,25 +189,41 @@ fn case_at(
     text: &mut [u8],
     buffer: &mut [u8],
     s: State,
-) -> State {
+    to: &mut impl Write,
+) -> io::Result<State> {
     let kind = byte(cases, s.next);
     let k = byte(cases, at) as usize;
     let name = part(cases, after(cases, at, 1), k);
     let rest = after(cases, at, 1 + k);
     match kind {
-        b'T' => tree(cases, rest, name, words, text, s),
-        b'W' => changed(cases, at, words, s),
+        b'T' => tree(cases, rest, name, words, text, s, to),
+        b'W' => Ok(changed(cases, at, words, s)),
         b'D' => {
             let store = first(words, s.words);
-            append(cases, rest, name, store, part(text, 0, s.text), buffer, s)
+            append(
+                cases,
+                rest,
+                name,
+                store,
+                part(text, 0, s.text),
+                buffer,
+                s,
+                to,
+            )
         }
-        b'U' => next_back(cases, rest, name, buffer, s),
-        _ => s,
+        b'U' => next_back(cases, rest, name, buffer, s, to),
+        _ => Ok(s),
     }
 }
 
 // All cases.
-fn all(cases: &[u8], words: &mut [u32], text: &mut [u8], buffer: &mut [u8]) {
+fn all(
+    cases: &[u8],
+    words: &mut [u32],
+    text: &mut [u8],
+    buffer: &mut [u8],
+    to: &mut impl Write,
+) -> io::Result<()> {
     let mut s = State {
         next: 0,
         words: 0,
@@ -189,19 +233,21 @@ fn all(cases: &[u8], words: &mut [u32], text: &mut [u8], buffer: &mut [u8]) {
     };
     while s.next < cases.len() {
         let at = s.next;
-        let r = case_at(cases, after(cases, at, 1), words, text, buffer, s);
+        let r = case_at(cases, after(cases, at, 1), words, text, buffer, s, to)?;
         if r.next <= at {
-            return;
+            return Ok(());
         }
         s = r;
     }
+    Ok(())
 }
 
-fn main() {
-    let mut space = io::large_buffer();
-    let n = io::read_full(STDIN_FILENO, &mut space);
+fn main(rt: HostRuntime) -> io::Result<()> {
+    let cases = test_records::input(&rt)?;
+    let mut to = BufWriter::new(rt.alloc(), io::writer(&rt))?;
     let mut words = [0u32; ROOM];
     let mut text = [0u8; ROOM];
     let mut buffer = [UNTOUCHED; BUFFER];
-    all(part(&space, 0, n), &mut words, &mut text, &mut buffer);
+    all(&cases, &mut words, &mut text, &mut buffer, &mut to)?;
+    to.flush()
 }

@@ -3,12 +3,14 @@
 //   R  2 bytes length, bytes, 1 byte whether they are UTF-8, 2 bytes length, the bytes repaired
 //   I  an instruction word, then its opcode, A, B, C, Bx and sBx, 4 bytes each
 //   O  an opcode, its name padded to 9, mode, kinds of B and C, test, sets A, 1 byte each
+#![tactic(auto)]
+
 mod instruction;
 mod text;
 
 ghost use Rattle.std.specs.Prelude.{◌≡◌};
 
-use libc::{STDIN_FILENO, STDOUT_FILENO};
+use std::io;
 use test_records::{after, byte};
 
 // Where the next record stands, and whether the answers are the same.
@@ -75,14 +77,11 @@ fn all(records: &[u8]) -> Tally {
     t
 }
 
-fn main() {
-    let mut space = io::large_buffer();
-    let n = io::read_full(STDIN_FILENO, &mut space);
-    let t = all(test_records::first(&space, n));
-    io::print_decimal(STDOUT_FILENO, t.compared as u64);
-    io::write_all(STDOUT_FILENO, b" answers compared, ");
-    io::print_decimal(STDOUT_FILENO, t.differ as u64);
-    io::write_all(STDOUT_FILENO, b" differ, ");
-    io::print_decimal(STDOUT_FILENO, t.at as u64);
-    io::write_all(STDOUT_FILENO, b" bytes read\n");
+fn main(rt: HostRuntime) -> io::Result<()> {
+    let records = test_records::input(&rt)?;
+    let t = all(&records);
+    println!(rt;
+        "{} answers compared, {} differ, {} bytes read",
+        t.compared, t.differ, t.at
+    )
 }

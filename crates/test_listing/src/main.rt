@@ -3,9 +3,12 @@
 //   2 bytes length, the chunk, 1 byte length, the chunk name, 1 byte: 1 for a full listing, 1 byte how many words are held back,
 //   2 bytes output bytes lent
 // The chunk is read under the empty name, so that the chunk name is the listing's.
+#![tactic(auto)]
+
 use format::Written;
-use libc::{STDIN_FILENO, STDOUT_FILENO};
 use listing::list_function;
+use std::io;
+use std::io::{BufWriter, Write};
 use test_records::{after, byte, half, part};
 use undump::{measure, store};
 
@@ -27,18 +30,18 @@ fn less(n: usize, k: usize) -> usize {
     if k < n { n - k } else { 0 }
 }
 
-fn number(n: usize) {
-    io::print_decimal(STDOUT_FILENO, n as u64);
+fn number(n: usize, to: &mut impl Write) -> io::Result<()> {
+    write!(to, "{n}")
 }
 
 // Writes an answer and what was left.
-fn tell(r: Written, out: &[u8]) {
-    number(r.refusal as usize);
-    io::write_all(STDOUT_FILENO, b" ");
-    number(r.len);
-    io::write_all(STDOUT_FILENO, b"\n");
-    io::write_all(STDOUT_FILENO, out);
-    io::write_all(STDOUT_FILENO, b"\n");
+fn tell(r: Written, out: &[u8], to: &mut impl Write) -> io::Result<()> {
+    number(r.refusal as usize, to)?;
+    to.write_all(b" ")?;
+    number(r.len, to)?;
+    to.write_all(b"\n")?;
+    to.write_all(out)?;
+    to.write_all(b"\n")
 }
 
 // The listing of a chunk, held words of its store held back: the refusal of reading it, or what list_function answers.
@@ -63,16 +66,23 @@ fn list(chunk: &[u8], name: &[u8], full: bool, held: usize, out: &mut [u8]) -> W
 }
 
 // The same with n output bytes lent, and what it answers and leaves is written.
-fn lend(chunk: &[u8], name: &[u8], full: bool, held: usize, n: usize) {
+fn lend(
+    chunk: &[u8],
+    name: &[u8],
+    full: bool,
+    held: usize,
+    n: usize,
+    to: &mut impl Write,
+) -> io::Result<()> {
     let mut space = [UNTOUCHED; OUT];
     let end = lent::least(n, OUT);
     let out: &mut [u8] = &mut space[0..end];
     let r = list(chunk, name, full, held, out);
-    tell(r, out);
+    tell(r, out, to)
 }
 
 // One case. Answers where the next stands.
-fn case_at(cases: &[u8], at: usize) -> usize {
+fn case_at(cases: &[u8], at: usize, to: &mut impl Write) -> io::Result<usize> {
     let n = half(cases, at) as usize;
     let chunk = after(cases, at, 2);
     let size = after(cases, chunk, n);
@@ -87,24 +97,27 @@ fn case_at(cases: &[u8], at: usize) -> usize {
         byte(cases, full) == 1,
         byte(cases, held) as usize,
         half(cases, out) as usize,
-    );
-    after(cases, out, 2)
+        to,
+    )?;
+    Ok(after(cases, out, 2))
 }
 
 // All cases.
-fn all(cases: &[u8]) {
+fn all(cases: &[u8], to: &mut impl Write) -> io::Result<()> {
     let mut at = 0;
     while at < cases.len() {
-        let next = case_at(cases, at);
+        let next = case_at(cases, at, to)?;
         if next <= at {
-            return;
+            return Ok(());
         }
         at = next;
     }
+    Ok(())
 }
 
-fn main() {
-    let mut space = io::large_buffer();
-    let n = io::read_full(STDIN_FILENO, &mut space);
-    all(part(&space, 0, n));
+fn main(rt: HostRuntime) -> io::Result<()> {
+    let cases = test_records::input(&rt)?;
+    let mut to = BufWriter::new(rt.alloc(), io::writer(&rt))?;
+    all(&cases, &mut to)?;
+    to.flush()
 }

@@ -1,65 +1,67 @@
-// Writing to standard output: numbers, words and bytes, and the lines that the programs write for an answer.
+// Writing output: numbers, words and bytes, and the lines that the programs write for an answer.
+#![tactic(auto)]
+
 use format::{Undumped, Written};
-use libc::STDOUT_FILENO;
+use std::io;
+use std::io::Write;
 
 // A number in decimal, and a blank.
-pub fn number(n: usize) {
-    io::print_decimal(STDOUT_FILENO, n as u64);
-    io::write_all(STDOUT_FILENO, b" ");
+pub fn number(n: usize, to: &mut impl Write) -> io::Result<()> {
+    write!(to, "{n} ")
 }
 
-fn word(w: u32) {
-    io::write_all(STDOUT_FILENO, b" ");
-    io::print_hex(STDOUT_FILENO, w as u64, 1);
+fn word(w: u32, to: &mut impl Write) -> io::Result<()> {
+    write!(to, " {w:x}")
 }
 
-fn letter(b: u8) {
-    io::write_all(STDOUT_FILENO, b" ");
-    io::print_hex(STDOUT_FILENO, b as u64, 2);
+fn letter(b: u8, to: &mut impl Write) -> io::Result<()> {
+    write!(to, " {b:02x}")
 }
 
 // All words in hexadecimal, a blank before each.
-pub fn all_words(words: &[u32]) {
+pub fn all_words(words: &[u32], to: &mut impl Write) -> io::Result<()> {
     let mut i = 0;
     while i < words.len() {
-        word(words[i]);
+        word(words[i], to)?;
         i += 1;
     }
+    Ok(())
 }
 
 // All bytes in hexadecimal, a blank before each.
-pub fn all_text(text: &[u8]) {
+pub fn all_text(text: &[u8], to: &mut impl Write) -> io::Result<()> {
     let mut i = 0;
     while i < text.len() {
-        letter(text[i]);
+        letter(text[i], to)?;
         i += 1;
     }
+    Ok(())
 }
 
 // The numbers of an answer of measure or store.
-pub fn answer(u: Undumped) {
-    number(u.refusal as usize);
-    number(u.width as usize);
-    number(u.words);
-    number(u.text);
-    number(u.read);
+pub fn answer(u: Undumped, to: &mut impl Write) -> io::Result<()> {
+    number(u.refusal as usize, to)?;
+    number(u.width as usize, to)?;
+    number(u.words, to)?;
+    number(u.text, to)?;
+    number(u.read, to)
 }
 
 // What store answered and left: its numbers, all words lent, all text bytes lent.
-pub fn undumped(u: Undumped, words: &[u32], text: &[u8]) {
-    answer(u);
-    io::write_all(STDOUT_FILENO, b":");
-    all_words(words);
-    io::write_all(STDOUT_FILENO, b" :");
-    all_text(text);
-    io::write_all(STDOUT_FILENO, b"\n");
+pub fn undumped(u: Undumped, words: &[u32], text: &[u8], to: &mut impl Write) -> io::Result<()> {
+    answer(u, to)?;
+    to.write_all(b":")?;
+    all_words(words, to)?;
+    to.write_all(b" :")?;
+    all_text(text, to)?;
+    to.write_all(b"\n")
 }
 
 // What a call that writes answered and left: its numbers, all bytes lent.
-pub fn written(w: Written, out: &[u8]) {
-    number(w.refusal as usize);
-    number(w.len);
-    io::write_all(STDOUT_FILENO, b":");
-    all_text(out);
-    io::write_all(STDOUT_FILENO, b"\n");
+pub fn written(w: Written, out: &[u8], to: &mut impl Write) -> io::Result<()> {
+    number(w.refusal as usize, to)?;
+    number(w.len, to)?;
+    to.write_all(b":")?;
+    all_text(out, to)?;
+    to.write_all(b"\n")
 }

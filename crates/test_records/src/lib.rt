@@ -1,7 +1,22 @@
 // Reading records: bytes with numbers in them, low byte first. Past the end there are zeros.
+#![tactic(auto)]
+
 pub mod store;
 
 ghost use Rattle.std.specs.Prelude.{◌≤◌, length};
+
+use std::io;
+use std::io::Read;
+
+// The most bytes of records that a program reads.
+const MOST: u64 = 65536;
+
+// The records on standard input.
+pub fn input(rt: &(impl Input + AllocGlobal)) -> io::Result<Vec<u8>> {
+    let mut records = Vec::new(rt.alloc());
+    rt.reader().take(MOST).read_to_end(&mut records)?;
+    Ok(records)
+}
 
 // A byte, 0 past the end.
 pub fn byte(records: &[u8], at: usize) -> u8 {

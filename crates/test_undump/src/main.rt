@@ -2,7 +2,10 @@
 // the text bytes and the bytes read, in decimal, that measure answers; the same that store answers, given these; then all words lent and
 // all text bytes lent, in hexadecimal, where 7 is what stands there before. A case is, all numbers low byte first:
 //   2 bytes length, the chunk, 1 byte length, the chunk name, 2 bytes words lent, 2 bytes text bytes lent
-use libc::{STDIN_FILENO, STDOUT_FILENO};
+#![tactic(auto)]
+
+use std::io;
+use std::io::{BufWriter, Write};
 use test_records::{after, byte, half, part, within};
 
 // The most words and the most text bytes that are lent, and what stands in them before.
@@ -11,25 +14,31 @@ const ROOM: usize = 4096;
 const UNTOUCHED: u8 = 7;
 
 // Measures a chunk and stores it in the space lent, and writes what was found.
-fn read(chunk: &[u8], name: &[u8], words: &mut [u32], text: &mut [u8]) {
+fn read(
+    chunk: &[u8],
+    name: &[u8],
+    words: &mut [u32],
+    text: &mut [u8],
+    to: &mut impl Write,
+) -> io::Result<()> {
     let m = undump::measure(chunk, name);
-    test_output::answer(m);
-    io::write_all(STDOUT_FILENO, b"; ");
+    test_output::answer(m, to)?;
+    to.write_all(b"; ")?;
     let u = undump::store(chunk, name, m.words, m.text, m.read, words, text);
-    test_output::undumped(u, words, text);
+    test_output::undumped(u, words, text, to)
 }
 
 // The same, with so many words and text bytes lent.
-fn lend(chunk: &[u8], name: &[u8], n: usize, m: usize) {
+fn lend(chunk: &[u8], name: &[u8], n: usize, m: usize, to: &mut impl Write) -> io::Result<()> {
     let mut words = [UNTOUCHED as u32; ROOM];
     let mut text = [UNTOUCHED; ROOM];
     let w = within(n, ROOM);
     let t = within(m, ROOM);
-    read(chunk, name, &mut words[0..w], &mut text[0..t]);
+    read(chunk, name, &mut words[0..w], &mut text[0..t], to)
 }
 
 // One case. Answers where the next stands.
-fn case_at(cases: &[u8], at: usize) -> usize {
+fn case_at(cases: &[u8], at: usize, to: &mut impl Write) -> io::Result<usize> {
     let n = half(cases, at) as usize;
     let chunk = after(cases, at, 2);
     let size = after(cases, chunk, n);
@@ -42,24 +51,27 @@ fn case_at(cases: &[u8], at: usize) -> usize {
         part(cases, name, k),
         half(cases, words) as usize,
         half(cases, text) as usize,
-    );
-    after(cases, text, 2)
+        to,
+    )?;
+    Ok(after(cases, text, 2))
 }
 
 // All cases.
-fn all(cases: &[u8]) {
+fn all(cases: &[u8], to: &mut impl Write) -> io::Result<()> {
     let mut at = 0;
     while at < cases.len() {
-        let next = case_at(cases, at);
+        let next = case_at(cases, at, to)?;
         if next <= at {
-            return;
+            return Ok(());
         }
         at = next;
     }
+    Ok(())
 }
 
-fn main() {
-    let mut space = io::large_buffer();
-    let n = io::read_full(STDIN_FILENO, &mut space);
-    all(part(&space, 0, n));
+fn main(rt: HostRuntime) -> io::Result<()> {
+    let cases = test_records::input(&rt)?;
+    let mut to = BufWriter::new(rt.alloc(), io::writer(&rt))?;
+    all(&cases, &mut to)?;
+    to.flush()
 }

@@ -1,4 +1,6 @@
 // Reading a chunk into lent memory (lundump.c; in the Rust, undump.rs), in two calls: one learns the space, one stores the tree.
+#![tactic(auto)]
+
 pub mod header;
 
 ghost use Rattle.std.specs.Prelude.{◌≡◌};

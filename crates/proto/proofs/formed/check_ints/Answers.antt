@@ -2,15 +2,13 @@
 use Rattle.lent.proofs.Prelude.{arith}
 use Rattle.proto.proofs.Checks.{never, ints_within, ints_good, ints_bad}
 use Rattle.proto.proofs.formed.check_ints.Goals as goal
-use Rattle.proto.proofs.formed.check_ints.Goals.{else-p, then-p}
+use Rattle.proto.proofs.formed.check_ints.Goals.{then-p+else-n-words, else-p}
 
 pub overflow_sub-words : goal.overflow_sub-words
 overflow_sub-words c = search ints_within
 
 pub returns-then-n-words : goal.returns-then-n-words
-returns-then-n-words c t = ints_good t c.word_at-n.ensures c.check_word-p.ensures
-    (λ i. omega (arith, c.shared_slice_known-1.given i)) c.if-p.taken (omega arith)
+returns-then-n-words c t = ints_good t c.word_at-n.ensures c.check_word-p.ensures (λ i. omega (arith, c.type_inv.words i)) c.if-p.true (omega arith)
 
 pub returns : goal.returns
-returns c t = ints_bad t c.word_at-n.ensures c.check_word-p.ensures c.wrong.ensures
-    (λ o h. elim c.if-p.branch [ then-p w ↦ omega arith | else-p w ↦ never o w.left ])
+returns c t = ints_bad t c.word_at-n.ensures c.check_word-p.ensures c.wrong.ensures (λ o h. elim c.if-p.branch [ then-p+else-n-words w ↦ omega arith | else-p w ↦ never o w.if-p.false ])

@@ -7,4 +7,4 @@ pub returns-then-not-is_within : goal.returns-then-not-is_within
 returns-then-not-is_within c = search check_room
 
 pub returns : goal.returns
-returns c t = pair_good (λ i. omega (arith, c.shared_slice_known-1.given i)) (search not-false) (search room_ends)
+returns c t = pair_good (λ i. omega (arith, c.type_inv.words i)) (search not-false) (search room_ends)

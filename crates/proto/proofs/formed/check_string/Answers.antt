@@ -10,5 +10,4 @@ pub returns-then-not-is_within-2 : goal.returns-then-not-is_within-2
 returns-then-not-is_within-2 c = string_bad c.wrong-then-not-is_within-2.ensures (λ i j. c.is_within-2.ensures.not (c.if-not-is_within-2.true) j)
 
 pub returns : goal.returns
-returns c = let text = c.shared_slice_known-2-1 in
-    string_good (λ i. omega (arith, text.given i)) (search not-false) (search room_ends) (omega arith) (search room_is)
+returns c = string_good (λ i. omega (arith, c.type_inv.text i)) (search not-false) (search room_ends) (omega arith) (search room_is)

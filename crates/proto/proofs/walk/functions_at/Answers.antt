@@ -5,4 +5,4 @@ use Rattle.proto.proofs.Walks.{past_then, past_list}
 use Rattle.proto.proofs.walk.functions_at.Goals as goal
 
 pub returns : goal.returns
-returns c p fs = past_then (c.constants_at.ensures p fs) (past_list constant_piece 3 constant_words_law p.constants c.after_List.ensures)
+returns c p fs = past_then (c.constants_at.ensures p fs) (past_list constant_piece 3 constant_words_law p.constants c.after_list.ensures)
