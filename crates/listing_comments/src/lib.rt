@@ -1,5 +1,7 @@
 // The comment of an instruction. Each call writes its text at a place of lent bytes and answers the next place; what is past the end is not
 // written.
+#![tactic(auto)]
+
 ghost use Rattle.std.specs.Prelude.{ℕ, ◌||◌, ltb, ◌≡◌, get_or, List, [], ◌∷◌, ◌++◌};
 ghost use Rattle.lent.specs.Memory.{Puts};
 ghost use Rattle.digits.specs.Digits.{decimal};

@@ -1,5 +1,7 @@
 // One instruction's line of a listing, and the constants that it names (listing.rs: format_constant, format_constant_raw, and the body of
 // format_code's loop). Each call writes its text at a place of lent bytes and answers the next place; what is past the end is not written.
+#![tactic(auto)]
+
 ghost use Rattle.std.specs.Prelude.{ℕ, ◌+◌, ◌-◌, ◌^◌, ◌≤◌, ◌<◌, List, ◌≡◌, length};
 ghost use Rattle.digits.specs.Room.{PutsWithin, Width};
 ghost use Rattle.lent.specs.Memory.{Puts};

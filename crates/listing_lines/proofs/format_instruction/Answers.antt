@@ -1,0 +1,10 @@
+-- The parts one after the other, the list of lines standing where lists says.
+use Rattle.lent.proofs.Writes.{put_then}
+use Rattle.listing_lines.specs.Line.{format_instruction}
+use Rattle.listing_lines.proofs.format_instruction.Goals as goal
+
+pub returns : goal.returns
+unfolding format_instruction
+returns c = λ p fs number l k.
+    let o = c.opcode-op.ensures in
+    rw (← o, ← c.line_at-line.ensures _ p.debug.lines l.lines) (put_then (put_then c.format_start-a.ensures (c.format_comment-b.ensures p fs number l (rw (← o) at k))) c.put_byte.ensures)
