@@ -1,4 +1,6 @@
 // Writing a chunk from a tree in lent memory (ldump.c; in the Rust, dump.rs).
+#![tactic(auto)]
+
 pub mod block;
 pub mod count;
 pub mod function;
