@@ -1,4 +1,6 @@
-// The library's face: the calls for C, each with the contract of the call that it passes on.
+// The library's face: the calls that the static library chunk_c exports for C, each with the contract of the call that it passes on.
+#![tactic(auto)]
+
 ghost use Rattle.std.specs.Prelude.{◌≡◌};
 ghost use Rattle.format.specs.Undump.{measured, stored};
 ghost use Rattle.format.specs.Dump.{write_left, dumped};
@@ -14,16 +16,14 @@ use local_records::record::LocalRecord;
 use proto::place::SourceAt;
 
 // The space that the tree of a chunk takes: measure.
-#[unsafe(no_mangle)]
-pub extern "C" fn lua_chunk_measure(chunk: &[u8], name: &[u8]) -> Undumped
+pub fn lua_chunk_measure(chunk: &[u8], name: &[u8]) -> Undumped
     ensures { result ≡ measured chunk.now name.now }
 {
     undump::measure(chunk, name)
 }
 
 // Stores the tree of a chunk, given what was measured, in lent memory: store.
-#[unsafe(no_mangle)]
-pub extern "C" fn lua_chunk_store(
+pub fn lua_chunk_store(
     chunk: &[u8],
     name: &[u8],
     need_words: usize,
@@ -38,8 +38,7 @@ pub extern "C" fn lua_chunk_store(
 }
 
 // Writes the chunk of a store to lent memory: dump.
-#[unsafe(no_mangle)]
-pub extern "C" fn lua_chunk_dump<'a>(
+pub fn lua_chunk_dump<'a>(
     words: &[u32],
     text: &'a [u8],
     name: &'a [u8],
@@ -53,8 +52,7 @@ pub extern "C" fn lua_chunk_dump<'a>(
 }
 
 // Writes the listing of a store to lent memory: list_function.
-#[unsafe(no_mangle)]
-pub extern "C" fn lua_chunk_list_function<'a>(
+pub fn lua_chunk_list_function<'a>(
     words: &[u32],
     text: &'a [u8],
     name: &'a [u8],
@@ -67,8 +65,7 @@ pub extern "C" fn lua_chunk_list_function<'a>(
 }
 
 // The last instruction that wrote a register: symbexec.
-#[unsafe(no_mangle)]
-pub extern "C" fn lua_chunk_symbexec(
+pub fn lua_chunk_symbexec(
     words: &[u32],
     text: &[u8],
     place: usize,
@@ -81,8 +78,7 @@ pub extern "C" fn lua_chunk_symbexec(
 }
 
 // The name of an active local: get_local_name.
-#[unsafe(no_mangle)]
-pub extern "C" fn lua_chunk_get_local_name(
+pub fn lua_chunk_get_local_name(
     words: &[u32],
     text: &[u8],
     place: usize,
@@ -96,8 +92,7 @@ pub extern "C" fn lua_chunk_get_local_name(
 }
 
 // The name of an active local, looked up in lent records: get_local_name_in.
-#[unsafe(no_mangle)]
-pub extern "C" fn lua_chunk_get_local_name_in(
+pub fn lua_chunk_get_local_name_in(
     records: &mut [LocalRecord],
     words: &[u32],
     text: &[u8],
@@ -112,8 +107,7 @@ pub extern "C" fn lua_chunk_get_local_name_in(
 }
 
 // The name of an RK operand: kname.
-#[unsafe(no_mangle)]
-pub extern "C" fn lua_chunk_kname(
+pub fn lua_chunk_kname(
     words: &[u32],
     text: &[u8],
     place: usize,
@@ -126,8 +120,7 @@ pub extern "C" fn lua_chunk_kname(
 }
 
 // The name of what a register holds: getobjname.
-#[unsafe(no_mangle)]
-pub extern "C" fn lua_chunk_getobjname(
+pub fn lua_chunk_getobjname(
     words: &[u32],
     text: &[u8],
     place: usize,
@@ -141,8 +134,7 @@ pub extern "C" fn lua_chunk_getobjname(
 }
 
 // Where the source of the function at a place stands: source_at.
-#[unsafe(no_mangle)]
-pub extern "C" fn lua_chunk_source_at(
+pub fn lua_chunk_source_at(
     words: &[u32],
     text: &[u8],
     name: &[u8],
