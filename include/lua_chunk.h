@@ -1,7 +1,7 @@
 /*
  * lua_chunk.h: Lua 5.1 chunks between bytes, trees and listings.
  *
- * The calls of the proved library Maegriv for C and C++, on Linux x86-64. `rt staticlib chunk` writes the archive
+ * The calls of the proved library Maegriv for C and C++, on Linux x86-64. `bash tools/archive.sh` writes the archive
  * target/staticlib/libchunk.a; link it, nothing else is needed:
  *
  *     cc -Iinclude tool.c target/staticlib/libchunk.a
