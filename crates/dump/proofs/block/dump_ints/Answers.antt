@@ -1,3 +1,4 @@
+-- i integers are stored so far; each turn stores the next.
 use Rattle.lent.proofs.Prelude.{rules}
 use Rattle.dump.proofs.Blocks.{ints_start, ints_turn}
 use Rattle.dump.proofs.block.dump_ints.Goals as goal

@@ -1,3 +1,4 @@
+-- i integers are stored so far; each turn stores the next.
 use Rattle.lent.proofs.Prelude.{◌-◌, ◌≤◌, ◌≡◌, length, take, sets}
 use Rattle.format.specs.Write.{dump_int, each}
 use Rattle.dump.proofs.block.dump_ints.Given as goal
