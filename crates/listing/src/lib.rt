@@ -1,4 +1,6 @@
 // The listing of a store (listing.rs).
+#![tactic(auto)]
+
 pub mod code;
 pub mod function;
 

@@ -1,0 +1,10 @@
+-- What is left to write are the lines from pc on, and kept is a child; closure_child gives the child that a CLOSURE names.
+use Rattle.lent.proofs.Prelude.{rules}
+use Rattle.listing.proofs.Codes.{codes_turn, codes_end}
+use Rattle.listing.proofs.code.format_code.Goals as goal
+
+pub loop-pc-preserved : goal.loop-pc-preserved
+loop-pc-preserved c = search (rules, codes_turn)
+
+pub returns : goal.returns
+returns c = search (rules, codes_end)
