@@ -1,11 +1,11 @@
 -- The proof of demand 3. Reading a dump finds the tree that was written and ends where the dump ends, whatever stands behind it,
 -- so a call that is not refused moves on by the dump, one that is refused stays, and the dumps that are left are those that stand there.
-use Rattle.lent.proofs.Prelude.{ℕ, ◌+◌, ◌-◌, ◌<◌, ◌≡◌, refl, sym, ap, ◌∙◌, none, some, List, [], ◌∷◌, ◌++◌, map, append_assoc, append-nil, append_cancel_right, Bool, true, false, cond, and-eq-true_iff, arith, length, take, drop, length-append, take_at, drop_at, drop-drop, leb, eqb, leb-true, eq-eqb, ne_eqb, eqb-true, eqb-false}
+use Rattle.lent.proofs.Prelude.{ℕ, ◌+◌, ◌<◌, ◌≡◌, refl, sym, ap, ◌∙◌, some, List, [], ◌∷◌, ◌++◌, map, append_assoc, append-nil, append_cancel_right, Bool, true, false, cond, and-eq-true_iff, arith, length, take, drop, length-append, take_at, drop_at, drop-drop, leb, eqb, leb-true, eq-eqb, ne_eqb, eqb-true, eqb-false}
 use mathlib.Core.Logic.{◌⊎◌, inl, inr}
 use Rattle.lent.specs.Memory.{Every}
 use Rattle.utf8.specs.Utf8.{is_utf8}
 use Rattle.format.specs.Tree.{Function, root_source, stripped, fill}
-use Rattle.format.specs.Read.{got, refused, width_of}
+use Rattle.format.specs.Read.{got, width_of}
 use Rattle.format.specs.Write.{dump_chunk}
 use Rattle.format.specs.Valid.{depth, most, Name, Holds, HoldOne}
 use Rattle.format.specs.Agree.{Agree}

@@ -107,13 +107,7 @@ pub fn lua_chunk_get_local_name_in(
 }
 
 // The name of an RK operand: kname.
-pub fn lua_chunk_kname(
-    words: &[u32],
-    text: &[u8],
-    place: usize,
-    c: u32,
-    out: &mut [u8],
-) -> Written
+pub fn lua_chunk_kname(words: &[u32], text: &[u8], place: usize, c: u32, out: &mut [u8]) -> Written
     ensures { write_left result out.new ≡ knamed words.now text.now place c out.old }
 {
     debug_info::kname(words, text, place, c, out)
@@ -134,12 +128,7 @@ pub fn lua_chunk_getobjname(
 }
 
 // Where the source of the function at a place stands: source_at.
-pub fn lua_chunk_source_at(
-    words: &[u32],
-    text: &[u8],
-    name: &[u8],
-    place: usize,
-) -> SourceAt
+pub fn lua_chunk_source_at(words: &[u32], text: &[u8], name: &[u8], place: usize) -> SourceAt
     ensures { result ≡ source_answer words.now text.now name.now place }
 {
     proto::place::source_at(words, text, name, place)
