@@ -8,7 +8,7 @@ here=$(cd "$(dirname "$0")" && pwd)
 corpus=$(cd "$1" && pwd)
 work=$(mktemp -d)
 trap 'rm -rf "$work"' EXIT
-(cd "$here/.." && rt staticlib chunk && rt check test_leaves) > /dev/null 2>&1
+(cd "$here/.." && bash tools/archive.sh && cd crates/test_leaves && rt run < stdin) > /dev/null 2>&1
 cd "$here"
 cargo build -q --release --offline --features chunk
 bin=target/release
@@ -18,7 +18,7 @@ find "$corpus/c4" -name '*.luac' -size -12k | LC_ALL=C sort > "$work/small4"
 echo "UTF-8, instructions:"
 mkdir "$work/leaves"
 "$bin/leaves" many "$work/leaves"
-for f in "$work/leaves"/*; do ../target/bin/test_leaves < "$f"; done |
+for f in "$work/leaves"/*; do ../crates/test_leaves/out/test_leaves < "$f"; done |
     awk '{ n += $1; d += $4 } END { print NR " files, " n " answers compared, " d " differ"; exit d > 0 }'
 echo "measure, store, source_at:"
 "$bin/measures" compare
