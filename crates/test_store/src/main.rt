@@ -3,7 +3,10 @@
 // lent, in hexadecimal, where 7 is what stands there before. A case is, all numbers low byte first:
 //   2 bytes how many runs; for each 4 bytes times, 1 byte length, bytes: the chunk is the bytes of each run so many times, run after run
 //   1 byte length, the chunk name; 8 bytes each need_words, need_text, need_read; 2 bytes words lent, 2 bytes text bytes lent
-use libc::STDIN_FILENO;
+#![tactic(auto)]
+
+use std::io;
+use std::io::{BufWriter, Write};
 use test_records::{after, byte, half, part, within, word};
 
 // The most bytes of a chunk: as many as a tree above the limits needs, whose bytes take three words or text bytes each.
@@ -72,7 +75,14 @@ fn runs(cases: &[u8], at: usize, n: u16, chunk: &mut [u8]) -> Made {
 }
 
 // Stores a chunk in the space lent, and writes what was answered and left.
-fn store(chunk: &[u8], name: &[u8], c: Case, words: &mut [u32], text: &mut [u8]) {
+fn store(
+    chunk: &[u8],
+    name: &[u8],
+    c: Case,
+    words: &mut [u32],
+    text: &mut [u8],
+    to: &mut impl Write,
+) -> io::Result<()> {
     let u = undump::store(
         chunk,
         name,
@@ -82,16 +92,16 @@ fn store(chunk: &[u8], name: &[u8], c: Case, words: &mut [u32], text: &mut [u8])
         words,
         text,
     );
-    test_output::undumped(u, words, text);
+    test_output::undumped(u, words, text, to)
 }
 
 // The same, with as many words and text bytes lent as the case says.
-fn lend(chunk: &[u8], name: &[u8], c: Case) {
+fn lend(chunk: &[u8], name: &[u8], c: Case, to: &mut impl Write) -> io::Result<()> {
     let mut words = [UNTOUCHED as u32; ROOM];
     let mut text = [UNTOUCHED; ROOM];
     let w = within(c.words, ROOM);
     let t = within(c.text, ROOM);
-    store(chunk, name, c, &mut words[0..w], &mut text[0..t]);
+    store(chunk, name, c, &mut words[0..w], &mut text[0..t], to)
 }
 
 // The numbers of a case.
@@ -107,31 +117,33 @@ fn numbers(cases: &[u8], at: usize) -> Case {
 }
 
 // One case. Answers where the next stands.
-fn case_at(cases: &[u8], at: usize, chunk: &mut [u8]) -> usize {
+fn case_at(cases: &[u8], at: usize, chunk: &mut [u8], to: &mut impl Write) -> io::Result<usize> {
     let n = half(cases, at);
     let m = runs(cases, after(cases, at, 2), n, chunk);
     let k = byte(cases, m.next) as usize;
     let name = after(cases, m.next, 1);
     let c = numbers(cases, after(cases, name, k));
-    lend(part(chunk, 0, m.len), part(cases, name, k), c);
-    c.next
+    lend(part(chunk, 0, m.len), part(cases, name, k), c, to)?;
+    Ok(c.next)
 }
 
 // All cases.
-fn all(cases: &[u8], chunk: &mut [u8]) {
+fn all(cases: &[u8], chunk: &mut [u8], to: &mut impl Write) -> io::Result<()> {
     let mut at = 0;
     while at < cases.len() {
-        let next = case_at(cases, at, chunk);
+        let next = case_at(cases, at, chunk, to)?;
         if next <= at {
-            return;
+            return Ok(());
         }
         at = next;
     }
+    Ok(())
 }
 
-fn main() {
-    let mut space = io::large_buffer();
-    let n = io::read_full(STDIN_FILENO, &mut space);
-    let mut chunk = [0u8; MOST];
-    all(part(&space, 0, n), &mut chunk);
+fn main(rt: HostRuntime) -> io::Result<()> {
+    let cases = test_records::input(&rt)?;
+    let mut to = BufWriter::new(rt.alloc(), io::writer(&rt))?;
+    let mut chunk = vec![in rt.alloc(); 0u8; MOST]?;
+    all(&cases, &mut chunk, &mut to)?;
+    to.flush()
 }

@@ -1,4 +1,0 @@
-pub mod TellRecordsKinds
-pub mod TellRecordsReads
-pub mod AskGetLocalNameInKinds
-pub mod AskGetLocalNameInReads
