@@ -65,12 +65,26 @@ fn tell(r: Written, out: &[u8], rt: &impl Print) -> io::Result<()> {
     rt.write_all(first_bytes(out, r.len))
 }
 
+// Standard input, as many bytes as the space has room for. Answers how many they are.
+fn read_full(rt: &impl Input, space: &mut [u8]) -> io::Result<usize> {
+    let mut reader = rt.reader();
+    let mut n = 0;
+    while n < space.len() {
+        let more = reader.read(&mut space[n..])?;
+        if more == 0 {
+            return Ok(n);
+        }
+        n += more;
+    }
+    Ok(n)
+}
+
 fn main(rt: HostRuntime) -> io::Result<()> {
-    let mut chunk = Vec::new(rt.alloc());
-    rt.reader().take(ROOM as u64).read_to_end(&mut chunk)?;
+    let mut chunk = [0u8; ROOM];
+    let n = read_full(&rt, &mut chunk)?;
     let mut words = [0u32; ROOM];
     let mut text = [0u8; ROOM];
     let mut out = [0u8; OUT];
-    let r = list(&chunk, &mut words, &mut text, &mut out);
+    let r = list(first_bytes(&chunk, n), &mut words, &mut text, &mut out);
     tell(r, &out, &rt)
 }

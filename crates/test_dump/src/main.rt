@@ -11,7 +11,7 @@
 
 use format::Undumped;
 use std::io;
-use std::io::{BufWriter, Write};
+use std::io::Write;
 use test_records::{after, byte, half, part, within, word};
 
 // The most words and text bytes of the store, and the most that are lent to read back.
@@ -243,11 +243,17 @@ fn all(
 }
 
 fn main(rt: HostRuntime) -> io::Result<()> {
-    let cases = test_records::input(&rt)?;
-    let mut to = BufWriter::new(rt.alloc(), io::writer(&rt))?;
+    let mut space = [0u8; test_records::MOST];
+    let n = test_records::input(&rt, &mut space)?;
+    let mut to = io::writer(&rt);
     let mut words = [0u32; ROOM];
     let mut text = [0u8; ROOM];
     let mut buffer = [UNTOUCHED; BUFFER];
-    all(&cases, &mut words, &mut text, &mut buffer, &mut to)?;
-    to.flush()
+    all(
+        test_records::first(&space, n),
+        &mut words,
+        &mut text,
+        &mut buffer,
+        &mut to,
+    )
 }

@@ -15,7 +15,7 @@ use debug_info::{get_local_name, getobjname, kname, symbexec};
 use local_records::get_local_name_in;
 use local_records::record::LocalRecord;
 use std::io;
-use std::io::{BufWriter, Write};
+use std::io::Write;
 use test_output::{all_text, all_words, number, written};
 use test_records::store::{Read, first_words, store};
 use test_records::{after, byte, part, within, word};
@@ -261,11 +261,17 @@ fn all(
 }
 
 fn main(rt: HostRuntime) -> io::Result<()> {
-    let cases = test_records::input(&rt)?;
-    let mut to = BufWriter::new(rt.alloc(), io::writer(&rt))?;
+    let mut space = [0u8; test_records::MOST];
+    let n = test_records::input(&rt, &mut space)?;
+    let mut to = io::writer(&rt);
     let mut words = [0u32; WORDS];
     let mut text = [0u8; TEXT];
     let mut out = [0u8; 256];
-    all(&cases, &mut words, &mut text, &mut out, &mut to)?;
-    to.flush()
+    all(
+        test_records::first(&space, n),
+        &mut words,
+        &mut text,
+        &mut out,
+        &mut to,
+    )
 }

@@ -9,13 +9,20 @@ use std::io;
 use std::io::Read;
 
 // The most bytes of records that a program reads.
-const MOST: u64 = 65536;
+pub const MOST: usize = 65536;
 
-// The records on standard input.
-pub fn input(rt: &(impl Input + AllocGlobal)) -> io::Result<Vec<u8>> {
-    let mut records = Vec::new(rt.alloc());
-    rt.reader().take(MOST).read_to_end(&mut records)?;
-    Ok(records)
+// The records on standard input, as many bytes as the space has room for. Answers how many they are.
+pub fn input(rt: &impl Input, space: &mut [u8]) -> io::Result<usize> {
+    let mut reader = rt.reader();
+    let mut n = 0;
+    while n < space.len() {
+        let more = reader.read(&mut space[n..])?;
+        if more == 0 {
+            return Ok(n);
+        }
+        n += more;
+    }
+    Ok(n)
 }
 
 // A byte, 0 past the end.

@@ -11,7 +11,7 @@
 use proto::place::{source, source_at};
 use proto::walk::word_at;
 use std::io;
-use std::io::{BufWriter, Write};
+use std::io::Write;
 use test_output::{all_text, number};
 use test_records::store::{Read, first_words, put, store};
 use test_records::{after, byte, half, part, word};
@@ -169,10 +169,15 @@ fn all(cases: &[u8], words: &mut [u32], text: &mut [u8], to: &mut impl Write) ->
 }
 
 fn main(rt: HostRuntime) -> io::Result<()> {
-    let cases = test_records::input(&rt)?;
-    let mut to = BufWriter::new(rt.alloc(), io::writer(&rt))?;
+    let mut space = [0u8; test_records::MOST];
+    let n = test_records::input(&rt, &mut space)?;
+    let mut to = io::writer(&rt);
     let mut words = [0u32; WORDS];
     let mut text = [0u8; TEXT];
-    all(&cases, &mut words, &mut text, &mut to)?;
-    to.flush()
+    all(
+        test_records::first(&space, n),
+        &mut words,
+        &mut text,
+        &mut to,
+    )
 }

@@ -6,7 +6,7 @@
 #![tactic(auto)]
 
 use std::io;
-use std::io::{BufWriter, Write};
+use std::io::Write;
 use test_records::{after, byte, half, part, within, word};
 
 // The most bytes of a chunk: as many as a tree above the limits needs, whose bytes take three words or text bytes each.
@@ -141,9 +141,9 @@ fn all(cases: &[u8], chunk: &mut [u8], to: &mut impl Write) -> io::Result<()> {
 }
 
 fn main(rt: HostRuntime) -> io::Result<()> {
-    let cases = test_records::input(&rt)?;
-    let mut to = BufWriter::new(rt.alloc(), io::writer(&rt))?;
+    let mut space = [0u8; test_records::MOST];
+    let n = test_records::input(&rt, &mut space)?;
+    let mut to = io::writer(&rt);
     let mut chunk = vec![in rt.alloc(); 0u8; MOST]?;
-    all(&cases, &mut chunk, &mut to)?;
-    to.flush()
+    all(test_records::first(&space, n), &mut chunk, &mut to)
 }
