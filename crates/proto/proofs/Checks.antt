@@ -1,5 +1,5 @@
 -- Steps of the check, one after the other: words, strings and lists.
-use Rattle.lent.proofs.Prelude.{ℕ, suc, zero-le, ◌+◌, ◌-◌, ◌*◌, ◌≤◌, ◌<◌, ◌^◌, ◌≡◌, refl, sym, ap, ◌∙◌, List, [], ◌∷◌, Bool, true, false, not, arith, dec_lt, add-zero, add_assoc, length, drop, get_or, length-append, length-drop, length-take, List·getD-eq-default, get_or-take, get_or-drop, length-take-le, T, ltb, leb, ltb→lt, leb→le, not-true, not-false}
+use Rattle.lent.proofs.Prelude.{ℕ, suc, zero-le, ◌+◌, ◌-◌, ◌*◌, ◌≤◌, ◌<◌, ◌^◌, ◌≡◌, refl, sym, ap, ◌∙◌, List, [], ◌∷◌, Bool, true, false, not, arith, dec_lt, add-zero, add_assoc, length, drop, get_or, length-append, length-drop, length-take, get_or-eq_default, get_or-take, get_or-drop, length-take-le, T, ltb, leb, ltb→lt, leb→le, not-true, not-false}
 use mir.Val.{Fits}
 use mir.Syntax.{w64}
 use Rattle.lent.specs.Memory.{Every, Word, Bytes}
@@ -229,7 +229,7 @@ every_below b (x ∷ l) f = (f 0, every_below b l (λ i. f (suc i)))
 part_below : (b : ℕ) (xs : List ℕ) (place n : ℕ) → ((i : ℕ) → get_or xs i 0 < b) → Every (λ x. x < b) (part xs place n)
 part_below b xs place n f = every_below b (part xs place n) (λ i. elim (dec_lt i n) [
   | yes h ↦ rw (get_or-take n (drop place xs) i 0 h, get_or-drop place xs i 0) (f (place + i))
-  | no h ↦ let e : length (part xs place n) ≤ i = rw length-take (omega arith) in rw (List·getD-eq-default (part xs place n) 0 e) (omega (arith, f 0))
+  | no h ↦ let e : length (part xs place n) ≤ i = rw length-take (omega arith) in rw (get_or-eq_default (part xs place n) 0 e) (omega (arith, f 0))
 ])
 
 -- words after their count

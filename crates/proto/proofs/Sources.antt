@@ -127,10 +127,10 @@ module _ {A : Type 0} (refuse : ℕ → A) (answer : Placed → A) (words text n
 
   call_sought : {r : Sought} → not b ≡ false → ((f : Function) → Valid f depth → Search words place (chunk_name name).span f 0 r) → (x : A)
       → (r.found ≡ false → x ≡ refuse 12) → (r.found ≡ true → (y : Placed) → r.source ≡ y.source.span → x ≡ answer y) → x ≡ called refuse answer words text name place
-  call_sought {r} e s x None-found found =
+  call_sought {r} e s x none_found found =
       held_tree words text (λ t. x ≡ on_tree refuse (λ f. on_function refuse answer (function_at f name place)) t) (sym h ∙ not-false b e)
       (λ f t.
-      (elim (function_at f name place) as (λ o. Seeks o (0 + length ((function_piece f).words 0)) r → x ≡ on_function refuse answer o) [ none ↦ λ k. None-found k.0 | some y ↦ λ k. found k.0 y k.1 ])
+      (elim (function_at f name place) as (λ o. Seeks o (0 + length ((function_piece f).words 0)) r → x ≡ on_function refuse answer o) [ none ↦ λ k. none_found k.0 | some y ↦ λ k. found k.0 y k.1 ])
       ((s f t.valid).seeks 0 name (root_stands t).in_words))
 
 module _ (words text : List ℕ) (place : ℕ) {b : Bool} (h : b ≡ is_held (tree_of words text)) where

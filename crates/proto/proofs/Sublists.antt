@@ -1,5 +1,5 @@
 -- A list that stands at a place of another: its length, its items, and two of them one behind the other.
-use Rattle.lent.proofs.Prelude.{ℕ, ◌+◌, ◌-◌, ◌≤◌, ◌<◌, min, ◌≡◌, refl, sym, ap, ◌∙◌, List, [], ◌∷◌, ◌++◌, append_assoc, append-nil, arith, length, take, drop, get_or, length-append, length-drop, take-append-drop, drop_of_length-le, List·getD-append, drop_at, drop-drop, get_or-drop, take_all, take-length, length-take-le, drop-length, dec_le}
+use Rattle.lent.proofs.Prelude.{ℕ, ◌+◌, ◌-◌, ◌≤◌, ◌<◌, min, ◌≡◌, refl, sym, ap, ◌∙◌, List, [], ◌∷◌, ◌++◌, append_assoc, append-nil, arith, length, take, drop, get_or, length-append, length-drop, take-append-drop, drop_of_length-le, get_or-append, drop_at, drop-drop, get_or-drop, take_all, take-length, length-take-le, drop-length, dec_le}
 use Rattle.format.specs.Stored.{part, Here}
 use Rattle.lent.proofs.Lists.{drop_more}
 use Rattle.format.proofs.Stored.{here_left}
@@ -10,7 +10,7 @@ module _ {xs : List ℕ} {at : ℕ} where
   here_length l h = sym (length-drop at xs) ∙ ap length h.is ∙ length-append l h.more
 
   pub here_item : (l : List ℕ) (i : ℕ) → i < length l → Here xs at l → get_or xs (at + i) 0 ≡ get_or l i 0
-  here_item l i k h = sym (get_or-drop at xs i 0) ∙ rw h.is (List·getD-append l h.more 0 i k)
+  here_item l i k h = sym (get_or-drop at xs i 0) ∙ rw h.is (get_or-append l h.more 0 i k)
 
   pub here_get : (v : ℕ) (l : List ℕ) → Here xs at (v ∷ l) → get_or xs at 0 ≡ v
   here_get v l h = let e : at + 0 ≡ at = omega arith in rw (← e) (here_item (v ∷ l) 0 (omega arith) h)

@@ -1,5 +1,5 @@
 -- The tests of one instruction, the code's items, and the walk from one instruction to the next.
-use Rattle.lent.proofs.Prelude.{ℕ, zero, suc, ◌+◌, ◌*◌, ◌-◌, ◌≤◌, ◌<◌, ◌≡◌, sym, ap, ◌∙◌, List, true, false, cond, and-false, arith, dec_lt, length, get_or, List·getD-eq-default, lt-ltb, le-ltb}
+use Rattle.lent.proofs.Prelude.{ℕ, zero, suc, ◌+◌, ◌*◌, ◌-◌, ◌≤◌, ◌<◌, ◌≡◌, sym, ap, ◌∙◌, List, true, false, cond, and-false, arith, dec_lt, length, get_or, get_or-eq_default, lt-ltb, le-ltb}
 use Rattle.format.specs.Tree.{Function, Functions}
 use Rattle.format.specs.Valid.{depth, ValidAll}
 use Rattle.format.specs.Store.{ints, children_piece}
@@ -41,7 +41,7 @@ module _ {words text : List ℕ} {code x : ℕ} (l : List ℕ) (h : StandsAt wor
   code_count = e ∙ ints_count l h.stands
 
   pub code_past : {pc : ℕ} → x ≤ pc → 0 ≡ get_or l pc 0
-  code_past k = sym (List·getD-eq-default l 0 (omega (arith, code_count)))
+  code_past k = sym (get_or-eq_default l 0 (omega (arith, code_count)))
 
   pub code_item : {pc r y : ℕ} → pc < x → Skips words (1 + 1 * pc) code r → y ≡ get_or words r 0 → y ≡ get_or l pc 0
   code_item k s g = ints_item l (omega (arith, code_count)) h.stands s g

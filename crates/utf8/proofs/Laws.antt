@@ -1,5 +1,5 @@
 -- Laws of text: repair leaves it alone (repair-utf8), what repair gives is text (utf8-repair), and text is made of bytes (utf8-bytes).
-use Rattle.lent.proofs.Prelude.{ℕ, zero, suc, ◌≤◌, ◌<◌, min, ◌≡◌, refl, sym, ap, ◌∙◌, List, [], ◌∷◌, ◌++◌, append_assoc, append-nil, true, cond, ◌&&◌, false≢true, and-eq-true_iff, arith, le_refl, length, take, drop, length-drop, take-append-drop, length-take-le, drop_at, take_at, leb·zero, le-leb, eqb-true, eq-eqb}
+use Rattle.lent.proofs.Prelude.{ℕ, zero, suc, ◌≤◌, ◌<◌, min, ◌≡◌, refl, sym, ap, ◌∙◌, List, [], ◌∷◌, ◌++◌, append_assoc, append-nil, true, cond, ◌&&◌, false≢true, and-eq-true_iff, arith, le_refl, length, take, drop, length-drop, take-append-drop, length-take-le, drop_at, take_at, leb-zero, le-leb, eqb-true, eq-eqb}
 use Rattle.lent.specs.Memory.{Every, Byte, Bytes}
 use Rattle.lent.proofs.Lists.{every_append}
 use Rattle.utf8.specs.declared.Step.{Step}
@@ -75,7 +75,7 @@ pub record Sequence (q : List ℕ) : Type 0 where
 
 pub ascii_sequence : (b : ℕ) → b < 0x80 → Sequence (b ∷ [])
 unfolding row_of matched
-ascii_sequence b h = record { first = λ rest. row_step_law b rest ∙ rw (leb·zero b, le-leb b 0x7f (omega arith)) }
+ascii_sequence b h = record { first = λ rest. row_step_law b rest ∙ rw (leb-zero b, le-leb b 0x7f (omega arith)) }
 
 pub replacement_sequence : Sequence replacement
 unfolding first_step whole matched

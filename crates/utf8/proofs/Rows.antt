@@ -1,6 +1,6 @@
 -- What stands first follows from the row of table 3-7 that the first byte leads, since no two rows share a lead byte (row_step_law);
 -- bytes at places against the ranges of a row; and a lead byte's row, by a test that is computed for each byte.
-use Rattle.lent.proofs.Prelude.{ℕ, zero, suc, ◌+◌, ◌-◌, ◌≤◌, ◌<◌, min, max, ◌≡◌, refl, sym, ◌∙◌, List, [], ◌∷◌, Bool, true, false, cond, ◌&&◌, false≢true, and-eq-true_iff, arith, length, drop, get_or, drop_of_length-le, leb, eqb, eqb·zero-suc, lt-leb, leb-true, eqb-true, ne_eqb, add_assoc, dec_le, drop-drop}
+use Rattle.lent.proofs.Prelude.{ℕ, zero, suc, ◌+◌, ◌-◌, ◌≤◌, ◌<◌, min, max, ◌≡◌, refl, sym, ◌∙◌, List, [], ◌∷◌, Bool, true, false, cond, ◌&&◌, false≢true, and-eq-true_iff, arith, length, drop, get_or, drop_of_length-le, leb, eqb, eqb-zero-suc, lt-leb, leb-true, eqb-true, ne_eqb, add_assoc, dec_le, drop-drop}
 use Rattle.utf8.specs.declared.Step.{Step}
 use Rattle.utf8.specs.Utf8.{Range, ◌‥◌, Row, table3_7, within, matched, whole, begun, first_step}
 use Rattle.utf8.specs.Rows.{row_of, second_low, second_high, second_range, ranges, begun_at, begins}
@@ -42,7 +42,7 @@ below ([] ∷ rows) from b bs h k = absurd h
 below ((r ∷ row) ∷ rows) from b bs h k =
     let i = below rows (suc r.high) b bs h.2 (omega arith) in
     let e = lt-leb r.low b (omega arith) in
-    (rw (e, eqb·zero-suc (length row)) i.0, rw (e, i.1))
+    (rw (e, eqb-zero-suc (length row)) i.0, rw (e, i.1))
 
 -- what whole and begun give, from the row that the byte leads
 abbrev Found : Row → List ℕ → ℕ → ℕ → Type 0
@@ -56,7 +56,7 @@ found ((r ∷ row) ∷ rows) from b bs h =
     by_test (λ t. Found (cond t (r ∷ row) (row_of rows b)) bs (cond (eqb (m t) (suc (length row))) (suc (length row)) (whole rows (b ∷ bs))) (max (m t) (begun rows (b ∷ bs))))
     (within b r)
     (λ e. let l = in_range b r e in let k = below rows (suc r.high) b bs h.2 (omega arith) in (rw k.0, rw k.1 (omega arith)))
-    (λ e. let z : max 0 (begun rows (b ∷ bs)) ≡ begun rows (b ∷ bs) = omega arith in rw (eqb·zero-suc (length row), z) (found rows (suc r.high) b bs h.2))
+    (λ e. let z : max 0 (begun rows (b ∷ bs)) ≡ begun rows (b ∷ bs) = omega arith in rw (eqb-zero-suc (length row), z) (found rows (suc r.high) b bs h.2))
   where
     m : Bool → ℕ
     m t = cond t (suc (matched row bs)) 0
