@@ -2,7 +2,7 @@
 // 65,536 output bytes, and writes the plain listing, or the line "refused N".
 #![tactic(auto)]
 
-ghost use Rattle.std.specs.Prelude.{◌≡◌, take};
+ghost use Rattle.std.specs.Prelude.{◌≡◌, ◌≤◌, length, take, IfOk};
 ghost use Rattle.format.specs.Dump.{write_left};
 ghost use Rattle.listchunk.specs.ListChunk.{listed_chunk};
 
@@ -66,7 +66,9 @@ fn tell(r: Written, out: &[u8], rt: &impl Print) -> io::Result<()> {
 }
 
 // Standard input, as many bytes as the space has room for. Answers how many they are.
-fn read_full(rt: &impl Input, space: &mut [u8]) -> io::Result<usize> {
+fn read_full(rt: &impl Input, space: &mut [u8]) -> io::Result<usize>
+    ensures { IfOk result (λ n. n ≤ length space.new) }
+{
     let mut reader = rt.reader();
     let mut n = 0;
     while n < space.len() {

@@ -3,7 +3,7 @@
 
 pub mod store;
 
-ghost use Rattle.std.specs.Prelude.{◌≤◌, length};
+ghost use Rattle.std.specs.Prelude.{◌≤◌, length, IfOk};
 
 use std::io;
 use std::io::Read;
@@ -12,7 +12,9 @@ use std::io::Read;
 pub const MOST: usize = 65536;
 
 // The records on standard input, as many bytes as the space has room for. Answers how many they are.
-pub fn input(rt: &impl Input, space: &mut [u8]) -> io::Result<usize> {
+pub fn input(rt: &impl Input, space: &mut [u8]) -> io::Result<usize>
+    ensures { IfOk result (λ n. n ≤ length space.new) }
+{
     let mut reader = rt.reader();
     let mut n = 0;
     while n < space.len() {

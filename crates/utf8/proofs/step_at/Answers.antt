@@ -7,4 +7,4 @@ pub returns-then-bytes-at : goal.returns-then-bytes-at
 returns-then-bytes-at c = search (rules, step_none)
 
 pub returns : goal.returns
-returns c = step_led c.args.bytes.now c.args.at _ _ c.if-bytes-at.false (omega (arith, c.shared_slice_known-2-1.given c.args.at)) c.row_len-n.ensures c.begun_at-len.ensures
+returns c = step_led c.args.bytes.now c.args.at _ _ c.if-bytes-at.false (omega (arith, c.type_inv.bytes c.args.at)) c.row_len-n.ensures c.begun_at-len.ensures
