@@ -1,19 +1,23 @@
 -- The calls: on the function at a place, and on a pc and a register of it.
-use Rattle.lent.proofs.Prelude.{ℕ, ◌^◌, ◌≤◌, ◌<◌, ◌≡◌, refl, sym, subst, ◌∙◌, List, [], Bool, true, false, cond, arith, length, get_or, leb, eq-eqb, ne_eqb, le-leb, lt-leb, leb-true}
+use Rattle.std.specs.Prelude.{Ok}
+use Rattle.lent.proofs.Prelude.{ℕ, ◌^◌, ◌≤◌, ◌<◌, ◌≡◌, refl, sym, subst, ◌∙◌, List, [], Bool, true, false, cond, arith, length, get_or, leb, le-leb, lt-leb, leb-true}
 use mir.Val.{Fits}
 use mir.Syntax.{w32}
-use Rattle.lent.specs.Memory.{Puts}
-use Rattle.lent.proofs.Writes.{sets_past}
+use Rattle.lent.specs.Memory.{far, Puts}
+use Rattle.lent.specs.Writer.{Writes}
+use Rattle.lent.specs.declared.Writer.{Writer}
 use Rattle.format.specs.Tree.{Parts, Function, Functions, parts_of}
 use Rattle.format.specs.Store.{function_piece}
-use Rattle.format.specs.Dump.{WriteLeft}
+use Rattle.format.specs.Dump.{written}
 use Rattle.format.specs.Valid.{depth, Valid, ValidAll, ValidParts}
-use Rattle.format.specs.declared.Written.{Written}
+use Rattle.format.proofs.Writing.{written_all}
+use Rattle.format.specs.Refusal.{number}
+use Rattle.format.specs.declared.Refusal.{Refusal}
 use Rattle.proto.specs.Walk.{Stands, StandsAt, Past, to_code}
 use Rattle.proto.specs.Places.{Placed, on_place, place_refusal}
 use Rattle.proto.proofs.Items.{code_stands, ints_count}
 use Rattle.proto.proofs.Sources.{all_suc, function_stands, On, place_on, on_answer, on_related, on_refused}
-use Rattle.debug_info.specs.Calls.{on_register, register_refusal, name_left, name_refused, named_by}
+use Rattle.debug_info.specs.Calls.{on_register, register_refusal, written_left}
 
 -- ---- the function that stands at a place
 
@@ -43,15 +47,19 @@ pub record OnRegister (words text : List ℕ) (place pc reg : ℕ) : Type 0 wher
 abbrev within : {A : Type 0} → (ℕ → A) → (Function → A) → ℕ → ℕ → Placed → A
 within refuse answer pc reg x = cond (leb pc (length (parts_of x.function).code)) (cond (leb reg 255) (answer x.function) (refuse 14)) (refuse 13)
 
+-- a refusal's number is none of those that are given where nothing is refused
+pub refusal_above : (e : Refusal) → 0 < number e
+refusal_above e = grind arith
+
 module _ (words text : List ℕ) (place pc reg : ℕ) where
   -- the refusal of the place
-  pub register_place : {n : ℕ} → n ≡ place_refusal words text place → 0 < n → n ≡ register_refusal words text place pc reg
+  pub register_place : (e : Refusal) → number e ≡ place_refusal words text place → number e ≡ register_refusal words text place pc reg
   unfolding register_refusal
-  register_place e h = e ∙ sym (on_refused (λ n. n) (within (λ n. n) (λ f. 0) pc reg) words text place (λ z. omega arith))
+  register_place e h = let k = refusal_above e in h ∙ sym (on_refused (λ n. n) (within (λ n. n) (λ f. 0) pc reg) words text place (λ z. omega arith))
 
-  module _ {n a x : ℕ} (z : n ≡ place_refusal words text place) (k : n ≤ 0) (w : (p : Parts) (fs : Functions) → Past words (to_code p fs) place a) (e : x ≡ get_or words a 0) where
+  module _ {a x : ℕ} (z : 0 ≡ place_refusal words text place) (w : (p : Parts) (fs : Functions) → Past words (to_code p fs) place a) (e : x ≡ get_or words a 0) where
     on : On words text place
-    on = place_on words text place (omega arith)
+    on = place_on words text place (sym z)
 
     registered : register_refusal words text place pc reg ≡ cond (leb pc x) (cond (leb reg 255) 0 14) 13
     unfolding register_refusal
@@ -95,43 +103,38 @@ module _ (words text : List ℕ) (place pc reg : ℕ) where
 
 -- ---- what a call answers, by the function that stands there
 
-module _ {A : Type 0} (refuse : ℕ → A) (answer : Function → A) (words text : List ℕ) (place : ℕ) {n : ℕ} where
-  pub place_refused : n ≡ place_refusal words text place → 0 < n → refuse n ≡ on_place refuse (λ x. answer x.function) words text place
-  place_refused e h = rw e (sym (on_refused refuse (λ x. answer x.function) words text place (λ z. omega arith)))
+module _ {A : Type 0} (refuse : ℕ → A) (answer : Function → A) (words text : List ℕ) (place : ℕ) where
+  pub place_refused : (e : Refusal) → number e ≡ place_refusal words text place → refuse (number e) ≡ on_place refuse (λ x. answer x.function) words text place
+  place_refused e h = let k = refusal_above e in rw h (sym (on_refused refuse (λ x. answer x.function) words text place (λ z. omega arith)))
 
-  pub place_answered : {r : A} → n ≡ place_refusal words text place → n ≤ 0 → ((p : Parts) (fs : Functions) → ValidAll fs depth → StandsAt words text place (function_piece (Function.function p fs)) → r ≡ answer (Function.function p fs))
+  pub place_answered : {r : A} → 0 ≡ place_refusal words text place → ((p : Parts) (fs : Functions) → ValidAll fs depth → StandsAt words text place (function_piece (Function.function p fs)) → r ≡ answer (Function.function p fs))
       → r ≡ on_place refuse (λ x. answer x.function) words text place
-  place_answered {r} e h g =
-      let o = place_on words text place (omega arith) in
+  place_answered {r} e g =
+      let o = place_on words text place (sym e) in
       of_function o (λ f. r ≡ answer f) (λ p fs u v s. g p fs v s) ∙ sym (on_answer refuse (λ x. answer x.function) o)
 
   module _ (pc reg : ℕ) where
-    pub register_refused : n ≡ register_refusal words text place pc reg → 0 < n → refuse n ≡ on_register refuse answer words text place pc reg
-    register_refused e h = rw e (sym (registered_refused words text place pc reg refuse answer (λ z. omega arith)))
+    pub register_refused : (e : Refusal) → number e ≡ register_refusal words text place pc reg → refuse (number e) ≡ on_register refuse answer words text place pc reg
+    register_refused e h = let k = refusal_above e in rw h (sym (registered_refused words text place pc reg refuse answer (λ z. omega arith)))
 
-    pub register_answered : {r : A} → n ≡ register_refusal words text place pc reg → n ≤ 0 → ((p : Parts) (fs : Functions) → ValidAll fs depth → StandsAt words text place (function_piece (Function.function p fs)) → r ≡ answer (Function.function p fs))
+    pub register_answered : {r : A} → 0 ≡ register_refusal words text place pc reg → ((p : Parts) (fs : Functions) → ValidAll fs depth → StandsAt words text place (function_piece (Function.function p fs)) → r ≡ answer (Function.function p fs))
         → r ≡ on_register refuse answer words text place pc reg
-    register_answered {r} e h g =
-        let o = register_on words text place pc reg (omega arith) in
+    register_answered {r} e g =
+        let o = register_on words text place pc reg (sym e) in
         of_function o.on (λ f. r ≡ answer f) (λ p fs u v s. g p fs v s) ∙ sym (registered_answer words text place pc reg refuse answer o)
 
 -- a pc and a register that are not refused
-module _ (words text : List ℕ) (place pc reg : ℕ) {n : ℕ} (e : n ≡ register_refusal words text place pc reg) (h : n ≤ 0) where
+module _ (words text : List ℕ) (place pc reg : ℕ) (e : 0 ≡ register_refusal words text place pc reg) where
   pub pc_fits : Fits w32 pc
-  pc_fits = let o = register_on words text place pc reg (omega arith) in let l = code_short o.on in record { fits = omega (arith, o.pc_within) }
+  pc_fits = let o = register_on words text place pc reg (sym e) in let l = code_short o.on in record { fits = omega (arith, o.pc_within) }
 
   pub reg_small : reg < 256
-  reg_small = omega (arith, (register_on words text place pc reg (omega arith)).reg_within)
+  reg_small = omega (arith, (register_on words text place pc reg (sym e)).reg_within)
 
 -- ---- an answer with a name
 
--- with no space nothing is left
-pub counts_nowhere : {bytes last : List ℕ} {n : ℕ} → Puts bytes 0 [] n last → Puts bytes 0 [] n []
-counts_nowhere {bytes} p = record { puts = λ a b. ((p.puts a b).0, sym (sets_past bytes [] 0 (omega arith))) }
-
-module _ (kind : ℕ) {w : Written} {out : List ℕ} {l : WriteLeft} (e : record { answer = w; out = out } ≡ l) where
-  pub named_fits : w.refusal ≡ 0 → name_left (record { refusal = 0; kind = kind; len = w.len }) out ≡ named_by kind l
-  named_fits h = rw (← e, eq-eqb w.refusal 0 h)
-
-  pub named_11 : (w.refusal ≡ 0 → ⊥) → name_refused out w.refusal ≡ named_by kind l
-  named_11 h = rw (← e, ne_eqb w.refusal 0 h)
+-- a name that fits, written from the start; what then stands there is what the writer left
+module _ {bytes last : List ℕ} {n : ℕ} {w w' : Writer} {out' : List ℕ} where
+  pub name_written : Puts bytes 0 [] n last → length w.out.now < far → n ≤ length w.out.now → w.at ≡ 0 → Writes bytes w w' → (w.out.ghost_name ≡ w'.out.ghost_name → out' ≡ w'.out.now)
+      → written_left (Ok n) out' ≡ written bytes w.out.now
+  name_written counts fits h z p back = rw (back (sym p.same)) (written_all _ counts fits h (rw z at p.puts))

@@ -1,19 +1,21 @@
 -- Items of a function's lists, and the count of active locals.
-use Rattle.lent.proofs.Prelude.{ℕ, suc, ◌+◌, ◌*◌, ◌-◌, ◌≤◌, ◌<◌, ◌≡◌, refl, sym, subst, ◌∙◌, List, [], ◌∷◌, Bool, true, false, cond, ◌&&◌, none, some, arith, length, get_or, eqb, ltb, lt-ltb, le-ltb}
+use Rattle.lent.proofs.Prelude.{ℕ, zero, suc, ◌+◌, ◌*◌, ◌-◌, ◌≤◌, ◌<◌, ◌≡◌, refl, sym, ap, ◌∙◌, List, [], ◌∷◌, Bool, true, false, cond, none, some, arith, add-one, length, drop, drop_of_length-le, get_or, eqb, ltb}
+use Rattle.std.specs.Prelude.{Some, None}
 use Rattle.format.specs.Tree.{Local}
-use Rattle.format.specs.Store.{Piece, word, ◌⊕◌, string, pieces, list, local_piece}
-use Rattle.format.proofs.Stored.{here_left}
-use Rattle.format.proofs.Loops.{Loop, loop_turn, loop_end, loop_stop}
+use Rattle.format.specs.Store.{Piece, word, ◌⊕◌, string, list, local_piece}
 use Rattle.proto.specs.Walk.{item, Skips, StandsAt}
 use Rattle.proto.proofs.Sublists.{skip_item}
-use Rattle.proto.proofs.Pieces.{stands_left, stands_right}
+use Rattle.proto.proofs.Pieces.{stands_left}
 use Rattle.proto.proofs.Items.{somewhere, item_past, item_there, list_count, list_item}
 use Rattle.debug_info.specs.declared.name.Name.{Name}
-use Rattle.debug_info.specs.declared.name.Known.{Known}
+use Rattle.debug_info.specs.declared.name.Kind.{Kind}
 use Rattle.debug_info.specs.declared.list.LocalVar.{LocalVar}
+use Rattle.debug_info.specs.declared.list.Seen.{Seen}
+use Rattle.debug_info.specs.declared.list.Seen.TheVariants.{Nothing, Found, Left}
 use Rattle.debug_info.specs.Names.{nothing, local, active_local}
 use Rattle.debug_info.specs.Known.{name_of, object_of}
 use Rattle.debug_info.specs.Locals.{local_of}
+use Rattle.debug_info.specs.Seen.{look, after}
 
 -- ---- item i of a list
 
@@ -43,83 +45,50 @@ local_is {x = x} {y = y} name n s e s' e' text v h =
     let r : y ≡ v.end = skip_item l (omega arith) h.stands.in_words s' e' in
     rw (p, q, r)
 
--- from a place and a number on, n locals lead to this answer
-pub record Active (words : List ℕ) (pc n : ℕ) (s : ℕ × ℕ) (r : Known) : Type 0 where
-  pub active : (text : List ℕ) (l : List Local) → length l ≡ n → StandsAt words text s.0 (pieces local_piece l) → object_of text r ≡ active_local l s.1 pc
+-- a local, and then what the search gives behind it
+pub active_step : (v : Local) (l : List Local) (n pc : ℕ) → after (look v.start v.end n pc) nothing (local v.name) (λ m. active_local l m pc) ≡ active_local (v ∷ l) n pc
+unfolding active_local
+active_step v l n pc = by (ltb pc v.start) (ltb pc v.end) (eqb n 1)
+  where
+    by : (a b c : Bool) → after (cond a Nothing (cond b (cond c Found (Left (n - 1))) (Left n))) nothing (local v.name) (λ m. active_local l m pc)
+        ≡ cond a nothing (cond b (cond c (local v.name) (active_local l (n - 1) pc)) (active_local l n pc))
+    by true b c = refl
+    by false true true = refl
+    by false true false = refl
+    by false false c = refl
 
-module _ {words : List ℕ} {pc : ℕ} where
-  active_none : {s : ℕ × ℕ} (r : Known) → ((text : List ℕ) → object_of text r ≡ nothing) → Active words pc 0 s r
+item_drop : {A : Type 0} (l : List A) (i : ℕ) {a : A} → item l i ≡ some a → drop i l ≡ a ∷ drop (suc i) l
+unfolding item
+item_drop [] i e = cc
+item_drop (b ∷ l) zero {a} e = let g : b ≡ a = cc in rw g
+item_drop (b ∷ l) (suc i) e = item_drop l i e
+
+-- from local i on, they lead to the same as all of them
+abbrev pub Searching : List ℕ → ℕ → ℕ → ℕ → ℕ → ℕ → Type 0
+Searching words locals pc number i n = (text : List ℕ) (l : List Local) → StandsAt words text locals (list local_piece l) → active_local (drop i l) n pc ≡ active_local l number pc
+
+-- the loop over them: it is over, or stops at a local, or goes on
+module _ {words : List ℕ} {locals c i : ℕ} (pc number n : ℕ) (e : c ≡ get_or words locals 0) (s : Searching words locals pc number i n) where
+  pub ends_over : c ≤ i → (text : List ℕ) (l : List Local) → StandsAt words text locals (list local_piece l) → object_of text None ≡ active_local l number pc
   unfolding active_local
-  active_none r z = record { active = λ text. elim [ [] ↦ λ e h. z text | v ∷ l ↦ λ e h. absurd (omega arith) ] }
+  ends_over k text l h = ap (λ (u : List Local). active_local u n pc) (sym (drop_of_length-le l {i = i} (omega (arith, e, list_count local_piece l h.stands)))) ∙ s text l h
 
-  module _ {at n : ℕ} (x : LocalVar) (w : (text : List ℕ) (v : Local) → StandsAt words text at (local_piece v) → local_of text x ≡ v) where
-    -- what a first local decides
-    active_by : {k : ℕ} (r : Known) → ((text : List ℕ) (l : List Local) → length l ≡ k → StandsAt words text at (pieces local_piece (local_of text x ∷ l)) → object_of text r ≡ active_local (local_of text x ∷ l) n pc)
-        → Active words pc (suc k) (at, n) r
-    unfolding pieces
-    active_by r f = record {
-      active = λ text. elim [
-        | [] ↦ λ e h. absurd (omega arith)
-        | v ∷ l ↦ λ e h.
-            let g = w text v (somewhere (stands_left (local_piece v) (pieces local_piece l) h.stands)) in
-            subst (λ (u : Local). StandsAt words text at (pieces local_piece (u ∷ l)) → object_of text r ≡ active_local (u ∷ l) n pc) g (f text l (omega arith)) h
-      ];
-    }
+  module _ {at : ℕ} (x : LocalVar) (k : i < c) (p : Skips words (1 + 4 * i) locals at) (w : (text : List ℕ) (v : Local) → StandsAt words text at (local_piece v) → local_of text x ≡ v) where
+    -- by what it tells
+    seen : (a : Seen) → a ≡ look x.start x.end n pc → (text : List ℕ) (l : List Local) → StandsAt words text locals (list local_piece l)
+        → after a nothing (local (name_of text x.name)) (λ m. active_local (drop (i + 1) l) m pc) ≡ active_local l number pc
+    seen a f text l h =
+        let y = looked_up local_piece l h e 4 (λ a to. refl) k p in
+        let d : drop i l ≡ local_of text x ∷ drop (i + 1) l = rw (w text y.value y.stands, add-one i) (item_drop l i y.is) in
+        ap (λ (u : Seen). after u nothing (local (name_of text x.name)) (λ m. active_local (drop (i + 1) l) m pc)) f ∙ active_step (local_of text x) (drop (i + 1) l) n pc
+        ∙ ap (λ (u : List Local). active_local u n pc) (sym d) ∙ s text l h
 
-    -- it starts beyond pc
-    active_late : (r : Known) → pc < x.start → ((text : List ℕ) → object_of text r ≡ nothing) → (k : ℕ) → Active words pc (suc k) (at, n) r
-    unfolding active_local
-    active_late r h z k = active_by r (λ text l e s. rw (lt-ltb pc x.start h) (z text))
+    pub ends_nothing : Nothing ≡ look x.start x.end n pc → (text : List ℕ) (l : List Local) → StandsAt words text locals (list local_piece l) → object_of text None ≡ active_local l number pc
+    ends_nothing = seen Nothing
 
-    module _ (h : x.start ≤ pc) where
-      -- it is the one
-      active_found : (ltb pc x.end && eqb n 1) ≡ true → (k : ℕ) → Active words pc (suc k) (at, n) (record { kind = 1; name = x.name })
-      unfolding active_local
-      active_found t k = active_by (record { kind = 1; name = x.name }) (λ text l e s. rw (le-ltb pc x.start h) (by text l (ltb pc x.end) (eqb n 1) t))
-        where
-          by : (text : List ℕ) (l : List Local) (a b : Bool) → (a && b) ≡ true → local (name_of text x.name) ≡ cond a (cond b (local (name_of text x.name)) (active_local l (n - 1) pc)) (active_local l n pc)
-          by text l true true e = refl
-          by text l true false e = let z : ◌≡◌ {A = ℕ} 0 1 = cc in absurd (omega arith)
-          by text l false b e = let z : ◌≡◌ {A = ℕ} 0 1 = cc in absurd (omega arith)
+    pub ends_found : Found ≡ look x.start x.end n pc → (text : List ℕ) (l : List Local) → StandsAt words text locals (list local_piece l)
+        → object_of text (Some (record { kind = Kind.Local; name = x.name })) ≡ active_local l number pc
+    ends_found = seen Found
 
-      -- it is not, and those behind it decide
-      active_more : {at' m : ℕ} → (ltb pc x.end && eqb n 1) ≡ false → m ≡ cond (ltb pc x.end) (n - 1) n → Skips words 4 at at' → (k : ℕ) (r : Known) → Active words pc k (at', m) r → Active words pc (suc k) (at, n) r
-      unfolding active_local pieces
-      active_more {at'} {m} t g s k r a = active_by r go
-        where
-          by : (l : List Local) (a b : Bool) (name : List ℕ) → (a && b) ≡ false → active_local l (cond a (n - 1) n) pc ≡ cond a (cond b (local name) (active_local l (n - 1) pc)) (active_local l n pc)
-          by l true true name e = let z : ◌≡◌ {A = ℕ} 0 1 = cc in absurd (omega arith)
-          by l true false name e = refl
-          by l false b name e = refl
-
-          go : (text : List ℕ) (l : List Local) → length l ≡ k → StandsAt words text at (pieces local_piece (local_of text x ∷ l)) → object_of text r ≡ active_local (local_of text x ∷ l) n pc
-          go text l e h' =
-              let v = local_of text x in
-              let y = somewhere (stands_left (local_piece v) (pieces local_piece l) h'.stands) in
-              let q : at' ≡ at + 4 = s.skips _ refl y.stands.in_words in
-              let z : StandsAt words text at' (pieces local_piece l) = rw q (somewhere (stands_right (local_piece v) (pieces local_piece l) h'.stands)) in
-              rw (le-ltb pc x.start h) (a.active text l e z ∙ rw g (by l (ltb pc x.end) (eqb n 1) v.name t))
-
-  -- what the list behind its count leads to
-  active_all : {locals at n c : ℕ} (r : Known) → c ≡ get_or words locals 0 → Skips words 1 locals at → Active words pc c (at, n) r
-      → (text : List ℕ) (l : List Local) → StandsAt words text locals (list local_piece l) → object_of text r ≡ active_local l n pc
-  active_all {locals} {at} r e s a text l h =
-      let x = h.stands in
-      let q : at ≡ locals + 1 = s.skips (length l ∷ []) refl (here_left (length l ∷ []) _ x.in_words) in
-      a.active text l (sym (list_count local_piece l x) ∙ sym e) (rw q (somewhere (stands_right (word (length l)) (pieces local_piece l) x)))
-
-  -- the loop over it: it is over, or stops at a local, or goes on
-  module _ {locals at₀ n₀ c i at n : ℕ} (e : c ≡ get_or words locals 0) (s : Skips words 1 locals at₀) (l : Loop (Active words pc) c (at₀, n₀) i (at, n)) where
-    pub ends_over : (r : Known) → c ≤ i → ((text : List ℕ) → object_of text r ≡ nothing) → (text : List ℕ) (l : List Local) → StandsAt words text locals (list local_piece l) → object_of text r ≡ active_local l n₀ pc
-    ends_over r h z = active_all r e s (loop_end h l (active_none r z))
-
-    module _ (x : LocalVar) (h : i < c) (w : (text : List ℕ) (v : Local) → StandsAt words text at (local_piece v) → local_of text x ≡ v) where
-      pub ends_late : (r : Known) → pc < x.start → ((text : List ℕ) → object_of text r ≡ nothing) → (text : List ℕ) (l : List Local) → StandsAt words text locals (list local_piece l) → object_of text r ≡ active_local l n₀ pc
-      ends_late r k z = active_all r e s (loop_stop h l (active_late x w r k z))
-
-      module _ {b : Bool} (k : x.start ≤ pc) (f : b ≡ (ltb pc x.end && eqb n 1)) where
-        pub ends_found : b ≡ true → (text : List ℕ) (l : List Local) → StandsAt words text locals (list local_piece l) → object_of text (record { kind = 1; name = x.name }) ≡ active_local l n₀ pc
-        ends_found t = active_all _ e s (loop_stop h l (active_found x w k (sym f ∙ t)))
-
-        pub goes_on : {at' m : ℕ} → b ≡ false → m ≡ cond (ltb pc x.end) (n - 1) n → Skips words 4 at at' → Loop (Active words pc) c (at₀, n₀) (i + 1) (at', m)
-        goes_on t g j = loop_turn h l (active_more x w k (sym f ∙ t) g j)
+    pub goes_on : {m : ℕ} → Left m ≡ look x.start x.end n pc → Searching words locals pc number (i + 1) m
+    goes_on {m} = seen (Left m)

@@ -1,5 +1,6 @@
 -- The search from register to register.
-use Rattle.lent.proofs.Prelude.{ℕ, zero, suc, ◌+◌, ◌%◌, ◌^◌, ◌≤◌, ◌<◌, ◌≡◌, refl, sym, ap, ◌∙◌, List, [], ◌∷◌, Bool, true, false, cond, and-false, true≢false, arith, dec_lt, length, get_or, set, eq-eqb, ne_eqb, le-ltb}
+use Rattle.lent.proofs.Prelude.{ℕ, zero, suc, ◌+◌, ◌%◌, ◌^◌, ◌<◌, ◌≡◌, refl, sym, ap, ◌∙◌, List, [], ◌∷◌, Bool, true, false, cond, and-false, true≢false, arith, dec_lt, length, get_or, set, le-ltb}
+use Rattle.std.specs.Prelude.{Option, Some, None, is_some}
 use Rattle.instructions.specs.Fields.{GETARG_A, GETARG_B}
 use Rattle.format.specs.Tree.{Local, Parts, Function, Functions}
 use Rattle.format.specs.Store.{list, local_piece}
@@ -8,10 +9,12 @@ use Rattle.proto.specs.Walk.{StandsAt}
 use Rattle.proto.proofs.Checks.{never}
 use Rattle.proto.specs.Lists.{ListsAt}
 use Rattle.proto.specs.declared.lists.Lists.{Lists}
+use Rattle.debug_info.specs.declared.name.Kind.{Kind}
 use Rattle.debug_info.specs.declared.name.Known.{Known}
-use Rattle.debug_info.specs.Known.{object_of}
+use Rattle.debug_info.specs.Kind.{number}
+use Rattle.debug_info.specs.Known.{name_of, object_of}
 use Rattle.symbexec.specs.SymbExec.{symbexec}
-use Rattle.debug_info.specs.Names.{nothing, active_local, get_local_name, wrote, moves_up, or_else, searched}
+use Rattle.debug_info.specs.Names.{Object, object, active_local, get_local_name, wrote, moves_up, or_else, searched}
 use Rattle.debug_info.specs.Searched.{unsearched}
 
 -- one register more is searched
@@ -32,21 +35,37 @@ moves_below i h = elim (dec_lt (GETARG_B i) (GETARG_A i)) [
 ]
 
 -- what the search gives for a register of the function whose lists stand at s
-abbrev Gives : List ℕ → Lists → ℕ → ℕ → List Bool → Known → Type 0
+abbrev Gives : List ℕ → Lists → ℕ → ℕ → List Bool → Option Known → Type 0
 Gives words s pc reg before r =
     (text : List ℕ) (p : Parts) (fs : Functions) → ListsAt words text s p fs → ValidAll fs depth → object_of text r ≡ searched (Function.function p fs) pc (unsearched before) reg before
 
+-- what is known comes before what the search goes on with
+known_first : (text : List ℕ) (x : Option Known) (o : Object) → is_some x ≡ true → or_else (object_of text x) o ≡ object_of text x
+known_first text None o e = absurd (true≢false (sym e))
+known_first text (Some k) o e = by k.kind
+  where
+    by : (kind : Kind) → or_else (object (number kind) (name_of text k.name)) o ≡ object (number kind) (name_of text k.name)
+    by Kind.Local = refl
+    by Kind.Global = refl
+    by Kind.Field = refl
+    by Kind.Upvalue = refl
+    by Kind.Method = refl
+
+unknown_then : (text : List ℕ) (x : Option Known) (o : Object) → is_some x ≡ false → or_else (object_of text x) o ≡ o
+unknown_then text None o e = refl
+unknown_then text (Some k) o e = absurd (true≢false e)
+
 module _ {words : List ℕ} {s : Lists} (pc reg : ℕ) (before : List Bool) where
   -- it was searched before
-  pub search_again : (r : Known) → get_or before reg false ≡ true → ((text : List ℕ) → object_of text r ≡ nothing) → Gives words s pc reg before r
+  pub search_again : get_or before reg false ≡ true → Gives words s pc reg before None
   unfolding searched
-  search_again r e z text p fs h v = by (unsearched before)
+  search_again e text p fs h v = by (unsearched before)
     where
-      by : (n : ℕ) → object_of text r ≡ searched (Function.function p fs) pc n reg before
-      by zero = z text
-      by (suc n) = rw e (z text)
+      by : (n : ℕ) → object_of text None ≡ searched (Function.function p fs) pc n reg before
+      by zero = refl
+      by (suc n) = rw e
 
-  module _ (small : pc < 2 ^ 32) (within : reg < 256) (all : length before ≡ 256) (new : get_or before reg false ≡ false) (x : Known)
+  module _ (small : pc < 2 ^ 32) (within : reg < 256) (all : length before ≡ 256) (new : get_or before reg false ≡ false) (x : Option Known)
       (active : (text : List ℕ) (l : List Local) → StandsAt words text s.locals (list local_piece l) → object_of text x ≡ active_local l (reg + 1) pc) where
     opened : (text : List ℕ) (p : Parts) (fs : Functions) → ListsAt words text s p fs → (i : ℕ) → i ≡ symbexec (Function.function p fs) pc reg → searched (Function.function p fs) pc (unsearched before) reg before
         ≡ or_else (object_of text x) (cond (moves_up i) (searched (Function.function p fs) pc (unsearched (set before reg true)) (GETARG_B i) (set before reg true)) (wrote p i))
@@ -54,13 +73,13 @@ module _ {words : List ℕ} {s : Lists} (pc reg : ℕ) (before : List Bool) wher
     opened text p fs h i e = let m : pc % 2 ^ 32 ≡ pc = omega arith in rw (marked before reg (omega arith) new, new, m, e, ← active text p.debug.locals h.locals)
 
     -- it is a local
-    pub search_local : 0 < x.kind → Gives words s pc reg before x
-    search_local k text p fs h v = sym (opened text p fs h _ refl ∙ rw (ne_eqb x.kind 0 (λ z. omega arith)))
+    pub search_local : {b : Bool} → b ≡ is_some x → b ≡ true → Gives words s pc reg before x
+    search_local d k text p fs h v = sym (opened text p fs h _ refl ∙ known_first text x _ (sym d ∙ k))
 
-    module _ (k : x.kind ≤ 0) {i : ℕ} (last : (text : List ℕ) (p : Parts) (fs : Functions) → ListsAt words text s p fs → ValidAll fs depth → i ≡ symbexec (Function.function p fs) pc reg) {m : Bool} (up : m ≡ moves_up i) where
+    module _ {b : Bool} (d : b ≡ is_some x) (k : b ≡ false) {i : ℕ} (last : (text : List ℕ) (p : Parts) (fs : Functions) → ListsAt words text s p fs → ValidAll fs depth → i ≡ symbexec (Function.function p fs) pc reg) {m : Bool} (up : m ≡ moves_up i) where
       -- it was moved there
-      pub search_moved : (r : Known) {b : ℕ} → m ≡ true → b ≡ GETARG_B i → Gives words s pc b (set before reg true) r → Gives words s pc reg before r
-      search_moved r t g f text p fs h v = f text p fs h v ∙ rw g (sym (opened text p fs h i (last text p fs h v) ∙ rw (eq-eqb x.kind 0 (omega arith), sym up ∙ t)))
+      pub search_moved : (r : Option Known) {from : ℕ} → m ≡ true → from ≡ GETARG_B i → Gives words s pc from (set before reg true) r → Gives words s pc reg before r
+      search_moved r t g f text p fs h v = f text p fs h v ∙ rw g (sym (opened text p fs h i (last text p fs h v) ∙ unknown_then text x _ (sym d ∙ k) ∙ rw (sym up ∙ t)))
 
-      pub search_wrote : (r : Known) → m ≡ false → ((text : List ℕ) (p : Parts) (fs : Functions) → ListsAt words text s p fs → object_of text r ≡ wrote p i) → Gives words s pc reg before r
-      search_wrote r t f text p fs h v = f text p fs h ∙ sym (opened text p fs h i (last text p fs h v) ∙ rw (eq-eqb x.kind 0 (omega arith), sym up ∙ t))
+      pub search_wrote : (r : Option Known) → m ≡ false → ((text : List ℕ) (p : Parts) (fs : Functions) → ListsAt words text s p fs → object_of text r ≡ wrote p i) → Gives words s pc reg before r
+      search_wrote r t f text p fs h v = f text p fs h ∙ sym (opened text p fs h i (last text p fs h v) ∙ unknown_then text x _ (sym d ∙ k) ∙ rw (sym up ∙ t))

@@ -1,8 +1,9 @@
 -- What the code's answers stand for.
-use Rattle.std.specs.Prelude.{ℕ, List}
+use Rattle.std.specs.Prelude.{ℕ, List, Option, Some, None}
 use Rattle.utf8.specs.Utf8.{repair}
 use Rattle.format.specs.Stored.{part}
-use Rattle.debug_info.specs.Names.{Object, unknown}
+use Rattle.debug_info.specs.Names.{Object, object, nothing, unknown}
+use Rattle.debug_info.specs.Kind.{number}
 use Rattle.debug_info.specs.declared.name.Name.{Name}
 use Rattle.debug_info.specs.declared.name.Name.TheVariants.{Unknown, Text, Constant}
 use Rattle.debug_info.specs.declared.name.Known.{Known}
@@ -13,5 +14,6 @@ name_of text Unknown = unknown
 name_of text (Text start n) = part text start n
 name_of text (Constant start n) = repair (part text start n)
 
-abbrev pub object_of : List ℕ → Known → Object
-object_of text k = record { kind = k.kind; name = name_of text k.name }
+abbrev pub object_of : List ℕ → Option Known → Object
+object_of text None = nothing
+object_of text (Some k) = object (number k.kind) (name_of text k.name)

@@ -1,4 +1,4 @@
-// The names of what registers hold (debug_info.rs; in Lua ldebug.c).
+// The names of what registers hold (debug_info.rs; in Lua ldebug.c). The calls take the words and the text apart, as C lends them.
 #![tactic(auto)]
 
 pub mod answer;
@@ -8,53 +8,56 @@ pub mod object;
 
 ghost use Rattle.std.specs.Prelude.{◌≡◌};
 ghost use Rattle.format.specs.Dump.{write_left};
+ghost use Rattle.format.specs.Refusal.{RefusedBy};
 ghost use Rattle.debug_info.specs.Known.{object_of};
-ghost use Rattle.debug_info.specs.Calls.{register_refusal, symbexec_answer, name_left, named, local_named, knamed, object_named};
+ghost use Rattle.debug_info.specs.Calls.{register_refusal, symbexec_answer, name_left, written_left, named, local_named, knamed, object_named};
 
 use answer::{Named, SymbExec};
-use format::Written;
+use format::{Refusal, Written};
 use list::{active_local, operand_name};
 use name::{Known, write_name};
 use proto::lists::lists_at;
-use proto::place::place_refusal;
+use proto::store::Store;
 use proto::walk::{code_at, constants_at, word_at};
 use symbexec::symbexec_at;
 
 // How many values a pc of 32 bits has.
 pub const PCS: usize = 4294967296;
 
-// The refusal of a call on a pc and a register of the function at a place: 10, 12, 13, 14, or 0 for none.
-fn register_refusal(words: &[u32], text: &[u8], place: usize, pc: usize, reg: u32) -> u32
-    ensures { result ≡ register_refusal words.now text.now place pc reg }
+// Whether the function at a place is there, has the pc and may have the register: refused by 10, 12, 13, 14.
+fn check_register(store: Store, place: usize, pc: usize, reg: u32) -> Result<(), Refusal>
+    ensures { RefusedBy (register_refusal store.entry.words.now store.entry.text.now place pc reg) result }
 {
-    let refusal = place_refusal(words, text, place);
-    if 0 < refusal {
-        return refusal;
-    }
-    let code = word_at(words, code_at(words, place)) as usize;
+    store.has_function(place)?;
+    let code = word_at(store.words, code_at(store.words, place)) as usize;
     if code < pc {
-        return 13;
+        return Err(Refusal::BadPc);
     }
-    if reg <= 255 { 0 } else { 14 }
+    if reg <= 255 {
+        Ok(())
+    } else {
+        Err(Refusal::BadRegister)
+    }
 }
 
 // The answer for what is known of a register; its name goes to out. 11 where it does not fit.
-pub fn give(text: &[u8], v: Known, out: &mut [u8]) -> Named
+pub fn give(text: &[u8], v: Option<Known>, out: &mut [u8]) -> Named
     ensures { name_left result out.new ≡ named (object_of text.now v) out.old }
 {
-    let name = v.name;
-    let w = write_name(text, name, out);
-    if w.refusal == 0 {
+    let Some(known) = v else {
         return Named {
             refusal: 0,
-            kind: v.kind,
-            len: w.len,
+            kind: 0,
+            len: 0,
         };
-    }
-    Named {
-        refusal: w.refusal,
-        kind: 0,
-        len: 0,
+    };
+    match write_name(text, known.name, out) {
+        Ok(len) => Named {
+            refusal: 0,
+            kind: known.kind.number(),
+            len,
+        },
+        Err(e) => Named::refused(e),
     }
 }
 
@@ -62,12 +65,9 @@ pub fn give(text: &[u8], v: Known, out: &mut [u8]) -> Named
 pub fn symbexec(words: &[u32], text: &[u8], place: usize, lastpc: usize, reg: u32) -> SymbExec
     ensures { result ≡ symbexec_answer words.now text.now place lastpc reg }
 {
-    let refusal = register_refusal(words, text, place, lastpc, reg);
-    if 0 < refusal {
-        return SymbExec {
-            refusal,
-            instruction: 0,
-        };
+    let store = Store { words, text };
+    if let Err(e) = check_register(store, place, lastpc, reg) {
+        return SymbExec::refused(e);
     }
     let s = lists_at(words, place);
     SymbExec {
@@ -88,29 +88,32 @@ pub fn get_local_name(
 ) -> Named
     ensures { name_left result out.new ≡ local_named words.now text.now place local_number pc out.old }
 {
-    let refusal = place_refusal(words, text, place);
-    if 0 < refusal {
-        return Named {
-            refusal,
-            kind: 0,
-            len: 0,
-        };
+    let store = Store { words, text };
+    if let Err(e) = store.has_function(place) {
+        return Named::refused(e);
     }
     let locals = lists_at(words, place).locals;
     let v = active_local(words, locals, local_number, (pc % PCS) as u32);
     give(text, v, out)
 }
 
+// Writes the name of an RK operand from the start of out, and answers its length. Refused by 10, 12, 11.
+fn write_kname(store: Store, place: usize, c: u32, out: &mut [u8]) -> Result<usize, Refusal>
+    ensures { written_left result out.new ≡ knamed store.entry.words.now store.entry.text.now place c out.old }
+{
+    store.has_function(place)?;
+    let constants = constants_at(store.words, place);
+    write_name(store.text, operand_name(store.words, constants, c), out)
+}
+
 // The name of an RK operand, in out: its string constant, repaired, or ?. Refused by 10, 12, 11: then out keeps its contents.
 pub fn kname(words: &[u32], text: &[u8], place: usize, c: u32, out: &mut [u8]) -> Written
     ensures { write_left result out.new ≡ knamed words.now text.now place c out.old }
 {
-    let refusal = place_refusal(words, text, place);
-    if 0 < refusal {
-        return Written { refusal, len: 0 };
+    match write_kname(Store { words, text }, place, c, out) {
+        Ok(len) => Written { refusal: 0, len },
+        Err(e) => Written::refused(e),
     }
-    let constants = constants_at(words, place);
-    write_name(text, operand_name(words, constants, c), out)
 }
 
 // What register stackpos holds at pc: its kind, and its name in out; kind 0 where nothing is known.
@@ -125,13 +128,9 @@ pub fn getobjname(
 ) -> Named
     ensures { name_left result out.new ≡ object_named words.now text.now place pc stackpos out.old }
 {
-    let refusal = register_refusal(words, text, place, pc, stackpos);
-    if 0 < refusal {
-        return Named {
-            refusal,
-            kind: 0,
-            len: 0,
-        };
+    let store = Store { words, text };
+    if let Err(e) = check_register(store, place, pc, stackpos) {
+        return Named::refused(e);
     }
     let s = lists_at(words, place);
     let v = object::getobjname(words, s, pc as u32, stackpos, [false; 256]);

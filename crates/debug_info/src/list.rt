@@ -1,5 +1,5 @@
 // Names in the lists of a function: locals, constants, upvalues.
-ghost use Rattle.std.specs.Prelude.{cond, ◌&&◌, List, ◌≡◌, ℕ, ◌-◌, eqb, ltb};
+ghost use Rattle.std.specs.Prelude.{List, ◌≡◌, ℕ};
 ghost use Rattle.format.specs.Store.{list, string, constant_piece, local_piece};
 ghost use Rattle.format.specs.Tree.{Constant as Value, Local};
 ghost use Rattle.format.specs.Constants.{value_of};
@@ -7,8 +7,9 @@ ghost use Rattle.proto.specs.Walk.{item, StandsAt};
 ghost use Rattle.debug_info.specs.Names.{active_local, constant_at, kname, upvalue_name};
 ghost use Rattle.debug_info.specs.Known.{name_of, object_of};
 ghost use Rattle.debug_info.specs.Locals.{local_of};
+ghost use Rattle.debug_info.specs.Seen.{look};
 
-use crate::name::{Known, Name, constant_name, name_at, nothing};
+use crate::name::{Kind, Known, Name, constant_name, name_at};
 use format::Constant;
 use instructions::{index_k, is_k};
 use proto::constant::constant_at;
@@ -33,51 +34,55 @@ fn local_at(words: &[u32], at: usize) -> LocalVar
     }
 }
 
-// Whether a local, which has started, is active at pc and the last of those to be counted.
-fn is_last(v: LocalVar, pc: u32, remaining: usize) -> bool
-    ensures { result ≡ (ltb pc v.end && eqb remaining 1) }
-{
-    if v.end <= pc {
-        return false;
-    }
-    remaining == 1
+// What a local tells of the search for number remaining, from it on, of those active at pc: there is none, or this is the one, or so many are
+// still to be counted.
+#[derive(Clone, Copy)]
+pub enum Seen {
+    Nothing,
+    Found,
+    Left(usize),
 }
 
-// How many are to be counted behind it.
-fn left(v: LocalVar, pc: u32, remaining: usize) -> usize
-    ensures { result ≡ cond (ltb pc v.end) (remaining - 1) remaining }
+// What one that is active from start on and before end tells.
+pub fn look(start: u32, end: u32, remaining: usize, pc: u32) -> Seen
+    ensures { result ≡ look start end remaining pc }
 {
-    if v.end <= pc {
-        return remaining;
+    if pc < start {
+        return Seen::Nothing;
     }
-    if remaining == 0 { 0 } else { remaining - 1 }
+    if end <= pc {
+        return Seen::Left(remaining);
+    }
+    if remaining == 1 {
+        return Seen::Found;
+    }
+    Seen::Left(remaining.saturating_sub(1))
 }
 
 // The local that is number n of those active at pc, in the list at a place; nothing behind the first that starts beyond pc.
-pub fn active_local(words: &[u32], locals: usize, n: usize, pc: u32) -> Known
+pub fn active_local(words: &[u32], locals: usize, n: usize, pc: u32) -> Option<Known>
     ensures { (text : List ℕ) (l : List Local) → StandsAt words.now text locals (list local_piece l) → object_of text result ≡ active_local l n pc }
 {
     let count = word_at(words, locals);
-    let mut at = skip(words, locals, 1);
     let mut remaining = n;
-    let mut i: u32 = 0;
-    while i < count {
-        let v = local_at(words, at);
-        if pc < v.start {
-            return nothing();
+    for i in 0..count {
+        let v = local_at(words, item_at(words, locals, 4, i));
+        match look(v.start, v.end, remaining, pc) {
+            Seen::Nothing => return None,
+            Seen::Found => {
+                return Some(Known {
+                    kind: Kind::Local,
+                    name: v.name,
+                });
+            }
+            Seen::Left(left) => remaining = left,
         }
-        if is_last(v, pc, remaining) {
-            let name = v.name;
-            return Known { kind: 1, name };
-        }
-        remaining = left(v, pc, remaining);
-        at = skip(words, at, 4);
-        i += 1;
     }
-    nothing()
+    None
 }
 
 // Constant i of the list at a place, Nil where there is none.
+// The test of i is upvalue_name's too; what is read, its size and the answer for none differ, so that one function for both is longer.
 pub fn constant_of(words: &[u32], constants: usize, i: u32) -> Constant
     ensures { (text : List ℕ) (l : List Value) → StandsAt words.now text constants (list constant_piece l) → value_of text result ≡ constant_at l i }
 {

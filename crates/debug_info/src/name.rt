@@ -1,17 +1,20 @@
 // Names, and writing them.
 ghost use Rattle.std.specs.Prelude.{List, [], ◌≡◌, ℕ};
 ghost use Rattle.lent.specs.Memory.{Puts};
-ghost use Rattle.format.specs.Dump.{write_left, written};
+ghost use Rattle.lent.specs.Writer.{Writes};
+ghost use Rattle.format.specs.Dump.{written};
 ghost use Rattle.format.specs.Store.{string};
 ghost use Rattle.format.specs.Constants.{value_of};
 ghost use Rattle.proto.specs.Walk.{StandsAt};
 ghost use Rattle.debug_info.specs.Names.{constant_name, global_of};
+ghost use Rattle.debug_info.specs.Kind.{number};
 ghost use Rattle.debug_info.specs.Known.{name_of, object_of};
+ghost use Rattle.debug_info.specs.Calls.{written_left};
 
-use format::{Constant, Written};
-use lent::put_bytes;
+use format::{Constant, Refusal};
+use lent::Writer;
 use proto::walk::{part, skip, word_at};
-use utf8::repair;
+use utf8::put_repaired;
 
 // A name: ?, or its place and length in the text; a constant's is repaired as it is written.
 #[derive(Clone, Copy)]
@@ -21,20 +24,30 @@ pub enum Name {
     Constant(usize, usize),
 }
 
-// What is known of a register: a kind, and a name; kind 0 and an empty name where nothing is.
-#[derive(Clone, Copy)]
-pub struct Known {
-    pub kind: u32,
-    pub name: Name,
+// What a name is of.
+#[derive(Clone, Copy, Debug, PartialEq, Eq)]
+pub enum Kind {
+    Local = 1,
+    Global = 2,
+    Field = 3,
+    Upvalue = 4,
+    Method = 5,
 }
 
-pub fn nothing() -> Known
-    ensures { (text : List ℕ) → object_of text result ≡ record { kind = 0; name = [] } }
-{
-    Known {
-        kind: 0,
-        name: Name::Text(0, 0),
+impl Kind {
+    // Its number.
+    pub fn number(self) -> u32
+        ensures { result ≡ number self }
+    {
+        self as u32
     }
+}
+
+// What is known of a register, where something is: a kind, and a name.
+#[derive(Clone, Copy)]
+pub struct Known {
+    pub kind: Kind,
+    pub name: Name,
 }
 
 // The name whose place and length stand at a place.
@@ -51,36 +64,32 @@ pub fn constant_name(k: Constant) -> Name
     ensures { (text : List ℕ) → name_of text result ≡ constant_name (value_of text k) }
 {
     match k {
-        Constant::Nil => Name::Unknown,
-        Constant::Bool(_) => Name::Unknown,
-        Constant::Num(_, _) => Name::Unknown,
         Constant::String(start, len) => Name::Constant(start, len),
+        _ => Name::Unknown,
     }
 }
 
 // The global that a constant names: nothing where it is no string.
-pub fn global_of(k: Constant) -> Known
+pub fn global_of(k: Constant) -> Option<Known>
     ensures { (text : List ℕ) → object_of text result ≡ global_of (value_of text k) }
 {
     match k {
-        Constant::Nil => nothing(),
-        Constant::Bool(_) => nothing(),
-        Constant::Num(_, _) => nothing(),
-        Constant::String(start, len) => Known {
-            kind: 2,
+        Constant::String(start, len) => Some(Known {
+            kind: Kind::Global,
             name: Name::Constant(start, len),
-        },
+        }),
+        _ => None,
     }
 }
 
-// Writes a name from the start of out. Answers its length.
-fn put_name(text: &[u8], name: Name, out: &mut [u8]) -> usize
-    ensures { Puts (name_of text.now name) 0 out.old result out.new }
+// Writes a name.
+fn put_name(w: &mut Writer, text: &[u8], name: Name)
+    ensures { Writes (name_of text.now name) w.old w.new }
 {
     match name {
-        Name::Unknown => put_bytes(out, 0, b"?"),
-        Name::Text(start, len) => put_bytes(out, 0, part(text, start, len)),
-        Name::Constant(start, len) => repair(part(text, start, len), out, 0),
+        Name::Unknown => w.put_bytes(b"?"),
+        Name::Text(start, len) => w.put_bytes(part(text, start, len)),
+        Name::Constant(start, len) => put_repaired(w, part(text, start, len)),
     }
 }
 
@@ -89,20 +98,23 @@ pub fn name_len(text: &[u8], name: Name) -> usize
     ensures { Puts (name_of text.now name) 0 [] result [] }
 {
     let mut none = [0u8; 0];
-    put_name(text, name, &mut none)
+    let mut w = Writer {
+        out: &mut none,
+        at: 0,
+    };
+    put_name(&mut w, text, name);
+    w.at
 }
 
-// Writes a name where it fits, else 11.
-pub fn write_name(text: &[u8], name: Name, out: &mut [u8]) -> Written
-    ensures { write_left result out.new ≡ written (name_of text.now name) out.old }
+// Writes a name from the start of out where it fits, and answers its length. Refused by 11.
+pub fn write_name(text: &[u8], name: Name, out: &mut [u8]) -> Result<usize, Refusal>
+    ensures { written_left result out.new ≡ written (name_of text.now name) out.old }
 {
     let n = name_len(text, name);
     if out.len() < n {
-        return Written {
-            refusal: 11,
-            len: 0,
-        };
+        return Err(Refusal::TooLittleOutput);
     }
-    put_name(text, name, out);
-    Written { refusal: 0, len: n }
+    let mut w = Writer { out, at: 0 };
+    put_name(&mut w, text, name);
+    Ok(n)
 }

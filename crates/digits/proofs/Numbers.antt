@@ -1,7 +1,7 @@
 -- Laws of digits: how many there are, and storing them from the last to the first.
-use Rattle.lent.proofs.Prelude.{ℕ, zero, suc, ◌+◌, ◌-◌, ◌/◌, ◌%◌, ◌^◌, ◌≤◌, ◌<◌, ◌≡◌, refl, ap, ◌∙◌, Bool, true, false, cond, List, [], ◌∷◌, ◌++◌, arith, dec_le, length, set, length-append, sets, set_comm, ltb, lt-ltb, le-ltb}
+use Rattle.lent.proofs.Prelude.{ℕ, zero, suc, ◌+◌, ◌-◌, ◌*◌, ◌/◌, ◌%◌, ◌^◌, ◌≤◌, ◌<◌, ◌≡◌, refl, ap, ◌∙◌, cond, max, List, [], ◌∷◌, Bool, true, false, arith, length, set, length-append, sets, set_comm, ltb, lt-ltb, le-ltb}
 use Rattle.lent.proofs.Writes.{sets_append}
-use Rattle.digits.specs.Digits.{digit, digits, places, places_within, decimal}
+use Rattle.digits.specs.Digits.{digit, digits, places, places_within}
 
 -- ---- how many digits a number has
 
@@ -21,46 +21,21 @@ pub places_more : (n : ℕ) → 10 ≤ n → n < 2 ^ 64 → places n ≡ suc (pl
 unfolding places_within
 places_more n h k = rw (le-ltb n 10 h) (ap suc (within_any 19 20 (n / 10) (omega arith) (omega arith)))
 
+-- a number from 10 ^ k on and below 10 ^ (k + 1) has k + 1 digits, and 0 has one
+pub places_is : (k n : ℕ) → n < 2 ^ 64 → 10 ^ k ≤ max n 1 → max n 1 < 10 * 10 ^ k → places n ≡ k + 1
+places_is zero n b l h = places_one n (omega arith)
+places_is (suc k) n b l h = places_more n (omega arith) b ∙ ap suc (places_is k (n / 10) (omega arith) (omega arith) (omega arith)) ∙ omega arith
+
+cond_most : (t : Bool) (m n : ℕ) → m ≤ n → cond t 1 (suc m) ≤ suc n
+cond_most true m n h = omega arith
+cond_most false m n h = omega arith
+
 -- a number below 10 ^ (k + 1) has at most k + 1 digits
-pub places_most : (f k n : ℕ) → n < 10 ^ suc k → places_within f n ≤ suc k
+pub places_most : (f k n : ℕ) → n < 10 * 10 ^ k → places_within f n ≤ suc k
 unfolding places_within
 places_most zero k n h = omega arith
 places_most (suc f) zero n h = rw (lt-ltb n 10 (omega arith)) (omega arith)
-places_most (suc f) (suc k) n h = by (ltb n 10) (places_most f k (n / 10) (omega arith)) where
-  by : {m : ℕ} (b : Bool) → m ≤ suc k → cond b 1 (suc m) ≤ suc (suc k)
-  by true g = omega arith
-  by false g = omega arith
-
--- below 100000, by four tests
-pub places_few : (n : ℕ) → n < 100000 → places n ≡ 1 + cond (ltb n 10) 0 1 + cond (ltb n 100) 0 1 + cond (ltb n 1000) 0 1 + cond (ltb n 10000) 0 1
-places_few n h = elim (dec_le 10 n) [
-  | no a ↦ let g : n < 10 = omega arith in places_one n g ∙ rw (lt-ltb n 10 g, lt-ltb n 100 (omega arith), lt-ltb n 1000 (omega arith), lt-ltb n 10000 (omega arith))
-  | yes a ↦ places_more n a (omega arith) ∙ elim (dec_le 100 n) [
-    | no b ↦ rw (le-ltb n 10 a, lt-ltb n 100 (omega arith), lt-ltb n 1000 (omega arith), lt-ltb n 10000 (omega arith), places_one (n / 10) (omega arith))
-    | yes b ↦ ap suc (places_more (n / 10) (omega arith) (omega arith)) ∙ elim (dec_le 1000 n) [
-      | no c ↦ rw (le-ltb n 10 a, le-ltb n 100 b, lt-ltb n 1000 (omega arith), lt-ltb n 10000 (omega arith), places_one (n / 10 / 10) (omega arith))
-      | yes c ↦ ap (λ p. suc (suc p)) (places_more (n / 10 / 10) (omega arith) (omega arith)) ∙ elim (dec_le 10000 n) [
-        | no d ↦ rw (le-ltb n 10 a, le-ltb n 100 b, le-ltb n 1000 c, lt-ltb n 10000 (omega arith), places_one (n / 10 / 10 / 10) (omega arith))
-        | yes d ↦
-            ap (λ p. suc (suc (suc p))) (places_more (n / 10 / 10 / 10) (omega arith) (omega arith))
-            ∙ rw (le-ltb n 10 a, le-ltb n 100 b, le-ltb n 1000 c, le-ltb n 10000 d, places_one (n / 10 / 10 / 10 / 10) (omega arith))
-      ]
-    ]
-  ]
-]
-
--- ---- a number is the one in front of its last digit, and that
-
-pub digit_ten : (d : ℕ) → d < 10 → digit d ≡ 48 + d
-digit_ten d h = rw (lt-ltb d 10 h)
-
-pub decimal_one : (n : ℕ) → n < 10 → decimal n ≡ digit (n % 10) ∷ []
-unfolding digits
-decimal_one n h = rw (places_one n h)
-
-pub decimal_more : (n : ℕ) → 10 ≤ n → n < 2 ^ 64 → decimal n ≡ decimal (n / 10) ++ (digit (n % 10) ∷ [])
-unfolding digits
-decimal_more n h k = rw (places_more n h k)
+places_most (suc f) (suc k) n h = cond_most (ltb n 10) _ (suc k) (places_most f k (n / 10) (omega arith))
 
 -- ---- storing digits
 

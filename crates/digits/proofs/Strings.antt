@@ -1,8 +1,9 @@
 -- Laws of quoted strings: bytes that are written as themselves, one after the other.
-use Rattle.lent.proofs.Prelude.{ℕ, suc, ◌+◌, ◌-◌, ◌≤◌, ◌<◌, ◌≡◌, refl, ◌∙◌, true, false, and-eq-true_iff, List, [], ◌∷◌, ◌++◌, append_assoc, arith, sub_self, length, take, drop, get_or, length-drop, drop_of_length-le, take-suc, get_or-drop, leb, lt-ltb, leb-true, ne_eqb}
+use Rattle.lent.proofs.Prelude.{ℕ, suc, Bool, cond, ltb, ◌+◌, ◌-◌, ◌≤◌, ◌<◌, ◌≡◌, refl, ◌∙◌, true, false, and-eq-true_iff, List, [], ◌∷◌, ◌++◌, append_assoc, arith, length, take, drop, get_or, length-drop, drop_of_length-le, take-suc, get_or-drop, leb, leb-true, ne_eqb}
+use Rattle.std.specs.Prelude.{Some, None}
 use Rattle.lent.specs.Memory.{Every}
 use Rattle.lent.proofs.Lists.{drop_more}
-use Rattle.digits.specs.Digits.{digits, letters, letter_in, is_print, escape, escaped, Plain}
+use Rattle.digits.specs.Digits.{digits, letters, letter_in, letter, is_print, escape, escaped, Plain}
 
 -- ---- one byte
 
@@ -12,25 +13,36 @@ unfolding letter_in Every
 letter_none [] b h = refl
 letter_none (row ∷ rows) b h = rw (ne_eqb b row.0 h.0) (letter_none rows b h.1)
 
-pub escape_letter : (b : ℕ) → 0 < letter_in letters b → escape b ≡ 92 ∷ letter_in letters b ∷ []
+pub escape_letter : (b l : ℕ) → letter b ≡ Some l → escape b ≡ 92 ∷ l ∷ []
 unfolding escape
-escape_letter b h = rw (lt-ltb 0 (letter_in letters b) h)
+escape_letter b l = by _ _ (ltb 0 (letter_in letters b))
+  where
+    by : (m : ℕ) (other : List ℕ) (t : Bool) → cond t (Some m) None ≡ Some l → cond t (92 ∷ m ∷ []) other ≡ 92 ∷ l ∷ []
+    by m other true e = cc
+    by m other false e = cc
 
-module _ (b : ℕ) (none : letter_in letters b ≡ 0) where
+-- a byte with no letter
+escape_other : (b : ℕ) → letter b ≡ None → escape b ≡ cond (is_print b) (b ∷ []) (92 ∷ digits 10 3 b)
+unfolding escape
+escape_other b = by _ _ _ (ltb 0 (letter_in letters b))
+  where
+    by : (m : ℕ) (some other : List ℕ) (t : Bool) → cond t (Some m) None ≡ None → cond t some other ≡ other
+    by m some other true e = cc
+    by m some other false e = refl
+
+module _ (b : ℕ) (none : letter b ≡ None) where
   pub escape_print : is_print b ≡ true → escape b ≡ b ∷ []
-  unfolding escape
-  escape_print h = rw (none, h)
+  escape_print h = escape_other b none ∙ rw h
 
   pub escape_digits : is_print b ≡ false → escape b ≡ 92 ∷ digits 10 3 b
-  unfolding escape
-  escape_digits h = rw (none, h)
+  escape_digits h = escape_other b none ∙ rw h
 
 -- a byte that has no letter because it is no quote, no backslash and no control byte
 pub escape_plain : (b : ℕ) → (b ≡ 34 → ⊥) → (b ≡ 92 → ⊥) → is_print b ≡ true → escape b ≡ b ∷ []
 unfolding Every
 escape_plain b quote backslash h =
     let l : 32 ≤ b = leb-true 32 b ((and-eq-true_iff (leb 32 b) (leb b 126)).0 h).0 in
-    escape_print b (letter_none letters b (omega arith)) h
+    escape_print b (rw (letter_none letters b (omega arith))) h
 
 -- ---- bytes one after the other
 
@@ -42,9 +54,6 @@ escaped_more s i h = rw (drop_more s i h)
 pub escaped_none : (s : List ℕ) (i : ℕ) → length s ≤ i → escaped (drop i s) ≡ []
 unfolding escaped
 escaped_none s i h = rw (drop_of_length-le s h)
-
-pub plain_none : (s : List ℕ) (at : ℕ) → at ≤ length s → Plain s at at
-plain_none s at h = record { from = omega arith; within = h; same = rw sub_self }
 
 -- one byte more
 pub plain_more : (s : List ℕ) (at i : ℕ) → Plain s at i → i < length s → escape (get_or s i 0) ≡ get_or s i 0 ∷ [] → Plain s at (i + 1)

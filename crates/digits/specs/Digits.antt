@@ -1,5 +1,5 @@
 -- Numbers and strings as text: Rust's {n}, {n:016x} and {n:03}, and listing.rs's format_string.
-use Rattle.std.specs.Prelude.{ℕ, zero, suc, ◌+◌, ◌-◌, ◌*◌, ◌/◌, ◌%◌, ◌^◌, ◌≤◌, ◌≡◌, Bool, cond, ◌&&◌, List, [], ◌∷◌, ◌++◌, length, take, drop, leb, ltb, eqb}
+use Rattle.std.specs.Prelude.{ℕ, zero, suc, ◌+◌, ◌-◌, ◌*◌, ◌/◌, ◌%◌, ◌^◌, ◌≤◌, ◌≡◌, Bool, cond, ◌&&◌, List, [], ◌∷◌, ◌++◌, length, take, drop, leb, ltb, eqb, Option, Some, None}
 
 -- ==== numbers
 
@@ -47,6 +47,10 @@ letters = (34, 34) ∷ (92, 92) ∷ (7, 97) ∷ (8, 98) ∷ (12, 102) ∷ (10, 1
 unfoldable pub letter_in : List (ℕ × ℕ) → ℕ → ℕ
 letter_in [] b = 0
 letter_in (row ∷ rows) b = cond (eqb b row.0) row.1 (letter_in rows b)
+
+-- the letter of a byte, if it has one
+abbrev pub letter : ℕ → Option ℕ
+letter b = cond (ltb 0 (letter_in letters b)) (Some (letter_in letters b)) None
 
 -- whether a byte is graphic ASCII or a space
 abbrev pub is_print : ℕ → Bool

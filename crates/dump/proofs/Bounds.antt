@@ -1,5 +1,5 @@
 -- How long a chunk is at most: 12 bytes, five for each word of its store, its text, and the chunk name.
-use Rattle.lent.proofs.Prelude.{ℕ, ◌+◌, ◌-◌, ◌*◌, ◌/◌, ◌≤◌, ◌≡◌, refl, List, [], ◌∷◌, ◌++◌, Bool, true, false, cond, arith, length, length-append, leb, leb-true}
+use Rattle.lent.proofs.Prelude.{ℕ, ◌+◌, ◌*◌, ◌≤◌, ◌≡◌, refl, List, [], ◌∷◌, ◌++◌, Bool, true, false, cond, arith, length, length-append}
 use Rattle.lent.specs.Memory.{Every}
 use Rattle.format.specs.Tree.{Constant, Source, Local, Debug, Parts, Function, Functions, filled, kept}
 use Rattle.format.specs.Read.{same}
@@ -108,6 +108,3 @@ chunk_bound (Function.function p fs) strip size4 name =
     let b = (bound_parts p fs strip size4 [] name (length name) (bound_root_source size4 [] name p.source) (bound_functions fs strip size4 (filled name p.source))).bound 0 in
     let l : length (dump_chunk strip size4 name (Function.function p fs)) ≡ 12 + length (dump_function (Function.function p fs) strip size4 [] name) = length-append (dump_header size4) (dump_function (Function.function p fs) strip size4 [] name) in
     omega (arith, b, l)
-
-pub room_left : (space words a b : ℕ) → 12 ≤ space → a ≤ space - 12 → b ≤ space - 12 - a → leb words ((space - 12 - a - b) / 5) ≡ true → 12 + 5 * words + a + b ≤ space
-room_left space words a b h i j e = let k = leb-true words ((space - 12 - a - b) / 5) e in omega (arith, k)

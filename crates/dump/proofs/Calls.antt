@@ -1,7 +1,7 @@
 -- The chunk of the tree that a store holds, and the call.
 use Rattle.lent.proofs.Prelude.{ℕ, zero-le, ◌+◌, ◌*◌, ◌^◌, ◌≤◌, ◌<◌, ◌≡◌, sym, ap, ◌∙◌, List, [], Bool, true, false, not, arith, length, length-append, not-true, not-false}
 use Rattle.lent.specs.Memory.{far, Puts}
-use Rattle.lent.proofs.Writes.{put_length, put_then}
+use Rattle.lent.proofs.Writes.{put_length}
 use Rattle.format.specs.Tree.{Function}
 use Rattle.format.specs.Store.{function_piece}
 use Rattle.format.specs.Valid.{depth, Valid, Holds}
@@ -13,13 +13,8 @@ use Rattle.format.specs.declared.Written.{Written}
 use Rattle.proto.specs.Formed.{is_held}
 use Rattle.proto.proofs.Stores.{held_tree}
 use Rattle.proto.proofs.Calls.{root_stands, refused_name, refused_store, roomy_written, refused_room, all_written}
-use Rattle.dump.specs.Step.{Reached, Dumps, Ready, ChunkFits}
+use Rattle.dump.specs.Step.{Ready, ChunkFits}
 use Rattle.dump.proofs.Bounds.{chunk_bound}
-
-pub chunk_puts : {words text out out₁ : List ℕ} {a : ℕ} {r : Reached} (strip size4 : Bool) (name : List ℕ) → Puts (dump_header size4) 0 out a out₁
-    → ((f : Function) → Valid f depth → Dumps words text (function_piece f) (dump_function f strip size4 [] name) (record { at = 0; len = a; out = out₁ }) r)
-    → (f : Function) → Holds words text f → Puts (dump_chunk strip size4 name f) 0 out r.len r.out
-chunk_puts strip size4 name p d f h = put_then p ((d f h.valid).dumps 0 (root_stands h)).1
 
 -- ---- what the chunk asks for
 

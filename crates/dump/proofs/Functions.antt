@@ -1,23 +1,24 @@
 -- Functions: their source, and their parts one behind the other.
-use Rattle.lent.proofs.Prelude.{ℕ, suc, ◌+◌, ◌-◌, ◌≤◌, min, ◌≡◌, refl, sym, ◌∙◌, List, [], ◌∷◌, ◌++◌, append_assoc, append-nil, Bool, true, false, cond, arith, add_assoc, length, drop, get_or, length-append, sets, eqb, ne_eqb}
-use Rattle.lent.specs.Memory.{Every, far, Puts}
+use Rattle.lent.proofs.Prelude.{ℕ, suc, ◌+◌, ◌-◌, ◌≤◌, ◌≡◌, refl, sym, ◌∙◌, List, [], ◌∷◌, ◌++◌, append_assoc, append-nil, Bool, true, false, cond, arith, add_assoc, length, drop, get_or, length-append, sets, eqb, ne_eqb}
+use Rattle.lent.specs.Memory.{Every, Puts}
 use Rattle.format.specs.Tree.{Constant as Value}
 use Rattle.format.specs.Tree.{Source, Parts, Function, Functions, count, filled, kept}
 use Rattle.format.specs.Read.{same, width_of}
 use Rattle.format.specs.Store.{Piece, plain, word, ◌⊕◌, pieces, list, ints, source_piece, constant_piece, debug_piece, packed, function_piece, children_piece}
 use Rattle.format.specs.Valid.{ValidParts, Valid, ValidAll}
 use Rattle.format.specs.Write.{dump_int, dump_size, dump_string, dump_text, dump_list, dump_code, dump_constant, dump_constants, dump_debug, dump_function, dump_functions, elided, each}
-use Rattle.format.proofs.Loops.{Loop}
+use lib.Pointwise.{pointwise}
 use Rattle.format.proofs.RoundTrip.{same_is}
 use Rattle.proto.specs.Walk.{Stands, Skips, children}
 use Rattle.proto.proofs.Sublists.{here_get}
 use Rattle.proto.proofs.Pieces.{Same, same_is as same-pieces, same_trans, same_behind, stands_left, source_words}
 use Rattle.proto.proofs.Walks.{past_words}
 use Rattle.proto.proofs.Stores.{children_count, children_list, every_valid}
-use Rattle.dump.specs.Step.{Reached, Dumps, Fits, Ready, SourceFits, Any, constants_piece, around}
+use Rattle.dump.specs.Step.{Reached, State, Dumps, Fits, Ready, SourceFits, Any, Ahead, counting, Kept, DumpsAt, Done, ReadyAt, constants_piece, around}
+use Rattle.dump.specs.declared.count.Counter.{Counter}
 use Rattle.dump.proofs.Blocks.{int_length, size_length, string_length, puts_in}
-use Rattle.dump.proofs.Steps.{Segment, segment, Made, made_two, Left, dumps_past, dumps_made, each_none, each_next, left_made, left_first, left_rest, Step, WordStep, PackedStep, CodeStep, WordRoom, CodeRoom, reached_at, word_fits, code_fits, three_within}
-use Rattle.dump.proofs.Lists.{DumpsAll, looped, puts_counted}
+use Rattle.dump.proofs.Steps.{Segment, segment, Made, made_two, Left, LeftAt, dumps_past, dumps_made, each_none, left_made, left_first, kept_then, then_each, then_left, WordDone, PackedDone, CodeDone, WordRoom, CodeRoom, reached_at, word_fits, code_fits}
+use Rattle.dump.proofs.Lists.{puts_counted}
 
 -- ---- the source
 
@@ -27,12 +28,20 @@ elided_root root [] outer e = rw e
 elided_root root (a ∷ source) outer e = rw e (ne_eqb (suc (length source)) 0 (λ z. omega arith))
 
 pub elided_inherited : {words t : List ℕ} {at to x : ℕ} (root : Bool) (source outer : List ℕ) (s : Source) → root ≡ false → x ≡ get_or words at 0 → x ≡ 0
-    → Stands words t at to (source_piece s) → source ≡ filled outer s → true ≡ same source (around root outer)
-elided_inherited root source outer Source.inherited e g z h f = sym (rw (e, f) (same_is true outer outer ((λ k. refl), λ k. refl)))
+    → Stands words t at to (source_piece s) → source ≡ filled outer s → eqb x 0 ≡ same source (around root outer)
+elided_inherited root source outer Source.inherited e g z h f = sym (rw (e, f, z) (same_is true outer outer ((λ k. refl), λ k. refl)))
 elided_inherited root source outer (Source.own s) e g z h f = absurd (omega (arith, here_get 1 _ h.in_words))
 
-pub elided_compared : (t root : Bool) (source outer : List ℕ) → root ≡ false → (t ≡ true → source ≡ outer) × (source ≡ outer → t ≡ true) → t ≡ same source (around root outer)
-elided_compared t root source outer e h = sym (rw e (same_is t source outer h))
+-- the test of two slices by == is the definition's
+same_slices : (a b : List ℕ) → pointwise eqb a b ≡ same a b
+unfolding same
+same_slices [] [] = refl
+same_slices [] (b ∷ t) = refl
+same_slices (a ∷ s) [] = refl
+same_slices (a ∷ s) (b ∷ t) = rw (same_slices s t) refl
+
+pub elided_compared : (t root : Bool) (source outer : List ℕ) → root ≡ false → t ≡ pointwise eqb source outer → t ≡ same source (around root outer)
+elided_compared t root source outer e h = h ∙ rw e (same_slices source outer)
 
 -- a source, none where it is elided
 abbrev pub source_bytes : Bool → Bool → List ℕ → List ℕ
@@ -55,32 +64,32 @@ module _ (at : ℕ) (source out : List ℕ) (e size4 : Bool) (r : at + length (s
 abbrev pub SourceIs : (words text outer source : List ℕ) (at : ℕ) → Type 0
 SourceIs words text outer source at = (v : Source) (to : ℕ) → Stands words text at to (source_piece v) → source ≡ filled outer v
 
-abbrev pub SourceStep : (size4 : Bool) (words around outer source : List ℕ) (s r : Reached) → Type 0
-SourceStep size4 words around outer source s r =
-    (v : Source) (t : List ℕ) → ((to : ℕ) → Stands words t s.at to (source_piece v) → source ≡ filled outer v) → Dumps words t (source_piece v) (dump_string size4 (elided around source)) s r
+abbrev pub SourceDone : (around outer source : List ℕ) → State → State → Type 0
+SourceDone around outer source s r =
+    Kept s r × ((v : Source) → ((to : ℕ) → Stands s.words s.text s.reached.at to (source_piece v) → source ≡ filled outer v) → DumpsAt (source_piece v) (dump_string s.options.size_4 (elided around source)) s r)
 
 module _ {words : List ℕ} {at : ℕ} {e : Bool} (size4 root : Bool) (outer source : List ℕ)
     (f : (s : Source) (t : List ℕ) (to : ℕ) → Stands words t at to (source_piece s) → source ≡ filled outer s → e ≡ same source (around root outer)) where
-  pub source_dumped : {a len n : ℕ} {out out' : List ℕ} → Skips words 3 at a → Puts (source_bytes size4 e source) len out n out' → SourceStep size4 words (around root outer) outer source (reached_at at len out) (reached_at a n out')
+  pub source_dumped : {a len n : ℕ} {out out' : List ℕ} → Skips words 3 at a → Puts (source_bytes size4 e source) len out n out'
+      → (v : Source) (t : List ℕ) → ((to : ℕ) → Stands words t at to (source_piece v) → source ≡ filled outer v) → Dumps words t (source_piece v) (dump_string size4 (elided (around root outer) source)) (reached_at at len out) (reached_at a n out')
   source_dumped s p v t h = dumps_past (past_words 3 (source_piece v) (source_words v) s) (λ to k. rw (f v t to k (h to k)) at p)
-
-  pub elided_counted : {a len n w : ℕ} → w ≡ width_of size4 → e ≡ true → Skips words 3 at a → n ≡ min (len + w) far → SourceStep size4 words (around root outer) outer source (reached_at at len []) (reached_at a n [])
-  elided_counted k h s p = source_dumped s (rw h (puts_counted (rw (size_length size4 0, ← k) p)))
-
-  pub own_counted : {a len m n w : ℕ} → w ≡ width_of size4 → e ≡ false → Skips words 3 at a → m ≡ min (len + length source) far → n ≡ min (m + (w + 1)) far → SourceStep size4 words (around root outer) outer source (reached_at at len []) (reached_at a n [])
-  own_counted k h s p q = source_dumped s (rw h (puts_counted (omega (arith, string_length size4 source))))
 
   pub source_room : {len : ℕ} {out : List ℕ} → SourceFits words outer source (dump_string size4 (elided (around root outer) source)) (reached_at at len out) → len + length (source_bytes size4 e source) ≤ length out
   source_room r = rw (f r.value r.text r.fits.to r.fits.stands r.filled_in) r.fits.room
 
-pub source_within : {words outer source bytes : List ℕ} {s : Reached} → SourceFits words outer source bytes s → s.at + 3 ≤ length words
-source_within r = three_within (source_piece r.value) (source_words r.value) r.fits
+-- counted
+module _ {c r : Counter} {e : Bool} (root : Bool) (outer source : List ℕ)
+    (f : (s : Source) (t : List ℕ) (to : ℕ) → Stands c.store.words.now t c.at to (source_piece s) → source ≡ filled outer s → e ≡ same source (around root outer)) where
+  source_counted : {n : ℕ} → n ≡ length (source_bytes c.options.size_4 e source) → Ahead 3 n c r → SourceDone (around root outer) outer source (counting c) (counting r)
+  source_counted q a = (a.kept, λ v h. source_dumped c.options.size_4 root outer source f a.at (puts_counted (rw (← q) a.len)) v _ h)
+
+  pub elided_counted : {w : ℕ} → w ≡ width_of c.options.size_4 → e ≡ true → Ahead 3 w c r → SourceDone (around root outer) outer source (counting c) (counting r)
+  elided_counted k h = source_counted (rw h (k ∙ sym (size_length c.options.size_4 0)))
+
+  pub own_counted : {w : ℕ} → w ≡ width_of c.options.size_4 → e ≡ false → Ahead 3 (w + length source + 1) c r → SourceDone (around root outer) outer source (counting c) (counting r)
+  own_counted k h = source_counted (rw h (omega (arith, string_length c.options.size_4 source)))
 
 -- ---- the constants and the functions
-
-abbrev pub ConstantsStep : (words text : List ℕ) (n : ℕ) (strip size4 : Bool) (source : List ℕ) (s r : Reached) → Type 0
-ConstantsStep words text n strip size4 source s r =
-    (ks : List Value) (fs : Functions) → ValidAll fs n → Dumps words text (constants_piece ks fs) (dump_constants size4 ks (count fs) (dump_functions fs strip size4 source)) s r
 
 -- the functions in a function, as a list
 children_bytes : (fs : Functions) (strip size4 : Bool) (source : List ℕ) → each (λ f. dump_function f strip size4 source source) (children fs) ≡ dump_functions fs strip size4 source
@@ -99,20 +108,27 @@ constants_made strip size4 source ks fs =
     append_assoc (dump_list (dump_constant size4) ks) (dump_int (count fs)) (dump_functions fs strip size4 source) ∙ rw (children_count fs, children_bytes fs strip size4 source) in
     record { piece = same_trans (same_behind (list constant_piece ks) (same-pieces (sym (children_list fs)))) m.piece; bytes = e ∙ m.bytes }
 
-module _ {words text : List ℕ} (n : ℕ) (strip size4 : Bool) (source : List ℕ) where
-  pub constants_dumped : {k i : ℕ} {s a b r : Reached} → Step (list constant_piece) (dump_list (dump_constant size4)) words text s a → k ≡ get_or words a.at 0 → WordStep words a b → k ≤ i
-      → Loop (DumpsAll words text (λ f. Valid f n) function_piece (λ f. dump_function f strip size4 source source)) k b i r → ConstantsStep words text n strip size4 source s r
-  constants_dumped d e w h l ks fs v = dumps_made (constants_made strip size4 source ks fs) (each_next (d ks) (each_next (looped h e w l (children fs) (every_valid n fs v)) each_none))
+abbrev pub ConstantsReady : (n : ℕ) (strip size4 : Bool) (source : List ℕ) → State → Type 0
+ConstantsReady n strip size4 source s = ReadyAt {A = List Value × Functions} (λ v. ValidAll v.1 n) (λ v. constants_piece v.0 v.1) (λ v. dump_constants size4 v.0 (count v.1) (dump_functions v.1 strip size4 source)) s
 
-  module _ {s : Reached} (r : Ready {A = List Value × Functions} words text (λ v. ValidAll v.1 n) (λ v. constants_piece v.0 v.1) (λ v. dump_constants size4 v.0 (count v.1) (dump_functions v.1 strip size4 source)) s) where
-    constants_left : Left words text (constants_segments strip size4 source r.value.0 r.value.1) s
-    constants_left = left_made (constants_made strip size4 source r.value.0 r.value.1) r.fits
+module _ {words text : List ℕ} (n : ℕ) (strip size4 : Bool) (source : List ℕ) {s : Reached} (r : Ready {A = List Value × Functions} words text (λ v. ValidAll v.1 n) (λ v. constants_piece v.0 v.1) (λ v. dump_constants size4 v.0 (count v.1) (dump_functions v.1 strip size4 source)) s) where
+  constants_left : Left words text (constants_segments strip size4 source r.value.0 r.value.1) s
+  constants_left = left_made (constants_made strip size4 source r.value.0 r.value.1) r.fits
 
-    pub values_ready : Ready words text Any (list constant_piece) (dump_list (dump_constant size4)) s
-    values_ready = record { value = r.value.0; valid = tt; fits = left_first constants_left }
+  pub values_ready : Ready words text Any (list constant_piece) (dump_list (dump_constant size4)) s
+  values_ready = record { value = r.value.0; valid = tt; fits = left_first constants_left }
 
-    pub children_ready : {m : Reached} → Step (list constant_piece) (dump_list (dump_constant size4)) words text s m → Ready words text (Every (λ f. Valid f n)) (list function_piece) (dump_list (λ f. dump_function f strip size4 source source)) m
-    children_ready d = record { value = children r.value.1; valid = every_valid n r.value.1 r.valid; fits = left_first (left_rest constants_left (d r.value.0)) }
+module _ (n : ℕ) (strip size4 : Bool) (source : List ℕ) where
+  abbrev pub ConstantsDone : State → State → Type 0
+  ConstantsDone s r = Kept s r × ((ks : List Value) (fs : Functions) → ValidAll fs n → DumpsAt (constants_piece ks fs) (dump_constants size4 ks (count fs) (dump_functions fs strip size4 source)) s r)
+
+  module _ {s a : State} (w : Done (list constant_piece) (dump_list (dump_constant size4)) s a) where
+    pub constants_done : {r : State} → Kept a r × ((l : List Function) → Every (λ f. Valid f n) l → DumpsAt (list function_piece l) (dump_list (λ f. dump_function f strip size4 source source) l) a r) → ConstantsDone s r
+    constants_done x =
+        (kept_then w.0 x.0, λ ks fs v. dumps_made (constants_made strip size4 source ks fs) (then_each w.0 (w.1 ks) (then_each x.0 (x.1 (children fs) (every_valid n fs v)) each_none)))
+
+    pub children_ready : ConstantsReady n strip size4 source s → ReadyAt (Every (λ f. Valid f n)) (list function_piece) (dump_list (λ f. dump_function f strip size4 source source)) a
+    children_ready r = record { value = children r.value.1; valid = every_valid n r.value.1 r.valid; fits = left_first (then_left w.0 (w.1 r.value.0) (constants_left n strip size4 source r)) }
 
 -- ---- a function
 
@@ -159,78 +175,98 @@ valid_parts {n} p fs h v =
     let w : Valid (Function.function p fs) (suc (n - 1)) = rw e at v in
     (w.0, w.2)
 
-pub function_dumped : {words text : List ℕ} {s a b c d e f r : Reached} (n : ℕ) (strip size4 : Bool) (around outer source : List ℕ) → (n ≡ 0 → ⊥) → SourceIs words text outer source s.at
-    → SourceStep size4 words around outer source s a → WordStep words a b → WordStep words b c → PackedStep words c d → CodeStep words d e
-    → ConstantsStep words text (n - 1) strip size4 source e f → Step debug_piece (λ g. dump_debug size4 (kept strip g)) words text f r
-    → (g : Function) → Valid g n → Dumps words text (function_piece g) (dump_function g strip size4 around outer) s r
-function_dumped {text = text} n strip size4 around outer source deep own d₁ d₂ d₃ d₄ d₅ d₆ d₇ (Function.function p fs) v =
-    let w = valid_parts p fs deep v in
-    record {
-      dumps = λ to h.
-          (dumps_made (function_made strip size4 around outer source p fs (own p.source to (source_stands p fs h)))
-          (each_next (d₁ p.source text (own p.source)) (each_next (d₂ p.line_defined text) (each_next (d₃ p.last_line_defined text) (each_next (d₄ p text w.0) (each_next (d₅ p.code text) (each_next (d₆ p.constants fs w.1) (each_next (d₇ p.debug) each_none)))))))
-          ).dumps to h;
-    }
+abbrev pub DebugDone : State → State → Type 0
+DebugDone s r = Done debug_piece (λ g. dump_debug s.options.size_4 (kept s.options.strip g)) s r
+
+module _ {s a b c d e f r : State} (n : ℕ) (around outer source : List ℕ) where
+  pub function_done : (n ≡ 0 → ⊥) → SourceIs s.words s.text outer source s.reached.at → SourceDone around outer source s a → WordDone a b → WordDone b c → PackedDone c d → CodeDone d e
+      → ConstantsDone (n - 1) e.options.strip e.options.size_4 source e f → DebugDone f r
+      → Kept s r × ((g : Function) → Valid g n → DumpsAt (function_piece g) (dump_function g s.options.strip s.options.size_4 around outer) s r)
+  function_done deep own d₁ d₂ d₃ d₄ d₅ d₆ d₇ = (kept_then k₆ d₇.0, go)
+    where
+      k₅ : Kept s e
+      k₅ = kept_then d₁.0 (kept_then d₂.0 (kept_then d₃.0 (kept_then d₄.0 d₅.0)))
+
+      k₆ : Kept s f
+      k₆ = kept_then k₅ d₆.0
+
+      go : (g : Function) → Valid g n → DumpsAt (function_piece g) (dump_function g s.options.strip s.options.size_4 around outer) s r
+      go (Function.function p fs) v =
+          let w = valid_parts p fs deep v in
+          record {
+            dumps = λ to h.
+                let m = function_made s.options.strip s.options.size_4 around outer source p fs (own p.source to (source_stands p fs h)) in
+                let all =
+                then_each d₁.0 (d₁.1 p.source (own p.source)) (then_each d₂.0 (d₂.1 p.line_defined _) (then_each d₃.0 (d₃.1 p.last_line_defined _) (then_each d₄.0 (d₄.1 p _ w.0)
+                (then_each d₅.0 (d₅.1 p.code _) (then_each d₆.0 (rw k₅.options at (d₆.1 p.constants fs w.1)) (then_each d₇.0 (rw k₆.options at (d₇.1 p.debug)) each_none)))))) in
+                (dumps_made m all).dumps to h;
+          }
 
 -- a function that is to be written, taken apart
-pub record Opened (words text : List ℕ) (n : ℕ) (strip size4 : Bool) (around outer source : List ℕ) (s : Reached) : Type 0 where
+pub record Opened (n : ℕ) (around outer source : List ℕ) (s : State) : Type 0 where
   parts : Parts
   functions : Functions
   valid : ValidParts parts × ValidAll functions (n - 1)
   is_own : source ≡ filled outer parts.source
-  left : Left words text (function_segments strip size4 around source parts functions) s
+  left : LeftAt (function_segments s.options.strip s.options.size_4 around source parts functions) s
 
-module _ {words text : List ℕ} {n : ℕ} {strip size4 : Bool} {around outer source : List ℕ} {s : Reached} where
-  pub function_opened : (n ≡ 0 → ⊥) → SourceIs words text outer source s.at → Ready words text (λ f. Valid f n) function_piece (λ f. dump_function f strip size4 around outer) s → Opened words text n strip size4 around outer source s
+module _ {n : ℕ} {around outer source : List ℕ} (s : State) where
+  pub function_opened : (n ≡ 0 → ⊥) → SourceIs s.words s.text outer source s.reached.at → ReadyAt (λ f. Valid f n) function_piece (λ f. dump_function f s.options.strip s.options.size_4 around outer) s → Opened n around outer source s
   function_opened deep own x = go x.value x.valid x.fits
     where
-      go : (g : Function) → Valid g n → Fits words text (function_piece g) (dump_function g strip size4 around outer) s → Opened words text n strip size4 around outer source s
+      go : (g : Function) → Valid g n → Fits s.words s.text (function_piece g) (dump_function g s.options.strip s.options.size_4 around outer) s.reached → Opened n around outer source s
       go (Function.function p fs) v f =
           let g = own p.source f.to (source_stands p fs f.stands) in
-          record { parts = p; functions = fs; valid = valid_parts p fs deep v; is_own = g; left = left_made (function_made strip size4 around outer source p fs g) f }
+          record { parts = p; functions = fs; valid = valid_parts p fs deep v; is_own = g; left = left_made (function_made s.options.strip s.options.size_4 around outer source p fs g) f }
 
-  module _ (o : Opened words text n strip size4 around outer source s) where
+module _ {n : ℕ} {around outer source : List ℕ} {s : State} where
+  module _ (o : Opened n around outer source s) where
     -- the segments from the k-th on are left at m
-    abbrev From : ℕ → Reached → Type 0
-    From k m = Left words text (drop k (function_segments strip size4 around source o.parts o.functions)) m
+    abbrev From : ℕ → State → Type 0
+    From k m = LeftAt (drop k (function_segments s.options.strip s.options.size_4 around source o.parts o.functions)) m
 
-    pub source_ready : SourceFits words outer source (dump_string size4 (elided around source)) s
-    source_ready = record { text = text; value = o.parts.source; filled_in = o.is_own; fits = left_first o.left }
+    pub source_ready : SourceFits s.words outer source (dump_string s.options.size_4 (elided around source)) s.reached
+    source_ready = record { text = s.text; value = o.parts.source; filled_in = o.is_own; fits = left_first o.left }
 
-    module _ {a : Reached} (d₁ : SourceStep size4 words around outer source s a) where
+    module _ {a : State} (d₁ : SourceDone around outer source s a) where
       from₁ : From 1 a
-      from₁ = left_rest o.left (d₁ o.parts.source text (λ to h. o.is_own))
+      from₁ = then_left d₁.0 (d₁.1 o.parts.source (λ to h. o.is_own)) o.left
 
-      pub line_ready : WordRoom words a
+      pub line_ready : WordRoom a.words a.reached
       line_ready = let v = o.parts.line_defined in word_fits v (int_length v) (left_first from₁)
 
-      module _ {b : Reached} (d₂ : WordStep words a b) where
+      module _ {b : State} (d₂ : WordDone a b) where
         from₂ : From 2 b
-        from₂ = left_rest from₁ (d₂ o.parts.line_defined text)
+        from₂ = then_left d₂.0 (d₂.1 o.parts.line_defined _) from₁
 
-        pub last_ready : WordRoom words b
+        pub last_ready : WordRoom b.words b.reached
         last_ready = let v = o.parts.last_line_defined in word_fits v (int_length v) (left_first from₂)
 
-        module _ {c : Reached} (d₃ : WordStep words b c) where
+        module _ {c : State} (d₃ : WordDone b c) where
           from₃ : From 3 c
-          from₃ = left_rest from₂ (d₃ o.parts.last_line_defined text)
+          from₃ = then_left d₃.0 (d₃.1 o.parts.last_line_defined _) from₂
 
-          pub packed_ready : WordRoom words c
+          pub packed_ready : WordRoom c.words c.reached
           packed_ready = word_fits (packed o.parts) refl (left_first from₃)
 
-          module _ {d : Reached} (d₄ : PackedStep words c d) where
+          module _ {d : State} (d₄ : PackedDone c d) where
             from₄ : From 4 d
-            from₄ = left_rest from₃ (d₄ o.parts text o.valid.0)
+            from₄ = then_left d₄.0 (d₄.1 o.parts _ o.valid.0) from₃
 
-            pub code_ready : CodeRoom words d
+            pub code_ready : CodeRoom d.words d.reached
             code_ready = code_fits o.parts.code (left_first from₄)
 
-            module _ {e : Reached} (d₅ : CodeStep words d e) where
+            module _ {e : State} (d₅ : CodeDone d e) where
+              kept₅ : Kept s e
+              kept₅ = kept_then d₁.0 (kept_then d₂.0 (kept_then d₃.0 (kept_then d₄.0 d₅.0)))
+
               from₅ : From 5 e
-              from₅ = left_rest from₄ (d₅ o.parts.code text)
+              from₅ = then_left d₅.0 (d₅.1 o.parts.code _) from₄
 
-              pub constants_ready : Ready {A = List Value × Functions} words text (λ v. ValidAll v.1 (n - 1)) (λ v. constants_piece v.0 v.1) (λ v. dump_constants size4 v.0 (count v.1) (dump_functions v.1 strip size4 source)) e
-              constants_ready = record { value = (o.parts.constants, o.functions); valid = o.valid.1; fits = left_first from₅ }
+              pub constants_ready : ConstantsReady (n - 1) e.options.strip e.options.size_4 source e
+              constants_ready = rw kept₅.options (record { value = (o.parts.constants, o.functions); valid = o.valid.1; fits = left_first from₅ })
 
-              pub debug_ready : {f : Reached} → ConstantsStep words text (n - 1) strip size4 source e f → Ready words text Any debug_piece (λ d. dump_debug size4 (kept strip d)) f
-              debug_ready d₆ = record { value = o.parts.debug; valid = tt; fits = left_first (left_rest from₅ (d₆ o.parts.constants o.functions o.valid.1)) }
+              pub debug_ready : {f : State} → ConstantsDone (n - 1) e.options.strip e.options.size_4 source e f → ReadyAt Any debug_piece (λ d. dump_debug f.options.size_4 (kept f.options.strip d)) f
+              debug_ready d₆ =
+                  rw (d₆.0.options, kept₅.options)
+                  (record { value = o.parts.debug; valid = tt; fits = left_first (then_left d₆.0 (rw kept₅.options at (d₆.1 o.parts.constants o.functions o.valid.1)) from₅) })

@@ -1,6 +1,8 @@
 -- Steps of the writer: one behind the other, what they ask for, and single items.
 use Rattle.lent.proofs.Prelude.{ℕ, suc, ◌+◌, ◌-◌, ◌*◌, ◌/◌, ◌%◌, ◌≤◌, ◌<◌, ◌≡◌, refl, sym, ap, ◌∙◌, List, [], ◌∷◌, ◌++◌, append_assoc, append-nil, Bool, true, false, arith, add-zero, add_assoc, length, take, drop, get_or, set, length-append, length-take, length-set, sets}
 use mir.Val.{bool_byte}
+use mir.Syntax.{w32}
+use Rattle.std.specs.Int.{swap_bytes}
 use Rattle.lent.specs.Memory.{Byte, Puts}
 use Rattle.lent.proofs.Writes.{put_none, put_then, put_length, sets_two}
 use Rattle.format.specs.Tree.{Constant as Value}
@@ -13,15 +15,14 @@ use Rattle.format.specs.Constants.{value_of}
 use Rattle.format.specs.Stored.{part}
 use Rattle.format.proofs.Stored.{here_right, here_part}
 use Rattle.format.specs.declared.Constant.{Constant}
-use Rattle.format.specs.declared.Constant.TheVariants.{Nil, Bool as Truth, Num, String}
+use Rattle.format.specs.declared.Constant.TheVariants.{Bool as Truth, Num, String}
 use Rattle.proto.specs.Constants.{ConstantAt}
 use Rattle.proto.specs.Walk.{Stands, Past}
 use Rattle.proto.proofs.Items.{string_here, skips_on}
 use Rattle.proto.proofs.Sublists.{here_length, here_get, here_item}
 use Rattle.proto.proofs.Walks.{past_word, past_words}
 use Rattle.proto.proofs.Pieces.{Same, stands_same, stands_left, stands_right, constant_words_law}
-use Rattle.dump.specs.declared.list.DumpState.{DumpState}
-use Rattle.dump.specs.Step.{Reached, reached, Dumps, Fits, Ready, Any}
+use Rattle.dump.specs.Step.{Reached, State, Dumps, Fits, Ready, Any, Kept, DumpsAt, Done, ReadyAt}
 use Rattle.dump.proofs.Blocks.{int_length, stored_then, string_length, code_length, puts_in}
 
 -- ---- one behind the other
@@ -117,6 +118,25 @@ module _ {words text : List ℕ} where
     pub left_made : Fits words text p b s → Left words text l s
     left_made f = record { fits = record { to = f.to; stands = stands_same e.piece f.stands; room = rw (← e.bytes) f.room; small = f.small } }
 
+-- ---- with what is kept from step to step
+
+pub kept_none : {s : State} → Kept s s
+kept_none = record { words = refl; text = refl; options = refl; space = refl }
+
+pub kept_then : {s m r : State} → Kept s m → Kept m r → Kept s r
+kept_then k j = record { words = j.words ∙ k.words; text = j.text ∙ k.text; options = j.options ∙ k.options; space = j.space ∙ k.space }
+
+-- the segments are left to be written
+abbrev pub LeftAt : List Segment → State → Type 0
+LeftAt l s = Left s.words s.text l s.reached
+
+module _ {x : Segment} {l : List Segment} {s m : State} (k : Kept s m) (w : DumpsAt x.piece x.bytes s m) where
+  pub then_each : {r : Reached} → DumpsEach m.words m.text l m.reached r → DumpsEach s.words s.text (x ∷ l) s.reached r
+  then_each e = each_next w (rw (k.words, k.text) at e)
+
+  pub then_left : LeftAt (x ∷ l) s → LeftAt l m
+  then_left f = rw (k.words, k.text) (left_rest f w)
+
 -- two, and three
 pub made_two : (p q : Piece) (x y : List ℕ) → Made (p ⊕ q) (x ++ y) (segment p x ∷ segment q y ∷ [])
 unfolding pieces each
@@ -139,6 +159,15 @@ PackedStep words s r = (p : Parts) (t : List ℕ) → ValidParts p → Dumps wor
 
 abbrev pub CodeStep : (words : List ℕ) (s r : Reached) → Type 0
 CodeStep words s r = (l t : List ℕ) → Dumps words t (ints l) (dump_code l) s r
+
+abbrev pub WordDone : State → State → Type 0
+WordDone s r = Kept s r × WordStep s.words s.reached r.reached
+
+abbrev pub PackedDone : State → State → Type 0
+PackedDone s r = Kept s r × PackedStep s.words s.reached r.reached
+
+abbrev pub CodeDone : State → State → Type 0
+CodeDone s r = Kept s r × CodeStep s.words s.reached r.reached
 
 abbrev pub WordRoom : (words : List ℕ) (s : Reached) → Type 0
 WordRoom words s = (s.at < length words) × (s.len + 4 ≤ length s.out)
@@ -185,78 +214,61 @@ module _ (size4 : Bool) {words text out : List ℕ} {at len : ℕ} where
 
 -- ---- a word, the packed word, the code, a name, a constant
 
-unpacked : (p : Parts) → ValidParts p
-    → (packed p / 16777216 ≡ p.num_upvalues) × (packed p / 65536 % 256 ≡ p.num_params) × (packed p / 256 % 256 ≡ p.is_vararg) × (packed p % 256 ≡ p.max_stack_size)
-unpacked p v = omega arith
-
-four_bytes : (a b c d : ℕ) → Byte a → Byte b → Byte c → Byte d → dump_int (((a * 256 + b) * 256 + c) * 256 + d) ≡ d ∷ c ∷ b ∷ a ∷ []
+-- the bytes of a word, the most significant first
+turned : (a b c d : ℕ) → Byte a → Byte b → Byte c → Byte d → dump_int (swap_bytes w32 (((d * 256 + c) * 256 + b) * 256 + a)) ≡ d ∷ c ∷ b ∷ a ∷ []
 unfolding dump_number
-four_bytes a b c d ha hb hc hd =
+turned a b c d ha hb hc hd =
     let w = ((a * 256 + b) * 256 + c) * 256 + d in
+    let k : swap_bytes w32 (((d * 256 + c) * 256 + b) * 256 + a) ≡ w = omega arith in
     let e : (w % 256 ≡ d) × (w / 256 % 256 ≡ c) × (w / 256 / 256 % 256 ≡ b) × (w / 256 / 256 / 256 % 256 ≡ a) = omega arith in
-    rw (e.0, e.1, e.2, e.3)
+    rw (k, e.0, e.1, e.2, e.3)
 
 -- a string of the text is no longer than the word behind its place says
-pub name_room : (size4 : Bool) {name : List ℕ} (words text out : List ℕ) (s : DumpState) → NameRoom size4 words (reached s out) → name ≡ part text (get_or words s.at 0) (get_or words (s.at + 1) 0) → s.len + (width_of size4 + length name + 1) ≤ length out
-name_room size4 {name} words text out s h e =
-    let k : length name ≤ get_or words (s.at + 1) 0 = rw (e, length-take (get_or words (s.at + 1) 0) (drop (get_or words s.at 0) text)) (omega arith) in
+pub name_room : (size4 : Bool) {name : List ℕ} (words text out : List ℕ) (at len : ℕ) → NameRoom size4 words (reached_at at len out) → name ≡ part text (get_or words at 0) (get_or words (at + 1) 0) → len + (width_of size4 + length name + 1) ≤ length out
+name_room size4 {name} words text out at len h e =
+    let k : length name ≤ get_or words (at + 1) 0 = rw (e, length-take (get_or words (at + 1) 0) (drop (get_or words at 0) text)) (omega arith) in
     omega (arith, h.1)
 
-module _ {words out out' : List ℕ} {s : DumpState} where
-  pub word_dumped : WordRoom words (reached s out) → out' ≡ sets out s.len (dump_int (get_or words s.at 0)) → WordStep words (reached s out) (record { at = s.at + 1; len = s.len + 4; out = out' })
+module _ {words out out' : List ℕ} {at len : ℕ} where
+  pub word_dumped : WordRoom words (reached_at at len out) → out' ≡ sets out len (dump_int (get_or words at 0)) → WordStep words (reached_at at len out) (reached_at (at + 1) (len + 4) out')
   word_dumped h e v t = dumps_past (past_word v skips_on) (λ to x. puts_in (int_length v) h.1 refl (rw (here_get v [] x.in_words) at e))
 
-  -- four bytes in a word, the most significant first: those of the word turned around
-  pub packed_dumped : (x : ℕ) → x ≡ get_or words s.at 0 → WordRoom words (reached s out) → out' ≡ sets out s.len (dump_int (((x % 256 * 256 + x / 256 % 256) * 256 + x / 65536 % 256) * 256 + x / 16777216))
-      → PackedStep words (reached s out) (record { at = s.at + 1; len = s.len + 4; out = out' })
-  packed_dumped x g h e p t v =
+  -- the bytes of the word turned around
+  pub packed_dumped : {x : ℕ} → x ≡ swap_bytes w32 (get_or words at 0) → WordRoom words (reached_at at len out) → out' ≡ sets out len (dump_int x) → PackedStep words (reached_at at len out) (reached_at (at + 1) (len + 4) out')
+  packed_dumped g h e p t v =
       dumps_past (past_word (packed p) skips_on)
       (λ to w.
-      let k : x ≡ packed p = g ∙ here_get (packed p) [] w.in_words in
-      let u = unpacked p v in
-      puts_in refl h.1 refl (rw (k, u.0, u.1, u.2, u.3, four_bytes p.max_stack_size p.is_vararg p.num_params p.num_upvalues v.max_stack_size v.is_vararg v.num_params v.num_upvalues) at e))
+      let k : packed p ≡ ((p.num_upvalues * 256 + p.num_params) * 256 + p.is_vararg) * 256 + p.max_stack_size = omega arith in
+      puts_in refl h.1 refl (e ∙ rw (g, here_get (packed p) [] w.in_words, k, turned p.max_stack_size p.is_vararg p.num_params p.num_upvalues v.max_stack_size v.is_vararg v.num_params v.num_upvalues)))
 
   -- a list of words: its count, and its items
-  pub code_dumped : {out₁ : List ℕ} (n : ℕ) → n ≡ get_or words s.at 0 → CodeRoom words (reached s out) → out₁ ≡ sets out s.len (dump_int n) → out' ≡ sets out₁ (s.len + 4) (each dump_int (take (s.at + 1 + n - (s.at + 1)) (drop (s.at + 1) words)))
-      → CodeStep words (reached s out) (record { at = s.at + 1 + n; len = s.len + 4 + 4 * n; out = out' })
+  pub code_dumped : {out₁ : List ℕ} (n : ℕ) → n ≡ get_or words at 0 → CodeRoom words (reached_at at len out) → out₁ ≡ sets out len (dump_int n) → out' ≡ sets out₁ (len + 4) (each dump_int (take (at + 1 + n - (at + 1)) (drop (at + 1) words)))
+      → CodeStep words (reached_at at len out) (reached_at (at + 1 + n) (len + (4 + 4 * n)) out')
   code_dumped n g h e q l t =
       record {
         dumps = λ to x.
             let w = x.in_words in
             let k : n ≡ length l = g ∙ here_get (length l) l w in
-            let m : s.at + 1 + n - (s.at + 1) ≡ n = omega arith in
-            let i : take (s.at + 1 + n - (s.at + 1)) (drop (s.at + 1) words) ≡ l = rw (m, k) (here_part l (here_right (length l ∷ []) l w)) in
-            (omega (arith, k), puts_in (code_length l) (omega (arith, h.1)) (omega arith) (stored_then (dump_int (length l)) (each dump_int l) out s.len 4 (int_length (length l)) (rw k at e) (rw i at q)));
+            let m : at + 1 + n - (at + 1) ≡ n = omega arith in
+            let i : take (at + 1 + n - (at + 1)) (drop (at + 1) words) ≡ l = rw (m, k) (here_part l (here_right (length l ∷ []) l w)) in
+            (omega (arith, k), puts_in (code_length l) (omega (arith, h.1)) (omega arith) (stored_then (dump_int (length l)) (each dump_int l) out len 4 (int_length (length l)) (rw k at e) (rw i at q)));
       }
 
-  pub name_dumped : (size4 : Bool) {name text : List ℕ} {n : ℕ} → n ≡ s.len + (width_of size4 + length name + 1) → NameRoom size4 words (reached s out) → name ≡ part text (get_or words s.at 0) (get_or words (s.at + 1) 0) → out' ≡ sets out s.len (dump_text size4 name)
-      → Step string (dump_text size4) words text (reached s out) (record { at = s.at + 2; len = n; out = out' })
+  pub name_dumped : (size4 : Bool) {name text : List ℕ} {n : ℕ} → n ≡ len + (width_of size4 + length name + 1) → NameRoom size4 words (reached_at at len out) → name ≡ part text (get_or words at 0) (get_or words (at + 1) 0) → out' ≡ sets out len (dump_text size4 name)
+      → Step string (dump_text size4) words text (reached_at at len out) (record { at = at + 2; len = n; out = out' })
   name_dumped size4 {name} {text} k h f e n =
       dumps_past (past_words 2 (string n) (λ to. refl) skips_on)
       (λ to x.
       let g : name ≡ n = string_here n x refl skips_on refl f in
-      puts_in (string_length size4 n) (omega (arith, name_room size4 words text out s h f, ap length g)) (omega (arith, ap length g)) (rw g at e))
+      puts_in (string_length size4 n) (omega (arith, name_room size4 words text out at len h f, ap length g)) (omega (arith, ap length g)) (rw g at e))
 
-  pub constant_dumped : (size4 : Bool) {text : List ℕ} {c : Constant} {n : ℕ} → ConstantAt words s.at c → Puts (dump_constant size4 (value_of text c)) s.len out n out'
-      → Step constant_piece (dump_constant size4) words text (reached s out) (record { at = s.at + 3; len = n; out = out' })
+  pub constant_dumped : (size4 : Bool) {text : List ℕ} {c : Constant} {n : ℕ} → ConstantAt words at c → Puts (dump_constant size4 (value_of text c)) len out n out'
+      → Step constant_piece (dump_constant size4) words text (reached_at at len out) (record { at = at + 3; len = n; out = out' })
   constant_dumped size4 {text} f p k = dumps_past (past_words 3 (constant_piece k) (constant_words_law k) skips_on) (λ to x. rw (f.value k text to x) at p)
 
 -- ---- the bytes of a constant
 
--- none has none
-tagged : (size4 : Bool) (k : Value) → 1 ≤ length (dump_constant size4 k)
-tagged size4 Value.nil = omega arith
-tagged size4 (Value.bool b) = omega arith
-tagged size4 (Value.num high low) = omega arith
-tagged size4 (Value.str s) = omega arith
-
 module _ (size4 : Bool) (text out : List ℕ) (k : Constant) (at : ℕ) (h : at + length (dump_constant size4 (value_of text k)) ≤ length out) where
-  pub tag_fits : at < length out
-  tag_fits = omega (arith, tagged size4 (value_of text k))
-
-  pub nil_puts : k ≡ Nil → Puts (dump_constant size4 (value_of text k)) at out (at + 1) (set out at 0)
-  nil_puts e = rw e (puts_in refl (rw e at h) refl refl)
-
   module _ {b : Bool} (e : k ≡ Truth b) where
     pub bool_fits : (v : ℕ) → at + 1 < length (set out at v)
     bool_fits v = let i : at + 2 ≤ length out = rw e at h in rw length-set (omega arith)
@@ -301,22 +313,23 @@ local_segments size4 v = segment (string v.name) (dump_text size4 v.name) ∷ se
 pub local_made : (size4 : Bool) (v : Local) → Made (local_piece v) (dump_local size4 v) (local_segments size4 v)
 local_made size4 v = made_three (string v.name) (word v.start) (word v.end) (dump_text size4 v.name) (dump_int v.start) (dump_int v.end)
 
-pub local_dumped : (size4 : Bool) {words text : List ℕ} {s a b r : Reached} → Step string (dump_text size4) words text s a → WordStep words a b → WordStep words b r → Step local_piece (dump_local size4) words text s r
-local_dumped size4 {text = text} d e f v = dumps_made (local_made size4 v) (each_next (d v.name) (each_next (e v.start text) (each_next (f v.end text) each_none)))
+pub local_name : (size4 : Bool) {words text : List ℕ} {s : Reached} → Ready words text Any local_piece (dump_local size4) s → NameRoom size4 words s
+local_name size4 r = name_fits size4 r.value.name (left_first (left_made (local_made size4 r.value) r.fits))
 
-module _ (size4 : Bool) {words text : List ℕ} {s : Reached} (r : Ready words text Any local_piece (dump_local size4) s) where
-  local_left : Left words text (local_segments size4 r.value) s
-  local_left = left_made (local_made size4 r.value) r.fits
+module _ (size4 : Bool) {s a : State} (d : Done string (dump_text size4) s a) where
+  pub local_dumped : {b r : State} → WordDone a b → WordDone b r → Done local_piece (dump_local size4) s r
+  local_dumped e f =
+      (kept_then d.0 (kept_then e.0 f.0), λ v. dumps_made (local_made size4 v) (then_each d.0 (d.1 v.name) (then_each e.0 (e.1 v.start _) (then_each f.0 (f.1 v.end _) each_none))))
 
-  pub local_name : NameRoom size4 words s
-  local_name = name_fits size4 r.value.name (left_first local_left)
+  module _ (r : ReadyAt Any local_piece (dump_local size4) s) where
+    after_name : LeftAt (segment (word r.value.start) (dump_int r.value.start) ∷ segment (word r.value.end) (dump_int r.value.end) ∷ []) a
+    after_name = then_left d.0 (d.1 r.value.name) (left_made (local_made size4 r.value) r.fits)
 
-  module _ {at len : ℕ} {out : List ℕ} where
-    pub local_start : Step string (dump_text size4) words text s (reached_at at len out) → WordRoom words (reached_at at len out)
-    local_start d = let v = r.value in word_fits v.start (int_length v.start) (left_first (left_rest local_left (d v.name)))
+    pub local_start : WordRoom a.words a.reached
+    local_start = word_fits r.value.start (int_length r.value.start) (left_first after_name)
 
-    pub local_end : {a : Reached} → Step string (dump_text size4) words text s a → WordStep words a (reached_at at len out) → WordRoom words (reached_at at len out)
-    local_end d e = let v = r.value in word_fits v.end (int_length v.end) (left_first (left_rest (left_rest local_left (d v.name)) (e v.start text)))
+    pub local_end : {b : State} → WordDone a b → WordRoom b.words b.reached
+    local_end e = word_fits r.value.end (int_length r.value.end) (left_first (then_left e.0 (e.1 r.value.start _) after_name))
 
 -- ---- the debug lists
 
@@ -338,25 +351,34 @@ pub debug_stripped : (size4 : Bool) {words text : List ℕ} {s r : Reached} {str
     → Step debug_piece (λ d. dump_debug size4 (kept strip d)) words text s r
 debug_stripped size4 e w p d = rw e (dumps_past (w d) (λ to h. p size4))
 
-pub debug_dumped : (size4 : Bool) {words text : List ℕ} {strip : Bool} {s a b r : Reached} → strip ≡ false → CodeStep words s a → Step (list local_piece) (dump_list (dump_local size4)) words text a b → Step (list string) (dump_list (dump_text size4)) words text b r
-    → Step debug_piece (λ d. dump_debug size4 (kept strip d)) words text s r
-debug_dumped size4 {text = text} e f g h d = rw e (dumps_made (debug_made size4 d) (each_next (f d.lines text) (each_next (g d.locals) (each_next (h d.upvalues) each_none))))
-
-module _ (size4 : Bool) {words text : List ℕ} {s : Reached} {strip : Bool} (r : Ready words text Any debug_piece (λ d. dump_debug size4 (kept strip d)) s) where
+module _ {words text : List ℕ} {s : Reached} (size4 : Bool) {strip : Bool} (r : Ready words text Any debug_piece (λ d. dump_debug size4 (kept strip d)) s) where
   pub no_debug_fits : strip ≡ true → s.len + 12 ≤ length s.out
   unfolding each dump_number
   no_debug_fits e = rw e at r.fits.room
 
-  module _ (e : strip ≡ false) where
-    debug_left : Left words text (debug_segments size4 r.value) s
-    debug_left = left_made (debug_made size4 r.value) (rw e at r.fits)
+  pub lines_ready : strip ≡ false → CodeRoom words s
+  lines_ready e = code_fits r.value.lines (left_first (left_made (debug_made size4 r.value) (rw e at r.fits)))
 
-    pub lines_ready : CodeRoom words s
-    lines_ready = code_fits r.value.lines (left_first debug_left)
+debug_left : (size4 : Bool) {words text : List ℕ} {s : Reached} {strip : Bool} → strip ≡ false → (r : Ready words text Any debug_piece (λ d. dump_debug size4 (kept strip d)) s) → Left words text (debug_segments size4 r.value) s
+debug_left size4 e r = left_made (debug_made size4 r.value) (rw e at r.fits)
 
-    module _ {a : Reached} (f : CodeStep words s a) where
-      pub locals_ready : Ready words text Any (list local_piece) (dump_list (dump_local size4)) a
-      locals_ready = record { value = r.value.locals; valid = tt; fits = left_first (left_rest debug_left (f r.value.lines text)) }
+module _ {s a b : State} (c : CodeDone s a) (e : s.options.strip ≡ false) (g : Done (list local_piece) (dump_list (dump_local a.options.size_4)) a b) where
+  kept₂ : Kept s b
+  kept₂ = kept_then c.0 g.0
 
-      pub names_ready : {b : Reached} → Step (list local_piece) (dump_list (dump_local size4)) words text a b → Ready words text Any (list string) (dump_list (dump_text size4)) b
-      names_ready g = let d = r.value in record { value = d.upvalues; valid = tt; fits = left_first (left_rest (left_rest debug_left (f d.lines text)) (g d.locals)) }
+  locals_done : (l : List Local) → DumpsAt (list local_piece l) (dump_list (dump_local s.options.size_4) l) a b
+  locals_done = rw c.0.options at g.1
+
+  pub debug_dumped : {r : State} → Done (list string) (dump_list (dump_text b.options.size_4)) b r → Done debug_piece (λ d. dump_debug s.options.size_4 (kept s.options.strip d)) s r
+  debug_dumped h = (
+    kept_then kept₂ h.0,
+    λ d. rw e (dumps_made (debug_made s.options.size_4 d) (then_each c.0 (c.1 d.lines _) (then_each g.0 (locals_done d.locals) (then_each h.0 (rw kept₂.options at (h.1 d.upvalues)) each_none)))),
+  )
+
+  pub names_ready : ReadyAt Any debug_piece (λ d. dump_debug s.options.size_4 (kept s.options.strip d)) s → ReadyAt Any (list string) (dump_list (dump_text b.options.size_4)) b
+  names_ready r =
+      let d = r.value in
+      rw kept₂.options (record { value = d.upvalues; valid = tt; fits = left_first (then_left g.0 (locals_done d.locals) (then_left c.0 (c.1 d.lines _) (debug_left s.options.size_4 e r))) })
+
+pub locals_ready : {s a : State} → CodeDone s a → s.options.strip ≡ false → ReadyAt Any debug_piece (λ d. dump_debug s.options.size_4 (kept s.options.strip d)) s → ReadyAt Any (list local_piece) (dump_list (dump_local a.options.size_4)) a
+locals_ready {s} c e r = rw c.0.options (record { value = r.value.locals; valid = tt; fits = left_first (then_left c.0 (c.1 r.value.lines _) (debug_left s.options.size_4 e r)) })

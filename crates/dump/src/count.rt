@@ -1,218 +1,170 @@
 // How long a chunk is: the walk of the writer with nothing written. No place goes on from past the end, and lengths stop at the farthest.
-ghost use Rattle.std.specs.Prelude.{ℕ, ◌+◌, ◌≤◌, min, ◌≡◌, List, [], length};
+// A walk of its own beside the writer's: it tests no room and writes nothing. One function for both, by a const parameter, would carry the writer's space through.
+ghost use Rattle.std.specs.Prelude.{ℕ, ◌+◌, ◌≤◌, ◌≡◌, List, length};
 ghost use Rattle.lent.specs.Memory.{far};
 ghost use Rattle.format.specs.Tree.{Constant as Value};
-ghost use Rattle.format.specs.Tree.{Source, Local, Debug, Functions, Function, count, filled, kept};
+ghost use Rattle.format.specs.Tree.{Source, Functions, Function, count, filled, kept};
 ghost use Rattle.format.specs.Store.{string, list, ints, source_piece, constant_piece, local_piece, debug_piece, function_piece};
 ghost use Rattle.format.specs.Valid.{Valid, ValidAll};
 ghost use Rattle.format.specs.Write.{dump_string, dump_text, dump_list, dump_code, dump_constant, dump_local, dump_debug, elided, dump_constants, dump_function, dump_functions};
 ghost use Rattle.proto.specs.Walk.{Stands};
-ghost use Rattle.dump.specs.Step.{Ahead, Dumps, reached, constants_piece, around};
+ghost use Rattle.dump.specs.Step.{Dumps, Ahead, AheadExactly, counted, counting, Kept, DumpsAt, Done, constants_piece, around};
 
 use crate::function::is_elided;
-use crate::list::{DumpState, Options};
+use crate::item::{Constants, Item, Locals, Names};
+use crate::list::Options;
 use format::width;
-use lent::further;
 use proto::formed::is_within;
-use proto::walk::{after_debug, own_source, skip, word_at};
+use proto::store::Store;
+use proto::walk::{after_debug, skip, word_at};
 
-// So many words and bytes on.
-fn ahead(words: &[u32], s: DumpState, n: usize, bytes: usize) -> DumpState
-    ensures { Ahead words.now n bytes s result }
-{
-    DumpState {
-        at: skip(words, s.at, n),
-        len: further(s.len, bytes),
-    }
+// What is counted and how, a place in the words, and the bytes so far.
+#[derive(Clone, Copy)]
+pub struct Counter<'a> {
+    pub store: Store<'a>,
+    pub options: Options,
+    pub at: usize,
+    pub len: usize,
 }
 
-// The code, or the lines.
-fn count_code(words: &[u32], s: DumpState) -> DumpState
-    ensures { (l t : List ℕ) → Dumps words.now t (ints l) (dump_code l) (reached s []) (reached result []) }
-{
-    let n = word_at(words, s.at) as usize;
-    ahead(words, s, 1 + n, 4 + 4 * n)
-}
+impl<'a> Counter<'a> {
+    // So many words and bytes on.
+    fn ahead(&mut self, n: usize, bytes: usize)
+        ensures { Ahead n bytes self.old self.new }
+    {
+        let Store { words, .. } = self.store;
+        self.at = skip(words, self.at, n);
+        self.len = self.len.saturating_add(bytes);
+    }
 
-// So many words and bytes on, where the words are there.
-fn on(s: DumpState, n: usize, bytes: usize) -> DumpState
-    requires { s.at + n ≤ far }
-    ensures { (result.at ≡ s.at + n) × (result.len ≡ min (s.len + bytes) far) }
-{
-    DumpState {
-        at: s.at + n,
-        len: further(s.len, bytes),
+    // The same, where the words are there.
+    fn on(&mut self, n: usize, bytes: usize)
+        requires { self.old.at + n ≤ far }
+        ensures { AheadExactly n bytes self.old self.new }
+    {
+        self.at += n;
+        self.len = self.len.saturating_add(bytes);
     }
-}
 
-// A constant: its tag, then Bool's byte, Num's halves, or String.
-fn count_constant(words: &[u32], s: DumpState, size_4: bool) -> DumpState
-    requires { s.at + 3 ≤ length words.now }
-    ensures { (result.at ≡ s.at + 3) × ((k : Value) (t : List ℕ) → Dumps words.now t (constant_piece k) (dump_constant size_4 k) (reached s []) (reached result [])) }
-{
-    let at = s.at;
-    let kind = words[at];
-    match kind {
-        0 => on(s, 3, 1),
-        1 => on(s, 3, 2),
-        3 => on(s, 3, 9),
-        _ => on(s, 3, words[at + 2] as usize + width(size_4) + 2),
+    // The code, or the lines.
+    #[tactic(auto, using(crate::proofs::Lists::code_counted))]
+    fn count_code(&mut self)
+        ensures { Kept (counting self.old) (counting self.new) × ((l t : List ℕ) → Dumps self.old.store.words.now t (ints l) (dump_code l) (counted self.old) (counted self.new)) }
+    {
+        let Store { words, .. } = self.store;
+        let n = word_at(words, self.at) as usize;
+        self.ahead(1 + n, 4 + 4 * n);
     }
-}
 
-// A name.
-fn count_name(words: &[u32], s: DumpState, size_4: bool) -> DumpState
-    requires { s.at + 2 ≤ length words.now }
-    ensures { (result.at ≡ s.at + 2) × ((n t : List ℕ) → Dumps words.now t (string n) (dump_text size_4 n) (reached s []) (reached result [])) }
-{
-    let at = s.at;
-    on(s, 2, words[at + 1] as usize + width(size_4) + 1)
-}
+    // A constant: its tag, then Bool's byte, Num's halves, or String. The kinds by number, as the store has them: constant_at would read the text's place too, which no length needs.
+    pub fn count_constant(&mut self)
+        requires { self.old.at + 3 ≤ length self.old.store.words.now }
+        ensures { (self.new.at ≡ self.old.at + 3) × Done constant_piece (dump_constant self.old.options.size_4) (counting self.old) (counting self.new) }
+    {
+        let Store { words, .. } = self.store;
+        let kind = words[self.at];
+        match kind {
+            0 => self.on(3, 1),
+            1 => self.on(3, 2),
+            3 => self.on(3, 9),
+            _ => {
+                let n = words[self.at + 2] as usize;
+                self.on(3, n + width(self.options.size_4) + 2);
+            }
+        }
+    }
 
-// A local.
-fn count_local(words: &[u32], s: DumpState, size_4: bool) -> DumpState
-    requires { s.at + 4 ≤ length words.now }
-    ensures { (result.at ≡ s.at + 4) × ((v : Local) (t : List ℕ) → Dumps words.now t (local_piece v) (dump_local size_4 v) (reached s []) (reached result [])) }
-{
-    let at = s.at;
-    on(s, 4, words[at + 1] as usize + width(size_4) + 9)
-}
+    // A name.
+    pub fn count_name(&mut self)
+        requires { self.old.at + 2 ≤ length self.old.store.words.now }
+        ensures { (self.new.at ≡ self.old.at + 2) × Done string (dump_text self.old.options.size_4) (counting self.old) (counting self.new) }
+    {
+        let Store { words, .. } = self.store;
+        let n = words[self.at + 1] as usize;
+        self.on(2, n + width(self.options.size_4) + 1);
+    }
 
-// The constants.
-fn count_values(words: &[u32], s: DumpState, size_4: bool) -> DumpState
-    ensures { (l : List Value) (t : List ℕ) → Dumps words.now t (list constant_piece l) (dump_list (dump_constant size_4) l) (reached s []) (reached result []) }
-{
-    let n = word_at(words, s.at);
-    let mut p = ahead(words, s, 1, 4);
-    if !is_within(words.len(), p.at, 3 * n as usize) {
-        return p;
+    // A local.
+    pub fn count_local(&mut self)
+        requires { self.old.at + 4 ≤ length self.old.store.words.now }
+        ensures { (self.new.at ≡ self.old.at + 4) × Done local_piece (dump_local self.old.options.size_4) (counting self.old) (counting self.new) }
+    {
+        let Store { words, .. } = self.store;
+        let n = words[self.at + 1] as usize;
+        self.on(4, n + width(self.options.size_4) + 9);
     }
-    let mut i: u32 = 0;
-    while i < n {
-        p = count_constant(words, p, size_4);
-        i += 1;
-    }
-    p
-}
 
-// The locals.
-fn count_locals(words: &[u32], s: DumpState, size_4: bool) -> DumpState
-    ensures { (l : List Local) (t : List ℕ) → Dumps words.now t (list local_piece l) (dump_list (dump_local size_4) l) (reached s []) (reached result []) }
-{
-    let n = word_at(words, s.at);
-    let mut p = ahead(words, s, 1, 4);
-    if !is_within(words.len(), p.at, 4 * n as usize) {
-        return p;
+    // A list of items.
+    fn count_list<T: Item>(&mut self)
+        ensures { Done (list T.piece) (dump_list (T.bytes self.old.options.size_4)) (counting self.old) (counting self.new) }
+    {
+        let Store { words, .. } = self.store;
+        let n = word_at(words, self.at);
+        self.ahead(1, 4);
+        if !is_within(words.len(), self.at, T::WORDS * n as usize) {
+            return;
+        }
+        for _ in 0..n {
+            T::count(self);
+        }
     }
-    let mut i: u32 = 0;
-    while i < n {
-        p = count_local(words, p, size_4);
-        i += 1;
-    }
-    p
-}
 
-// The upvalues' names.
-fn count_names(words: &[u32], s: DumpState, size_4: bool) -> DumpState
-    ensures { (l : List (List ℕ)) (t : List ℕ) → Dumps words.now t (list string l) (dump_list (dump_text size_4) l) (reached s []) (reached result []) }
-{
-    let n = word_at(words, s.at);
-    let mut p = ahead(words, s, 1, 4);
-    if !is_within(words.len(), p.at, 2 * n as usize) {
-        return p;
+    // The lines, the locals and the upvalues' names; strip leaves three counts of 0.
+    fn count_debug(&mut self)
+        ensures { Done debug_piece (λ d. dump_debug self.old.options.size_4 (kept self.old.options.strip d)) (counting self.old) (counting self.new) }
+    {
+        if self.options.strip {
+            let Store { words, .. } = self.store;
+            self.at = after_debug(words, self.at);
+            self.len = self.len.saturating_add(12);
+        } else {
+            self.count_code();
+            self.count_list::<Locals>();
+            self.count_list::<Names>();
+        }
     }
-    let mut i: u32 = 0;
-    while i < n {
-        p = count_name(words, p, size_4);
-        i += 1;
-    }
-    p
-}
 
-// The lines, the locals and the upvalues' names; strip leaves three counts of 0.
-fn count_debug(words: &[u32], options: Options, s: DumpState) -> DumpState
-    ensures { (d : Debug) (t : List ℕ) → Dumps words.now t (debug_piece d) (dump_debug options.size_4 (kept options.strip d)) (reached s []) (reached result []) }
-{
-    if options.strip {
-        return DumpState {
-            at: after_debug(words, s.at),
-            len: further(s.len, 12),
-        };
+    // The source of a function: none where it is the one around it.
+    fn count_source(&mut self, outer: &[u8], source: &[u8], root: bool)
+        ensures { Kept (counting self.old) (counting self.new) × ((v : Source) → ((to : ℕ) → Stands self.old.store.words.now self.old.store.text.now self.old.at to (source_piece v) → source.now ≡ filled outer.now v) → DumpsAt (source_piece v) (dump_string self.old.options.size_4 (elided (around root outer.now) source.now)) (counting self.old) (counting self.new)) }
+    {
+        let Store { words, .. } = self.store;
+        if is_elided(words, self.at, outer, source, root) {
+            self.ahead(3, width(self.options.size_4));
+        } else {
+            self.ahead(3, width(self.options.size_4) + source.len() + 1);
+        }
     }
-    let lines = count_code(words, s);
-    let locals = count_locals(words, lines, options.size_4);
-    count_names(words, locals, options.size_4)
-}
 
-// The source of a function: none where it is the one around it.
-fn count_source(
-    words: &[u32],
-    outer: &[u8],
-    source: &[u8],
-    root: bool,
-    s: DumpState,
-    size_4: bool,
-) -> DumpState
-    ensures { (v : Source) (t : List ℕ) → ((to : ℕ) → Stands words.now t s.at to (source_piece v) → source.now ≡ filled outer.now v) → Dumps words.now t (source_piece v) (dump_string size_4 (elided (around root outer.now) source.now)) (reached s []) (reached result []) }
-{
-    let at = skip(words, s.at, 3);
-    if is_elided(words, s.at, outer, source, root) {
-        return DumpState {
-            at,
-            len: further(s.len, width(size_4)),
-        };
+    // A function; an inherited source stands for outer. root stands beside outer, as the root inherits the chunk name but is compared with the empty string.
+    #[cycle(count_constants_count_function)]
+    pub fn count_function(&mut self, outer: &'a [u8], root: bool, allowance: u32)
+        ensures { Kept (counting self.old) (counting self.new) × ((f : Function) → Valid f allowance → DumpsAt (function_piece f) (dump_function f self.old.options.strip self.old.options.size_4 (around root outer.now) outer.now) (counting self.old) (counting self.new)) }
+    {
+        if allowance == 0 {
+            return;
+        }
+        let source = self.store.own_source(outer, self.at);
+        self.count_source(outer, source, root);
+        self.ahead(1, 4);
+        self.ahead(1, 4);
+        self.ahead(1, 4);
+        self.count_code();
+        self.count_constants(source, allowance - 1);
+        self.count_debug();
     }
-    DumpState {
-        at,
-        len: further(further(s.len, source.len()), width(size_4) + 1),
-    }
-}
 
-// A function; an inherited source stands for outer.
-#[cycle(count_constants_count_function)]
-pub fn count_function<'a>(
-    words: &[u32],
-    text: &'a [u8],
-    options: Options,
-    outer: &'a [u8],
-    root: bool,
-    s: DumpState,
-    allowance: u32,
-) -> DumpState
-    ensures { (f : Function) → Valid f allowance → Dumps words.now text.now (function_piece f) (dump_function f options.strip options.size_4 (around root outer.now) outer.now) (reached s []) (reached result []) }
-{
-    if allowance == 0 {
-        return s;
+    // The constants of a function whose source this is, and the functions in it.
+    #[cycle(count_constants_count_function)]
+    pub fn count_constants(&mut self, source: &'a [u8], allowance: u32)
+        ensures { Kept (counting self.old) (counting self.new) × ((ks : List Value) (fs : Functions) → ValidAll fs allowance → DumpsAt (constants_piece ks fs) (dump_constants self.old.options.size_4 ks (count fs) (dump_functions fs self.old.options.strip self.old.options.size_4 source.now)) (counting self.old) (counting self.new)) }
+    {
+        self.count_list::<Constants>();
+        let Store { words, .. } = self.store;
+        let n = word_at(words, self.at);
+        self.ahead(1, 4);
+        for _ in 0..n {
+            self.count_function(source, false, allowance);
+        }
     }
-    let source = own_source(words, text, outer, s.at);
-    let a = count_source(words, outer, source, root, s, options.size_4);
-    let b = ahead(words, a, 1, 4);
-    let c = ahead(words, b, 1, 4);
-    let d = ahead(words, c, 1, 4);
-    let e = count_code(words, d);
-    let f = count_constants(words, text, options, source, e, allowance - 1);
-    count_debug(words, options, f)
-}
-
-// The constants of a function whose source this is, and the functions in it.
-#[cycle(count_constants_count_function)]
-pub fn count_constants<'a>(
-    words: &[u32],
-    text: &'a [u8],
-    options: Options,
-    source: &'a [u8],
-    s: DumpState,
-    allowance: u32,
-) -> DumpState
-    ensures { (ks : List Value) (fs : Functions) → ValidAll fs allowance → Dumps words.now text.now (constants_piece ks fs) (dump_constants options.size_4 ks (count fs) (dump_functions fs options.strip options.size_4 source.now)) (reached s []) (reached result []) }
-{
-    let values = count_values(words, s, options.size_4);
-    let n = word_at(words, values.at);
-    let mut p = ahead(words, values, 1, 4);
-    let mut i: u32 = 0;
-    while i < n {
-        p = count_function(words, text, options, source, false, p, allowance);
-        i += 1;
-    }
-    p
 }

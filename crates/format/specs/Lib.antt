@@ -8,3 +8,4 @@ pub mod Stored
 pub mod Undump
 pub mod Dump
 pub mod Constants
+pub mod Refusal

@@ -106,10 +106,7 @@ impl Instruction {
     pub fn next_is_c(self) -> bool
         ensures { result ≡ next_is_c self.0 }
     {
-        if self.opcode() != OP_SETLIST {
-            return false;
-        }
-        self.c() == 0
+        self.opcode() == OP_SETLIST && self.c() == 0
     }
 
     // The instruction of an opcode, A, B and C, each cut to its field's size.
@@ -117,7 +114,7 @@ impl Instruction {
         ensures { result.0 ≡ CREATE_ABC op a b c }
     {
         Instruction(
-            placed(op as u32, POS_OP, SIZE_OP)
+            placed(u32::from(op), POS_OP, SIZE_OP)
                 + placed(a, POS_A, SIZE_A)
                 + placed(b, POS_B, SIZE_B)
                 + placed(c, POS_C, SIZE_C),
@@ -129,7 +126,7 @@ impl Instruction {
         ensures { result.0 ≡ CREATE_ABx op a bx }
     {
         Instruction(
-            placed(op as u32, POS_OP, SIZE_OP)
+            placed(u32::from(op), POS_OP, SIZE_OP)
                 + placed(a, POS_A, SIZE_A)
                 + placed(bx, POS_BX, SIZE_BX),
         )
@@ -139,13 +136,15 @@ impl Instruction {
     pub fn a_sbx(op: u8, a: u32, sbx: i32) -> Instruction
         ensures { result.0 ≡ CREATE_AsBx op a sbx }
     {
-        let raised = (sbx as i64 + RAISED) as u64;
+        let raised = (i64::from(sbx) + RAISED) as u64;
         Instruction::a_bx(op, a, (raised % NUM_BX) as u32)
     }
 }
 
 // The bit of an RK operand that marks a constant.
 pub const BITRK: u32 = 1 << (SIZE_B - 1);
+
+// The mark is tested, cleared and set by arithmetic, of which the compiler makes & and |: so written it is proved with no law of bits.
 
 // Whether an RK operand is a constant.
 pub fn is_k(x: u32) -> bool
@@ -171,7 +170,8 @@ pub fn rk_as_k(idx: u32) -> u32
 // Invalid register that fits in 8 bits.
 pub const NO_REG: u32 = MAXARG_A;
 
-// The opcodes' numbers.
+// The opcodes' numbers, as the format has them. A u8 that is no opcode has an answer too, MOVE's, which a narrower type would forbid. Of an enum,
+// nothing derives the way from u8: a match of 38 arms would come back beside it.
 pub const OP_MOVE: u8 = 0;
 
 pub const OP_LOADK: u8 = 1;
@@ -262,16 +262,11 @@ fn or_move(n: u8) -> u8
 pub fn is_jump(op: u8) -> bool
     ensures { result ≡ is_jump op }
 {
-    match op {
-        OP_JMP => true,
-        OP_FORLOOP => true,
-        OP_FORPREP => true,
-        _ => false,
-    }
+    matches!(op, OP_JMP | OP_FORLOOP | OP_FORPREP)
 }
 
 // Basic instruction format.
-#[derive(Clone, Copy)]
+#[derive(Clone, Copy, PartialEq, Eq, Debug)]
 pub enum OpMode {
     IABC,
     IABx,
@@ -279,7 +274,7 @@ pub enum OpMode {
 }
 
 // What an operand is: not used, used, a register or a jump offset, a constant or register/constant.
-#[derive(Clone, Copy)]
+#[derive(Clone, Copy, PartialEq, Eq, Debug)]
 pub enum OpArgMask {
     N,
     U,
@@ -298,22 +293,21 @@ pub struct OpModes {
 }
 
 // The enums' numbers in a row of the table.
-const N: u8 = 0;
+const N: u8 = OpArgMask::N as u8;
 
-const U: u8 = 1;
+const U: u8 = OpArgMask::U as u8;
 
-const R: u8 = 2;
+const R: u8 = OpArgMask::R as u8;
 
-const K: u8 = 3;
+const K: u8 = OpArgMask::K as u8;
 
-const ABC: u8 = 0;
+const ABC: u8 = OpMode::IABC as u8;
 
-const ABX: u8 = 1;
+const ABX: u8 = OpMode::IABx as u8;
 
-const ASBX: u8 = 2;
+const ASBX: u8 = OpMode::IAsBx as u8;
 
-// The attributes by opcode number, packed as in lopcodes.c: test, sets A, B, C, mode.
-// A constant table is built anew at each lookup: bytes take a few stores, structs and names many, so names go by cases.
+// The attributes by opcode number: test, sets A, B, C, mode. They stay packed in bytes, since lopcodes.c packs them so, and a row reads as there.
 const OP_MODES: [u8; 38] = [
     0 << 7 | 1 << 6 | R << 4 | N << 2 | ABC, // MOVE
     0 << 7 | 1 << 6 | K << 4 | N << 2 | ABX, // LOADK
@@ -355,14 +349,14 @@ const OP_MODES: [u8; 38] = [
     0 << 7 | 1 << 6 | U << 4 | U << 2 | ABC, // VARARG
 ];
 
-// The table, with its rule.
-fn op_mode_bytes() -> [u8; 38]
-    ensures { map modes_of_byte result ≡ map (λ (o : Row). o.modes) opcodes }
+// The table, with its rule. It is lent, so that a lookup copies no table.
+fn op_mode_bytes() -> &'static [u8; 38]
+    ensures { map modes_of_byte result.now ≡ map (λ (o : Row). o.modes) opcodes }
 {
-    OP_MODES
+    &OP_MODES
 }
 
-// The mode of a number.
+// The mode of a number. Of a From, a caller would learn this only by a ghost member beside it.
 fn mode_of(n: u8) -> OpMode
     ensures { result ≡ mode_of n }
 {
@@ -373,7 +367,7 @@ fn mode_of(n: u8) -> OpMode
     }
 }
 
-// The kind of operand of a number.
+// The kind of operand of a number. No From, as in mode_of.
 fn arg_of(n: u8) -> OpArgMask
     ensures { result ≡ arg_of n }
 {
@@ -406,7 +400,7 @@ pub fn op_modes(op: u8) -> OpModes
     ensures { result ≡ op_modes op }
 {
     let table = op_mode_bytes();
-    let n = or_move(op) as usize;
+    let n = usize::from(or_move(op));
     modes_of_byte(table[n])
 }
 
@@ -416,44 +410,44 @@ pub fn name(op: u8) -> [u8; 9]
     ensures { result ≡ padded (op_name op) }
 {
     match op {
-        OP_MOVE => [b'M', b'O', b'V', b'E', b' ', b' ', b' ', b' ', b' '],
-        OP_LOADK => [b'L', b'O', b'A', b'D', b'K', b' ', b' ', b' ', b' '],
-        OP_LOADBOOL => [b'L', b'O', b'A', b'D', b'B', b'O', b'O', b'L', b' '],
-        OP_LOADNIL => [b'L', b'O', b'A', b'D', b'N', b'I', b'L', b' ', b' '],
-        OP_GETUPVAL => [b'G', b'E', b'T', b'U', b'P', b'V', b'A', b'L', b' '],
-        OP_GETGLOBAL => [b'G', b'E', b'T', b'G', b'L', b'O', b'B', b'A', b'L'],
-        OP_GETTABLE => [b'G', b'E', b'T', b'T', b'A', b'B', b'L', b'E', b' '],
-        OP_SETGLOBAL => [b'S', b'E', b'T', b'G', b'L', b'O', b'B', b'A', b'L'],
-        OP_SETUPVAL => [b'S', b'E', b'T', b'U', b'P', b'V', b'A', b'L', b' '],
-        OP_SETTABLE => [b'S', b'E', b'T', b'T', b'A', b'B', b'L', b'E', b' '],
-        OP_NEWTABLE => [b'N', b'E', b'W', b'T', b'A', b'B', b'L', b'E', b' '],
-        OP_SELF => [b'S', b'E', b'L', b'F', b' ', b' ', b' ', b' ', b' '],
-        OP_ADD => [b'A', b'D', b'D', b' ', b' ', b' ', b' ', b' ', b' '],
-        OP_SUB => [b'S', b'U', b'B', b' ', b' ', b' ', b' ', b' ', b' '],
-        OP_MUL => [b'M', b'U', b'L', b' ', b' ', b' ', b' ', b' ', b' '],
-        OP_DIV => [b'D', b'I', b'V', b' ', b' ', b' ', b' ', b' ', b' '],
-        OP_MOD => [b'M', b'O', b'D', b' ', b' ', b' ', b' ', b' ', b' '],
-        OP_POW => [b'P', b'O', b'W', b' ', b' ', b' ', b' ', b' ', b' '],
-        OP_UNM => [b'U', b'N', b'M', b' ', b' ', b' ', b' ', b' ', b' '],
-        OP_NOT => [b'N', b'O', b'T', b' ', b' ', b' ', b' ', b' ', b' '],
-        OP_LEN => [b'L', b'E', b'N', b' ', b' ', b' ', b' ', b' ', b' '],
-        OP_CONCAT => [b'C', b'O', b'N', b'C', b'A', b'T', b' ', b' ', b' '],
-        OP_JMP => [b'J', b'M', b'P', b' ', b' ', b' ', b' ', b' ', b' '],
-        OP_EQ => [b'E', b'Q', b' ', b' ', b' ', b' ', b' ', b' ', b' '],
-        OP_LT => [b'L', b'T', b' ', b' ', b' ', b' ', b' ', b' ', b' '],
-        OP_LE => [b'L', b'E', b' ', b' ', b' ', b' ', b' ', b' ', b' '],
-        OP_TEST => [b'T', b'E', b'S', b'T', b' ', b' ', b' ', b' ', b' '],
-        OP_TESTSET => [b'T', b'E', b'S', b'T', b'S', b'E', b'T', b' ', b' '],
-        OP_CALL => [b'C', b'A', b'L', b'L', b' ', b' ', b' ', b' ', b' '],
-        OP_TAILCALL => [b'T', b'A', b'I', b'L', b'C', b'A', b'L', b'L', b' '],
-        OP_RETURN => [b'R', b'E', b'T', b'U', b'R', b'N', b' ', b' ', b' '],
-        OP_FORLOOP => [b'F', b'O', b'R', b'L', b'O', b'O', b'P', b' ', b' '],
-        OP_FORPREP => [b'F', b'O', b'R', b'P', b'R', b'E', b'P', b' ', b' '],
-        OP_TFORLOOP => [b'T', b'F', b'O', b'R', b'L', b'O', b'O', b'P', b' '],
-        OP_SETLIST => [b'S', b'E', b'T', b'L', b'I', b'S', b'T', b' ', b' '],
-        OP_CLOSE => [b'C', b'L', b'O', b'S', b'E', b' ', b' ', b' ', b' '],
-        OP_CLOSURE => [b'C', b'L', b'O', b'S', b'U', b'R', b'E', b' ', b' '],
-        OP_VARARG => [b'V', b'A', b'R', b'A', b'R', b'G', b' ', b' ', b' '],
-        _ => [b'M', b'O', b'V', b'E', b' ', b' ', b' ', b' ', b' '],
+        OP_MOVE => *b"MOVE     ",
+        OP_LOADK => *b"LOADK    ",
+        OP_LOADBOOL => *b"LOADBOOL ",
+        OP_LOADNIL => *b"LOADNIL  ",
+        OP_GETUPVAL => *b"GETUPVAL ",
+        OP_GETGLOBAL => *b"GETGLOBAL",
+        OP_GETTABLE => *b"GETTABLE ",
+        OP_SETGLOBAL => *b"SETGLOBAL",
+        OP_SETUPVAL => *b"SETUPVAL ",
+        OP_SETTABLE => *b"SETTABLE ",
+        OP_NEWTABLE => *b"NEWTABLE ",
+        OP_SELF => *b"SELF     ",
+        OP_ADD => *b"ADD      ",
+        OP_SUB => *b"SUB      ",
+        OP_MUL => *b"MUL      ",
+        OP_DIV => *b"DIV      ",
+        OP_MOD => *b"MOD      ",
+        OP_POW => *b"POW      ",
+        OP_UNM => *b"UNM      ",
+        OP_NOT => *b"NOT      ",
+        OP_LEN => *b"LEN      ",
+        OP_CONCAT => *b"CONCAT   ",
+        OP_JMP => *b"JMP      ",
+        OP_EQ => *b"EQ       ",
+        OP_LT => *b"LT       ",
+        OP_LE => *b"LE       ",
+        OP_TEST => *b"TEST     ",
+        OP_TESTSET => *b"TESTSET  ",
+        OP_CALL => *b"CALL     ",
+        OP_TAILCALL => *b"TAILCALL ",
+        OP_RETURN => *b"RETURN   ",
+        OP_FORLOOP => *b"FORLOOP  ",
+        OP_FORPREP => *b"FORPREP  ",
+        OP_TFORLOOP => *b"TFORLOOP ",
+        OP_SETLIST => *b"SETLIST  ",
+        OP_CLOSE => *b"CLOSE    ",
+        OP_CLOSURE => *b"CLOSURE  ",
+        OP_VARARG => *b"VARARG   ",
+        _ => *b"MOVE     ",
     }
 }

@@ -21,5 +21,5 @@ abbrev pub far : ℕ
 far = 2 ^ 64 - 1
 
 -- items are written at a place: what is past the end is lost, and places stop at the farthest
-pub record Puts (items : List ℕ) (at : ℕ) (out : List ℕ) (at' : ℕ) (out' : List ℕ) : Type 0 where
+pub record Puts {A : Type 0} (items : List A) (at : ℕ) (out : List A) (at' : ℕ) (out' : List A) : Type 0 where
   pub puts : at ≤ far → length out ≤ far → (at' ≡ min (at + length items) far) × (out' ≡ sets out at items)

@@ -1,158 +1,116 @@
 // Writing to lent memory. What is past the end is not written, and a place stops at the farthest.
 #![tactic(auto)]
 
-ghost use Rattle.std.specs.Prelude.{◌+◌, ◌≤◌, min, ◌≡◌, [], ◌∷◌, length, take, drop};
+ghost use Rattle.std.specs.Prelude.{◌+◌, ◌≤◌, ◌<◌, ◌≡◌, [], ◌∷◌, length};
 ghost use Rattle.std.proofs.lemmas.List.Edits.{sets};
-ghost use Rattle.lent.specs.Memory.{far, Puts};
+ghost use Rattle.lent.specs.Memory.{Puts};
+ghost use Rattle.lent.specs.Writer.{Writes};
 
-// The farthest place.
-pub const FAR: usize = 18446744073709551615;
-
-// The place n further on.
-pub fn further(at: usize, n: usize) -> usize
-    ensures { result ≡ min (at + n) far }
+// Items, which fit.
+#[tactic(auto, using(crate::proofs::Writes::sets_part))]
+fn copy_part<T: Copy>(out: &mut [T], at: usize, s: &[T])
+    requires { at + length s.now ≤ length out.old }
+    ensures { out.new ≡ sets out.old at s.now }
 {
-    if n <= FAR - at { at + n } else { FAR }
+    out[at..at + s.len()].copy_from_slice(s);
 }
 
-// The lesser of two numbers.
-pub fn least(a: usize, b: usize) -> usize
-    ensures { result ≡ min a b }
+// N items, which fit: they are read before one is written, so that they are moved at once.
+fn copy_block<T: Copy, const N: usize>(out: &mut [T], at: usize, s: &[T])
+    requires { (length s.now ≡ N) × (at + length s.now ≤ length out.old) }
+    ensures { out.new ≡ sets out.old at s.now }
 {
-    if a <= b { a } else { b }
+    let block: [T; N] = s.try_into().unwrap();
+    copy_part(out, at, &block);
 }
 
-// A byte. Answers the next place.
-pub fn put_byte(out: &mut [u8], at: usize, b: u8) -> usize
-    ensures { Puts (b ∷ []) at out.old result out.new }
+// Items, which fit, as the first N of them and the last N, which may lie over the first.
+#[tactic(auto, using(crate::proofs::Writes::sets_ends))]
+fn copy_ends<T: Copy, const N: usize>(out: &mut [T], at: usize, s: &[T])
+    requires { (at + length s.now ≤ length out.old) × (N ≤ length s.now) × (length s.now ≤ N + N) }
+    ensures { out.new ≡ sets out.old at s.now }
+{
+    let last = s.len() - N;
+    copy_block::<T, N>(out, at, &s[..N]);
+    copy_block::<T, N>(out, at + last, &s[last..]);
+}
+
+// Items, which fit. Few are moved at once, with no call that copies memory.
+pub fn copy<T: Copy>(out: &mut [T], at: usize, s: &[T])
+    requires { at + length s.now ≤ length out.old }
+    ensures { out.new ≡ sets out.old at s.now }
+{
+    match s.len() {
+        0 => {}
+        1..=2 => copy_ends::<T, 1>(out, at, s),
+        3..=4 => copy_ends::<T, 2>(out, at, s),
+        5..=8 => copy_ends::<T, 4>(out, at, s),
+        9..=16 => copy_ends::<T, 8>(out, at, s),
+        17..=32 => copy_ends::<T, 16>(out, at, s),
+        _ => copy_part(out, at, s),
+    }
+}
+
+// An item. Answers the next place.
+pub fn put<T: Copy>(out: &mut [T], at: usize, item: T) -> usize
+    ensures { Puts (item ∷ []) at out.old result out.new }
 {
     if at < out.len() {
-        out[at] = b;
+        out[at] = item;
     }
-    further(at, 1)
+    at.saturating_add(1)
 }
 
-// The first n bytes of s, which fit, one by one.
-fn copy_each(out: &mut [u8], at: usize, s: &[u8], n: usize)
-    requires { (n ≤ length s.now) × (at + n ≤ length out.old) }
-    ensures { out.new ≡ sets out.old at (take n s.now) }
-{
-    let mut i: usize = 0;
-    while i < n {
-        out[at + i] = s[i];
-        i += 1;
-    }
-}
-
-// Four bytes of s from i on, to as far behind a place; they are read before one is written, so that they become one word.
-fn copy_four(out: &mut [u8], at: usize, s: &[u8], i: usize)
-    requires { (i + 4 ≤ length s.now) × (at + i + 4 ≤ length out.old) }
-    ensures { out.new ≡ sets out.old (at + i) (take 4 (drop i s.now)) }
-{
-    let a = s[i];
-    let b = s[i + 1];
-    let c = s[i + 2];
-    let d = s[i + 3];
-    let to = at + i;
-    out[to] = a;
-    out[to + 1] = b;
-    out[to + 2] = c;
-    out[to + 3] = d;
-}
-
-// Sixteen bytes of s from i on, in fours.
-fn copy_sixteen(out: &mut [u8], at: usize, s: &[u8], i: usize)
-    requires { (i + 16 ≤ length s.now) × (at + i + 16 ≤ length out.old) }
-    ensures { out.new ≡ sets out.old (at + i) (take 16 (drop i s.now)) }
-{
-    copy_four(out, at, s, i);
-    copy_four(out, at, s, i + 4);
-    copy_four(out, at, s, i + 8);
-    copy_four(out, at, s, i + 12);
-}
-
-// The first n bytes of s, which fit. Few bytes are copied in fours or sixteens, the last of which may lie over those before them.
-pub fn copy(out: &mut [u8], at: usize, s: &[u8], n: usize)
-    requires { (n ≤ length s.now) × (at + n ≤ length out.old) }
-    ensures { out.new ≡ sets out.old at (take n s.now) }
-{
-    if n < 4 {
-        copy_each(out, at, s, n);
-        return;
-    }
-    if 32 < n {
-        copy_each(out, at, s, n);
-        return;
-    }
-    if 16 < n {
-        copy_sixteen(out, at, s, 0);
-        copy_sixteen(out, at, s, n - 16);
-        return;
-    }
-    copy_four(out, at, s, 0);
-    if n <= 8 {
-        copy_four(out, at, s, n - 4);
-        return;
-    }
-    copy_four(out, at, s, 4);
-    if n <= 12 {
-        copy_four(out, at, s, n - 4);
-        return;
-    }
-    copy_four(out, at, s, 8);
-    copy_four(out, at, s, n - 4);
-}
-
-// Bytes. Answers the next place.
-pub fn put_bytes(out: &mut [u8], at: usize, s: &[u8]) -> usize
+// Items. Answers the next place.
+#[tactic(auto, using(crate::proofs::Writes::put_part, crate::proofs::Writes::put_lost))]
+pub fn put_all<T: Copy>(out: &mut [T], at: usize, s: &[T]) -> usize
     ensures { Puts s.now at out.old result out.new }
 {
     if at < out.len() {
         let room = out.len() - at;
-        copy(out, at, s, least(s.len(), room));
+        copy(out, at, &s[..s.len().min(room)]);
     }
-    further(at, s.len())
+    at.saturating_add(s.len())
 }
 
-// A word. Answers the next place.
-pub fn put_word(out: &mut [u32], at: usize, w: u32) -> usize
-    ensures { Puts (w ∷ []) at out.old result out.new }
+// N items: where all fit, the room is tested once. Answers the next place.
+pub fn put_array<T: Copy, const N: usize>(out: &mut [T], at: usize, items: [T; N]) -> usize
+    ensures { Puts items at out.old result out.new }
 {
-    if at < out.len() {
-        out[at] = w;
+    if at < out.len() && N <= out.len() - at {
+        copy_part(out, at, &items);
+        return at + N;
     }
-    further(at, 1)
+    put_cut(out, at, items)
 }
 
-// Two words. Answers the next place.
-pub fn put_two(out: &mut [u32], at: usize, a: u32, b: u32) -> usize
-    ensures { Puts (a ∷ b ∷ []) at out.old result out.new }
+// The same where they may not fit.
+#[cold]
+fn put_cut<T: Copy, const N: usize>(out: &mut [T], at: usize, items: [T; N]) -> usize
+    ensures { Puts items at out.old result out.new }
 {
-    if out.len() <= at {
-        return further(at, 2);
-    }
-    if out.len() - at < 2 {
-        let p = put_word(out, at, a);
-        return put_word(out, p, b);
-    }
-    out[at] = a;
-    out[at + 1] = b;
-    at + 2
+    put_all(out, at, &items)
 }
 
-// Three words. Answers the next place.
-pub fn put_three(out: &mut [u32], at: usize, a: u32, b: u32, c: u32) -> usize
-    ensures { Puts (a ∷ b ∷ c ∷ []) at out.old result out.new }
-{
-    if out.len() <= at {
-        return further(at, 3);
+// Lent bytes, and the place in them where what is put next goes.
+#[derive(Drop)]
+pub struct Writer<'a> {
+    pub out: &'a mut [u8],
+    pub at: usize,
+}
+
+impl<'a> Writer<'a> {
+    // A byte.
+    pub fn put_byte(&mut self, b: u8)
+        ensures { Writes (b ∷ []) self.old self.new }
+    {
+        self.at = put(self.out, self.at, b);
     }
-    if out.len() - at < 3 {
-        let p = put_two(out, at, a, b);
-        return put_word(out, p, c);
+
+    // Bytes.
+    pub fn put_bytes(&mut self, s: &[u8])
+        ensures { Writes s.now self.old self.new }
+    {
+        self.at = put_all(self.out, self.at, s);
     }
-    out[at] = a;
-    out[at + 1] = b;
-    out[at + 2] = c;
-    at + 3
 }

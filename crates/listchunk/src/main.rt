@@ -20,20 +20,11 @@ const OUT: usize = 65536;
 
 const NAME: [u8; 6] = *b"=stdin";
 
-// The first n words, as many as there are.
-fn first_words(words: &[u32], n: usize) -> &[u32]
-    ensures { result.now ≡ take n words.now }
+// The first n of a list, as many as there are: test_records' first again, since a program of the library shares nothing with the tests.
+fn first<T>(list: &[T], n: usize) -> &[T]
+    ensures { result.now ≡ take n list.now }
 {
-    let end = lent::least(n, words.len());
-    &words[0..end]
-}
-
-// The first n bytes, as many as there are.
-fn first_bytes(bytes: &[u8], n: usize) -> &[u8]
-    ensures { result.now ≡ take n bytes.now }
-{
-    let end = lent::least(n, bytes.len());
-    &bytes[0..end]
+    &list[..n.min(list.len())]
 }
 
 // Lists a chunk into out: the length, or the refusal of reading it or of the listing. Where measure is refused, store is refused by the same number.
@@ -42,19 +33,16 @@ fn list(chunk: &[u8], words: &mut [u32], text: &mut [u8], out: &mut [u8]) -> Wri
 {
     let m = measure(chunk, &NAME);
     let u = store(chunk, &NAME, m.words, m.text, m.read, words, text);
+    // The answer is C's, its refusal a number.
     if 0 < u.refusal {
         return Written {
             refusal: u.refusal,
             len: 0,
         };
     }
-    list_function(
-        first_words(words, u.words),
-        first_bytes(text, u.text),
-        &NAME,
-        false,
-        out,
-    )
+    let words = first(words, u.words);
+    let text = first(text, u.text);
+    list_function(words, text, &NAME, false, out)
 }
 
 // Writes the listing, or the refusal.
@@ -62,23 +50,16 @@ fn tell(r: Written, out: &[u8], rt: &impl Print) -> io::Result<()> {
     if 0 < r.refusal {
         return println!(rt; "refused {}", r.refusal);
     }
-    rt.write_all(first_bytes(out, r.len))
+    rt.write_all(first(out, r.len))
 }
 
 // Standard input, as many bytes as the space has room for. Answers how many they are.
 fn read_full(rt: &impl Input, space: &mut [u8]) -> io::Result<usize>
     ensures { IfOk result (λ n. n ≤ length space.new) }
 {
-    let mut reader = rt.reader();
-    let mut n = 0;
-    while n < space.len() {
-        let more = reader.read(&mut space[n..])?;
-        if more == 0 {
-            return Ok(n);
-        }
-        n += more;
-    }
-    Ok(n)
+    let room = space.len();
+    let n = io::copy(&mut rt.reader().take(room as u64), &mut &mut space[..])?;
+    Ok(room.min(n as usize))
 }
 
 fn main(rt: HostRuntime) -> io::Result<()> {
@@ -87,6 +68,6 @@ fn main(rt: HostRuntime) -> io::Result<()> {
     let mut words = [0u32; ROOM];
     let mut text = [0u8; ROOM];
     let mut out = [0u8; OUT];
-    let r = list(first_bytes(&chunk, n), &mut words, &mut text, &mut out);
+    let r = list(first(&chunk, n), &mut words, &mut text, &mut out);
     tell(r, &out, &rt)
 }

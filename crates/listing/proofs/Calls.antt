@@ -1,6 +1,8 @@
 -- The root of a store, listed.
-use Rattle.lent.proofs.Prelude.{ℕ, ◌+◌, ◌≤◌, ap, Bool, List, arith, length, length-append}
+use Rattle.lent.proofs.Prelude.{ℕ, ◌+◌, ◌≤◌, ◌≡◌, sym, ap, Bool, List, arith, length, length-append}
 use Rattle.lent.specs.Memory.{Puts}
+use Rattle.lent.specs.Writer.{Writes}
+use Rattle.lent.specs.declared.Writer.{Writer}
 use Rattle.format.specs.Tree.{Function, Functions}
 use Rattle.format.specs.Store.{debug_piece, function_piece, function_pieces, children_piece}
 use Rattle.format.specs.Valid.{depth, Valid, Holds}
@@ -32,10 +34,14 @@ mutual
       let b = totals_words fs (to + length (function_piece f).text) in
       omega (arith, length-append ((function_piece f).words to) ((function_pieces fs).words (to + length (function_piece f).text)))
 
+-- a writer is given up, and its bytes are those that it was lent
+pub writes_end : {items out : List ℕ} {w w' : Writer} → Writes items w w' → (w.out.ghost_name ≡ w'.out.ghost_name → out ≡ w'.out.now) → Puts items w.at w.out.now w'.at out
+writes_end p e = rw (e (sym p.same)) p.puts
+
 -- the root, listed at the beginning of the output
-pub root_puts : {words text name out : List ℕ} {full : Bool} {r : Progress}
-    → ((f : Function) → Valid f depth → ListsFunction words text full name f (progress (record { at = 0; number = 1; out = 0 }) out) r)
-    → (f : Function) → Holds words text f → Puts (list_function f full name) 0 out r.state.out r.output
-root_puts w f h =
+pub root_writes : {words text name : List ℕ} {full : Bool} {w : Writer} {r : Progress}
+    → ((f : Function) → Valid f depth → ListsFunction words text full name f (progress (record { at = 0; number = 1 }) w) r)
+    → (f : Function) → Holds words text f → Writes (list_function f full name) w r.writer
+root_writes l f h =
     let n = total_words f 0 in
-    (w f h.valid).puts (record { to = 0; stands = root_stands h }) (omega (arith, ap length h.words_are, h.words_fit))
+    (l f h.valid).writes (record { to = 0; stands = root_stands h }) (omega (arith, ap length h.words_are, h.words_fit))

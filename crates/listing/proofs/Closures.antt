@@ -1,5 +1,5 @@
 -- The child that an instruction makes a closure of: the one kept where there is none, else the one with its index.
-use Rattle.lent.proofs.Prelude.{ℕ, ◌≤◌, ◌<◌, ◌≡◌, ap, ◌∙◌, List, arith, get_or}
+use Rattle.lent.proofs.Prelude.{ℕ, ◌<◌, ◌≡◌, ap, ◌∙◌, List, arith, get_or}
 use Rattle.format.specs.Tree.{count}
 use Rattle.instructions.specs.Fields.{GETARG_Bx}
 use Rattle.proto.specs.declared.child.Child.{Child}
@@ -9,14 +9,6 @@ use Rattle.proto.proofs.Children.{child_numbered}
 use Rattle.listing.specs.Closures.{ClosureChild}
 
 module _ {words : List ℕ} {functions number allowance i n bx : ℕ} {kept : Child} (e : n ≡ get_or words functions 0) (f : bx ≡ GETARG_Bx i) where
-  -- no child of its index
-  pub closure_past : n ≤ bx → ClosureChild words functions number allowance i kept kept
-  closure_past h =
-      record {
-        found = λ k. k;
-        is = λ text fs x v small k. record { is = λ o b. let c : n ≡ count fs = e ∙ here_get (count fs) _ x.stands.in_words in absurd (omega arith) };
-      }
-
   pub closure_found : {r : Child} → bx < n → (r.index ≡ bx) × (ChildAt words functions number allowance kept → ChildAt words functions number allowance r) → ClosureChild words functions number allowance i kept r
   closure_found {r} h w =
       record {

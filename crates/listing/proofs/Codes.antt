@@ -1,7 +1,9 @@
 -- The loop over the code of a function: the line of each instruction, with the child that a CLOSURE names.
 use Rattle.lent.proofs.Prelude.{ℕ, ◌+◌, ◌*◌, ◌≤◌, ◌<◌, min, ◌≡◌, ◌∙◌, cond, List, arith, length, drop, get_or, drop_of_length-le}
-use Rattle.lent.specs.Memory.{Puts, far}
-use Rattle.lent.proofs.Writes.{Rest, rest_start, rest_put, rest_end}
+use Rattle.lent.specs.Memory.{far}
+use Rattle.lent.specs.Writer.{Writes}
+use Rattle.lent.specs.declared.Writer.{Writer}
+use Rattle.lent.proofs.Writers.{WritesLeft, left_put, left_end}
 use Rattle.format.specs.Tree.{Parts, Functions}
 use Rattle.format.specs.Valid.{ValidAll}
 use Rattle.instructions.specs.OpCodes.{opcode, next_is_c}
@@ -24,21 +26,18 @@ pub record Owns (words text : List ℕ) (lists : Lists) (allowance number : ℕ)
   pub small : number + 1 + total_all fs ≤ far
 
 -- before the instruction at pc: a child is kept, and the lines from here on are left
-pub record Codes (words text : List ℕ) (lists : Lists) (allowance number : ℕ) (kept : Child) (pc at : ℕ) (out : List ℕ) (start : ℕ) (out₀ : List ℕ) : Type 0 where
+pub record Codes (words text : List ℕ) (lists : Lists) (allowance number : ℕ) (kept : Child) (pc : ℕ) (w w₀ : Writer) : Type 0 where
   pub keeps : ChildAt words lists.functions number allowance kept
-  pub left : (p : Parts) (fs : Functions) → Owns words text lists allowance number p fs → Rest (print_code (format_instruction p fs number) pc (drop pc p.code)) at out (format_code p fs number) start out₀
+  pub left : (p : Parts) (fs : Functions) → Owns words text lists allowance number p fs → WritesLeft (print_code (format_instruction p fs number) pc (drop pc p.code)) w (format_code p fs number) w₀
 
 module _ {words text : List ℕ} {lists : Lists} {allowance number : ℕ} where
   count_is : {n : ℕ} {p : Parts} {fs : Functions} → n ≡ get_or words lists.code 0 → Owns words text lists allowance number p fs → n ≡ length p.code
   count_is {p = p} e k = e ∙ ints_count p.code k.at_lists.code.stands
 
-  pub codes_start : {kept : Child} {at : ℕ} {out : List ℕ} → ChildAt words lists.functions number allowance kept → Codes words text lists allowance number kept 0 at out at out
-  codes_start k = record { keeps = k; left = λ p fs x. rest_start }
-
-  pub codes_turn : {kept kept' : Child} {n pc i r next at start at' : ℕ} {out out₀ out' : List ℕ} → n ≡ get_or words lists.code 0 → pc < n → Codes words text lists allowance number kept pc at out start out₀
+  pub codes_turn : {kept kept' : Child} {n pc i r next : ℕ} {w w' w₀ : Writer} → n ≡ get_or words lists.code 0 → pc < n → Codes words text lists allowance number kept pc w w₀
       → Skips words (1 + 1 * pc) lists.code r → i ≡ get_or words r 0 → ClosureChild words lists.functions number allowance i kept kept'
-      → ((p : Parts) (fs : Functions) (m : ℕ) → ListsAt words text lists p fs → ChildIs fs m (opcode i) i kept'.number → Puts (format_instruction p fs m pc i) at out at' out')
-      → next ≡ cond (next_is_c i) (min (pc + 2) n) (pc + 1) → Codes words text lists allowance number kept' next at' out' start out₀
+      → ((p : Parts) (fs : Functions) (m : ℕ) → ListsAt words text lists p fs → ChildIs fs m (opcode i) i kept'.number → Writes (format_instruction p fs m pc i) w w')
+      → next ≡ cond (next_is_c i) (min (pc + 2) n) (pc + 1) → Codes words text lists allowance number kept' next w' w₀
   codes_turn {n = n} {pc} {i} e h t s f c put g =
       record {
         keeps = c.found t.keeps;
@@ -46,14 +45,14 @@ module _ {words text : List ℕ} {lists : Lists} {allowance number : ℕ} where
             let l = p.code in
             let m : n ≡ length l = count_is e x in
             let q : i ≡ get_or l pc 0 = ints_item l (omega arith) x.at_lists.code.stands s f in
-            rest_put (format_instruction p fs number pc i) (print_turn (format_instruction p fs number) l m h q g) (t.left p fs x)
+            left_put (format_instruction p fs number pc i) (print_turn (format_instruction p fs number) l m h q g) (t.left p fs x)
             (put p fs number x.at_lists (c.is text fs x.at_lists.functions x.valid x.small t.keeps));
       }
 
-  pub codes_end : {kept : Child} {n pc at start : ℕ} {out out₀ : List ℕ} → n ≡ get_or words lists.code 0 → n ≤ pc → Codes words text lists allowance number kept pc at out start out₀
-      → (p : Parts) (fs : Functions) → ListsAt words text lists p fs → ValidAll fs allowance → number + 1 + total_all fs ≤ far → Puts (format_code p fs number) start out₀ at out
+  pub codes_end : {kept : Child} {n pc : ℕ} {w w₀ : Writer} → n ≡ get_or words lists.code 0 → n ≤ pc → Codes words text lists allowance number kept pc w w₀
+      → (p : Parts) (fs : Functions) → ListsAt words text lists p fs → ValidAll fs allowance → number + 1 + total_all fs ≤ far → Writes (format_code p fs number) w₀ w
   unfolding print_code
   codes_end {pc = pc} e h t p fs l v s =
       let x : Owns words text lists allowance number p fs = record { at_lists = l; valid = v; small = s } in
       let m = count_is e x in
-      rest_end (rw (drop_of_length-le p.code {i = pc} (omega arith))) (t.left p fs x)
+      left_end (rw (drop_of_length-le p.code {i = pc} (omega arith))) (t.left p fs x)

@@ -1,136 +1,102 @@
 // Functions, one inside the other (listing.rs: list_function_recursive).
 ghost use Rattle.std.specs.Prelude.{◌+◌, ◌≤◌};
-ghost use Rattle.lent.specs.Memory.{Puts, far};
+ghost use Rattle.lent.specs.Memory.{far};
+ghost use Rattle.lent.specs.Writer.{Writes};
 ghost use Rattle.format.specs.Tree.{Parts, Function, Functions};
 ghost use Rattle.format.specs.Store.{function_piece};
 ghost use Rattle.format.specs.Valid.{Valid, ValidParts, ValidAll};
 ghost use Rattle.proto.specs.Walk.{total_all, StandsAt};
 ghost use Rattle.proto.specs.Lists.{ListsAt, LinesKept};
-ghost use Rattle.listing.specs.Listing.{format_lists, format_function};
-ghost use Rattle.listing.specs.Lister.{ListsFunction, progress};
 
 use crate::code::format_code;
-use lent::{further, put_byte};
-use listing_headers::header::format_header;
-use listing_headers::list::{format_constants, format_locals, format_upvalues};
+use lent::Writer;
+use listing_headers::header::Header;
+use listing_headers::list::{Constants, Locals, Upvalues, put_list};
 use proto::head::head_at;
-use proto::lists::{Lists, lists_on_way};
-use proto::walk::{after_debug, functions_at, skip, source_of, word_at};
+use proto::lists::{Kept, Lists, lists_on_way};
+use proto::store::Store;
+use proto::walk::{Next, after_debug, functions_at, skip, word_at};
 
-// Where the listing stands: a place in the words, the number of the function there, and a place in the output.
+// A store to list, with the lists of a full listing or without.
 #[derive(Clone, Copy)]
-pub struct ListState {
-    pub at: usize,
-    pub number: usize,
-    pub out: usize,
+pub struct Lister<'a> {
+    pub store: Store<'a>,
+    pub full: bool,
 }
 
-// What a full listing adds.
-fn format_lists(
-    words: &[u32],
-    text: &[u8],
-    lists: Lists,
-    full: bool,
-    number: usize,
-    out: &mut [u8],
-    at: usize,
-) -> usize
-    ensures { (p : Parts) (fs : Functions) → ListsAt words.now text.now lists p fs → Puts (format_lists full p number) at out.old result out.new }
-{
-    if full {
-        let a = format_constants(words, text, lists.constants, number, out, at);
-        let b = format_locals(words, text, lists.locals, number, out, a);
-        return format_upvalues(words, text, lists.upvalues, number, out, b);
+impl<'a> Lister<'a> {
+    ghost use Rattle.listing.specs.Listing.{format_lists, format_function};
+    ghost use Rattle.listing.specs.Lister.{ListsFunction, progress};
+
+    // What a full listing adds.
+    fn put_lists(self, w: &mut Writer, lists: Lists, number: usize)
+        ensures { (p : Parts) (fs : Functions) → ListsAt self.entry.store.words.now self.entry.store.text.now lists p fs → Writes (format_lists self.entry.full p number) w.old w.new }
+    {
+        if self.full {
+            put_list::<Constants>(w, self.store, lists.constants, number);
+            put_list::<Locals>(w, self.store, lists.locals, number);
+            put_list::<Upvalues>(w, self.store, lists.upvalues, number);
+        }
     }
-    at
-}
 
-// A function without those in it.
-fn format_function(
-    words: &[u32],
-    text: &[u8],
-    source: &[u8],
-    full: bool,
-    out: &mut [u8],
-    begins: &mut [usize],
-    lines: &mut [usize],
-    s: ListState,
-    allowance: u32,
-) -> usize
-    requires { LinesKept words.now begins.old lines.old }
-    ensures kept { LinesKept words.now begins.new lines.new }
-    ensures lists { (p : Parts) (fs : Functions) → ValidParts p → ValidAll fs allowance → StandsAt words.now text.now s.at (function_piece (Function.function p fs)) → s.number + 1 + total_all fs ≤ far → Puts (format_function p fs full source.now s.number) s.out out.old result out.new }
-{
-    let lists = lists_on_way(words, s.at, allowance, begins, lines);
-    let head = head_at(words, s.at);
-    let a = format_header(words, head, lists, source, s.number, out, s.out);
-    let b = format_code(words, text, lists, s.number, allowance, out, a);
-    format_lists(words, text, lists, full, s.number, out, b)
-}
-
-// The function at s, and those in it, with so many nested at most. outer is the source that an inherited one stands for; begins and lines
-// keep where the lines of functions are.
-pub fn list_function_recursive<'a>(
-    words: &[u32],
-    text: &'a [u8],
-    outer: &'a [u8],
-    full: bool,
-    out: &mut [u8],
-    begins: &mut [usize],
-    lines: &mut [usize],
-    s: ListState,
-    allowance: u32,
-) -> ListState
-    requires { LinesKept words.now begins.old lines.old }
-    ensures kept { LinesKept words.now begins.new lines.new }
-    ensures lists { (f : Function) → Valid f allowance → ListsFunction words.now text.now full outer.now f (progress s out.old) (progress result out.new) }
-{
-    if allowance == 0 {
-        return s;
-    }
-    let source = source_of(words, text, outer, s.at);
-    let own = format_function(
-        words,
-        text,
-        source,
-        full,
-        out,
-        begins,
-        lines,
-        s,
-        allowance - 1,
-    );
-    let list = functions_at(words, s.at);
-    let n = word_at(words, list);
-    let mut r = ListState {
-        at: skip(words, list, 1),
-        number: further(s.number, 1),
-        out: own,
-    };
-    let mut i: u32 = 0;
-    while i < n {
-        let line = put_byte(out, r.out, b'\n');
-        let next = ListState {
-            at: r.at,
-            number: r.number,
-            out: line,
-        };
-        r = list_function_recursive(
+    // A function without those in it.
+    fn put_function(
+        self,
+        w: &mut Writer,
+        kept: &mut [Option<Kept>],
+        source: &[u8],
+        s: Next,
+        allowance: u32,
+    )
+        requires { LinesKept self.store.words.now kept.old }
+        ensures kept { LinesKept self.entry.store.words.now kept.new }
+        ensures lists { (p : Parts) (fs : Functions) → ValidParts p → ValidAll fs allowance → StandsAt self.entry.store.words.now self.entry.store.text.now s.at (function_piece (Function.function p fs)) → s.number + 1 + total_all fs ≤ far → Writes (format_function p fs self.entry.full source.now s.number) w.old w.new }
+    {
+        let words = self.store.words;
+        let lists = lists_on_way(words, s.at, allowance, kept);
+        let header = Header {
             words,
-            text,
-            source,
-            full,
-            out,
-            begins,
-            lines,
-            next,
-            allowance - 1,
-        );
-        i += 1;
+            head: head_at(words, s.at),
+            lists,
+        };
+        header.put(w, source, s.number);
+        format_code(w, self.store, lists, s.number, allowance);
+        self.put_lists(w, lists, s.number);
     }
-    ListState {
-        at: after_debug(words, r.at),
-        number: r.number,
-        out: r.out,
+
+    // The function at s, and those in it, with so many nested at most. Answers what is behind it. outer is the source that an inherited one
+    // stands for.
+    pub fn list(
+        self,
+        w: &mut Writer,
+        kept: &mut [Option<Kept>],
+        outer: &'a [u8],
+        s: Next,
+        allowance: u32,
+    ) -> Next
+        requires { LinesKept self.store.words.now kept.old }
+        ensures kept { LinesKept self.entry.store.words.now kept.new }
+        ensures lists { (f : Function) → Valid f allowance → ListsFunction self.entry.store.words.now self.entry.store.text.now self.entry.full outer.now f (progress s w.old) (progress result w.new) }
+    {
+        if allowance == 0 {
+            return s;
+        }
+        let words = self.store.words;
+        let source = self.store.source_of(outer, s.at);
+        self.put_function(w, kept, source, s, allowance - 1);
+        let list = functions_at(words, s.at);
+        let n = word_at(words, list);
+        let mut r = Next {
+            at: skip(words, list, 1),
+            number: s.number.saturating_add(1),
+        };
+        for _i in 0..n {
+            w.put_byte(b'\n');
+            r = self.list(w, kept, source, r, allowance - 1);
+        }
+        Next {
+            at: after_debug(words, r.at),
+            ..r
+        }
     }
 }

@@ -1,306 +1,189 @@
-// The comment of an instruction. Each call writes its text at a place of lent bytes and answers the next place; what is past the end is not
-// written.
+// The comment of an instruction. Each call writes its text by a writer; what is past the end is not written.
 #![tactic(auto)]
 
-ghost use Rattle.std.specs.Prelude.{ℕ, ◌||◌, ltb, ◌≡◌, get_or, List, [], ◌∷◌, ◌++◌};
-ghost use Rattle.lent.specs.Memory.{Puts};
+ghost use Rattle.std.specs.Prelude.{ℕ, ◌≡◌, ◌||◌, ltb, get_or, List, ◌++◌};
+ghost use Rattle.lent.specs.Writer.{Writes};
 ghost use Rattle.digits.specs.Digits.{decimal};
 ghost use Rattle.format.specs.Tree.{Parts, Functions};
 ghost use Rattle.format.specs.Store.{list, ints, string, constant_piece};
 ghost use Rattle.proto.specs.Walk.{item};
 ghost use Rattle.instructions.specs.Fields.{ISK, INDEXK};
 ghost use Rattle.instructions.specs.OpCodes.{ascii, among};
-ghost use Rattle.listing_operands.specs.Operands.{format_constant, format_constant_raw};
+ghost use Rattle.listing_operands.specs.Operands.{constant_text, format_constant};
 ghost use Rattle.listing_comments.specs.Comment.{address, comment, when, upvalue_text, operand_constant, jump_target, format_set_list, format_comment, operand_ops};
 ghost use Rattle.listing_operands.specs.Shown.{Shows};
 ghost use Rattle.proto.specs.Lists.{ListsAt};
 ghost use Rattle.listing_comments.specs.Shown.{ChildIs};
 
-use digits::put_decimal;
+use digits::text::put_decimal;
 use instructions::{
-    Instruction, OP_ADD, OP_CLOSURE, OP_DIV, OP_EQ, OP_GETGLOBAL, OP_GETTABLE, OP_GETUPVAL, OP_LE,
-    OP_LOADK, OP_LT, OP_MOD, OP_MUL, OP_POW, OP_SELF, OP_SETGLOBAL, OP_SETLIST, OP_SETTABLE,
-    OP_SETUPVAL, OP_SUB, OP_VARARG, index_k, is_jump, is_k,
+    Instruction, MAXARG_SBX, OP_ADD, OP_CLOSURE, OP_DIV, OP_EQ, OP_GETGLOBAL, OP_GETTABLE,
+    OP_GETUPVAL, OP_LE, OP_LOADK, OP_LT, OP_MOD, OP_MUL, OP_POW, OP_SELF, OP_SETGLOBAL, OP_SETLIST,
+    OP_SETTABLE, OP_SETUPVAL, OP_SUB, OP_VARARG, index_k, is_jump, is_k,
 };
-use lent::{put_byte, put_bytes};
-use listing_operands::constant::{format_constant, format_constant_raw};
-use listing_operands::operand::{MAXARG_SBX, put_difference};
+use lent::Writer;
+use listing_operands::constant::format_constant;
+use listing_operands::operand::put_difference;
 use proto::lists::Lists;
-use proto::walk::{item_at, string_at, word_at};
+use proto::store::Store;
+use proto::walk::{ints_at, item_at, word_at};
+
+// A number in base 10.
+pub fn put_u32(w: &mut Writer, n: u32)
+    ensures { Writes (decimal n) w.old w.new }
+{
+    put_decimal(w, u64::from(n));
+}
 
 // The number of a function, for its address.
-pub fn put_address(n: usize, out: &mut [u8], at: usize) -> usize
-    ensures { Puts (address n) at out.old result out.new }
+pub fn put_address(w: &mut Writer, n: usize)
+    ensures { Writes (address n) w.old w.new }
 {
-    let o = put_byte(out, at, b'#');
-    put_decimal(out, o, n as u64)
+    w.put_byte(b'#');
+    put_decimal(w, n as u64);
 }
 
 // Where a comment begins.
-fn put_comment(out: &mut [u8], at: usize) -> usize
-    ensures { Puts (ascii "\t; ") at out.old result out.new }
+fn put_comment(w: &mut Writer)
+    ensures { Writes (ascii "\t; ") w.old w.new }
 {
-    put_bytes(out, at, b"\t; ")
+    w.put_bytes(b"\t; ");
 }
 
-// A constant.
-fn comment_constant(
-    words: &[u32],
-    text: &[u8],
-    constants: usize,
-    idx: u32,
-    out: &mut [u8],
-    at: usize,
-) -> usize
-    ensures { Shows words.now text.now constants (list constant_piece) (λ l. comment (format_constant l idx)) at out.old result out.new }
+// A constant; a global's name as it is, so RAW. The store and the place of its constants are no struct: each call passes them on once.
+fn comment_constant<const RAW: bool>(w: &mut Writer, store: Store, constants: usize, idx: u32)
+    ensures { Shows store.entry.words.now store.entry.text.now constants (list constant_piece) (λ l. comment (constant_text RAW (item l idx))) w.old w.new }
 {
-    let o = put_comment(out, at);
-    format_constant(words, text, constants, idx, out, o)
+    put_comment(w);
+    format_constant::<RAW>(w, store, constants, idx);
 }
 
 // The name of an upvalue, - where there is none.
-fn comment_upvalue(
-    words: &[u32],
-    text: &[u8],
-    upvalues: usize,
-    b: u32,
-    out: &mut [u8],
-    at: usize,
-) -> usize
-    ensures { Shows words.now text.now upvalues (list string) (λ l. comment (upvalue_text (item l b))) at out.old result out.new }
+fn comment_upvalue(w: &mut Writer, store: Store, upvalues: usize, b: u32)
+    ensures { Shows store.entry.words.now store.entry.text.now upvalues (list string) (λ l. comment (upvalue_text (item l b))) w.old w.new }
 {
-    let o = put_comment(out, at);
-    if word_at(words, upvalues) <= b {
-        return put_byte(out, o, b'-');
+    put_comment(w);
+    if word_at(store.words, upvalues) <= b {
+        w.put_byte(b'-');
+        return;
     }
-    put_bytes(
-        out,
-        o,
-        string_at(words, text, item_at(words, upvalues, 2, b)),
-    )
-}
-
-// A global's name.
-fn comment_global(
-    words: &[u32],
-    text: &[u8],
-    constants: usize,
-    idx: u32,
-    out: &mut [u8],
-    at: usize,
-) -> usize
-    ensures { Shows words.now text.now constants (list constant_piece) (λ l. comment (format_constant_raw l idx)) at out.old result out.new }
-{
-    let o = put_comment(out, at);
-    format_constant_raw(words, text, constants, idx, out, o)
+    w.put_bytes(store.string_at(item_at(store.words, upvalues, 2, b)));
 }
 
 // The key of a table, where it is a constant.
-fn comment_key(
-    words: &[u32],
-    text: &[u8],
-    constants: usize,
-    c: u32,
-    out: &mut [u8],
-    at: usize,
-) -> usize
-    ensures { Shows words.now text.now constants (list constant_piece) (λ l. when (ISK c) (comment (format_constant l (INDEXK c)))) at out.old result out.new }
+fn comment_key(w: &mut Writer, store: Store, constants: usize, c: u32)
+    ensures { Shows store.entry.words.now store.entry.text.now constants (list constant_piece) (λ l. when (ISK c) (comment (format_constant l (INDEXK c)))) w.old w.new }
 {
     if is_k(c) {
-        return comment_constant(words, text, constants, index_k(c), out, at);
+        comment_constant::<false>(w, store, constants, index_k(c));
     }
-    at
 }
 
 // The constant of an operand, - for a register.
-fn operand_constant(
-    words: &[u32],
-    text: &[u8],
-    constants: usize,
-    x: u32,
-    out: &mut [u8],
-    at: usize,
-) -> usize
-    ensures { Shows words.now text.now constants (list constant_piece) (λ l. operand_constant l x) at out.old result out.new }
+fn operand_constant(w: &mut Writer, store: Store, constants: usize, x: u32)
+    ensures { Shows store.entry.words.now store.entry.text.now constants (list constant_piece) (λ l. operand_constant l x) w.old w.new }
 {
     if is_k(x) {
-        return format_constant(words, text, constants, index_k(x), out, at);
+        format_constant::<false>(w, store, constants, index_k(x));
+    } else {
+        w.put_byte(b'-');
     }
-    put_byte(out, at, b'-')
-}
-
-// Two operands.
-fn comment_both(
-    words: &[u32],
-    text: &[u8],
-    constants: usize,
-    b: u32,
-    c: u32,
-    out: &mut [u8],
-    at: usize,
-) -> usize
-    ensures { Shows words.now text.now constants (list constant_piece) (λ l. comment (operand_constant l b ++ ascii " " ++ operand_constant l c)) at out.old result out.new }
-{
-    let o = put_comment(out, at);
-    let p = operand_constant(words, text, constants, b, out, o);
-    let q = put_byte(out, p, b' ');
-    operand_constant(words, text, constants, c, out, q)
 }
 
 // Two operands, where one is a constant.
-fn comment_operands(
-    words: &[u32],
-    text: &[u8],
-    constants: usize,
-    b: u32,
-    c: u32,
-    out: &mut [u8],
-    at: usize,
-) -> usize
-    ensures { Shows words.now text.now constants (list constant_piece) (λ l. when (ISK b || ISK c) (comment (operand_constant l b ++ ascii " " ++ operand_constant l c))) at out.old result out.new }
+fn comment_operands(w: &mut Writer, store: Store, constants: usize, b: u32, c: u32)
+    ensures { Shows store.entry.words.now store.entry.text.now constants (list constant_piece) (λ l. when (ISK b || ISK c) (comment (operand_constant l b ++ ascii " " ++ operand_constant l c))) w.old w.new }
 {
-    if is_k(b) {
-        return comment_both(words, text, constants, b, c, out, at);
+    if is_k(b) || is_k(c) {
+        put_comment(w);
+        operand_constant(w, store, constants, b);
+        w.put_byte(b' ');
+        operand_constant(w, store, constants, c);
     }
-    if is_k(c) {
-        return comment_both(words, text, constants, b, c, out, at);
-    }
-    at
 }
 
 // Where a jump goes.
-fn comment_jump(pc: u32, i: u32, out: &mut [u8], at: usize) -> usize
-    ensures { Puts (comment (ascii "to " ++ jump_target pc i)) at out.old result out.new }
+fn comment_jump(w: &mut Writer, pc: u32, i: u32)
+    ensures { Writes (comment (ascii "to " ++ jump_target pc i)) w.old w.new }
 {
-    let o = put_comment(out, at);
-    let p = put_bytes(out, o, b"to ");
-    let to = Instruction(i).bx() as u64 + pc as u64 + 2;
-    put_difference(to, MAXARG_SBX, out, p)
+    put_comment(w);
+    w.put_bytes(b"to ");
+    let to = u64::from(Instruction(i).bx()) + u64::from(pc) + 2;
+    put_difference(w, to, MAXARG_SBX as u64);
 }
 
 // The number of the function that a CLOSURE makes.
-fn comment_closure(
-    words: &[u32],
-    functions: usize,
-    bx: u32,
-    child: usize,
-    out: &mut [u8],
-    at: usize,
-) -> usize
-    ensures { Puts (when (ltb bx (get_or words.now functions 0)) (comment (address child))) at out.old result out.new }
+fn comment_closure(w: &mut Writer, words: &[u32], functions: usize, bx: u32, child: usize)
+    ensures { Writes (when (ltb bx (get_or words.now functions 0)) (comment (address child))) w.old w.new }
 {
     if bx < word_at(words, functions) {
-        let o = put_comment(out, at);
-        return put_address(child, out, o);
+        put_comment(w);
+        put_address(w, child);
     }
-    at
 }
 
 // VARARG's.
-fn comment_vararg(out: &mut [u8], at: usize) -> usize
-    ensures { Puts (comment (ascii "is_vararg")) at out.old result out.new }
+fn comment_vararg(w: &mut Writer)
+    ensures { Writes (comment (ascii "is_vararg")) w.old w.new }
 {
-    let o = put_comment(out, at);
-    put_bytes(out, o, b"is_vararg")
+    put_comment(w);
+    w.put_bytes(b"is_vararg");
 }
 
 // The number of items that a SETLIST sets.
-fn comment_items(n: u32, out: &mut [u8], at: usize) -> usize
-    ensures { Puts (comment (decimal n)) at out.old result out.new }
+fn comment_items(w: &mut Writer, n: u32)
+    ensures { Writes (comment (decimal n)) w.old w.new }
 {
-    let o = put_comment(out, at);
-    put_decimal(out, o, n as u64)
+    put_comment(w);
+    put_u32(w, n);
 }
 
 // That is C, or else the word behind the instruction, where there is one.
-fn comment_set_list(words: &[u32], code: usize, pc: u32, c: u32, out: &mut [u8], at: usize) -> usize
-    ensures { (t : List ℕ) → Shows words.now t code ints (λ l. format_set_list l pc c) at out.old result out.new }
+fn comment_set_list(w: &mut Writer, words: &[u32], code: usize, pc: u32, c: u32)
+    ensures { (t : List ℕ) → Shows words.now t code ints (λ l. format_set_list l pc c) w.old w.new }
 {
     if c != 0 {
-        return comment_items(c, out, at);
+        comment_items(w, c);
+    } else if let Some(&n) = ints_at(words, code).get(pc as usize + 1) {
+        comment_items(w, n);
     }
-    let n = word_at(words, code);
-    if n == 0 {
-        return at;
-    }
-    if n - 1 <= pc {
-        return at;
-    }
-    comment_items(word_at(words, item_at(words, code, 1, pc + 1)), out, at)
-}
-
-// Whether an opcode is one of two.
-fn either(op: u8, a: u8, b: u8) -> bool
-    ensures { result ≡ among op (a ∷ b ∷ []) }
-{
-    if op == a {
-        return true;
-    }
-    op == b
 }
 
 // Whether an opcode has two operands that may be constants.
 fn has_operands(op: u8) -> bool
     ensures { result ≡ among op operand_ops }
 {
-    if either(op, OP_SETTABLE, OP_ADD) {
-        return true;
-    }
-    if either(op, OP_SUB, OP_MUL) {
-        return true;
-    }
-    if either(op, OP_DIV, OP_MOD) {
-        return true;
-    }
-    if either(op, OP_POW, OP_EQ) {
-        return true;
-    }
-    either(op, OP_LT, OP_LE)
+    matches!(
+        op,
+        OP_SETTABLE | OP_ADD | OP_SUB | OP_MUL | OP_DIV | OP_MOD | OP_POW | OP_EQ | OP_LT | OP_LE
+    )
 }
 
 // The comment of the instruction at pc. child is the number of the function that a CLOSURE makes.
 pub fn format_comment(
-    words: &[u32],
-    text: &[u8],
+    w: &mut Writer,
+    store: Store,
     lists: Lists,
     child: usize,
     pc: u32,
     op: u8,
     i: u32,
-    out: &mut [u8],
-    at: usize,
-) -> usize
-    ensures { (p : Parts) (fs : Functions) (number : ℕ) → ListsAt words.now text.now lists p fs → ChildIs fs number op i child → Puts (format_comment op p fs number pc i) at out.old result out.new }
+)
+    ensures { (p : Parts) (fs : Functions) (number : ℕ) → ListsAt store.entry.words.now store.entry.text.now lists p fs → ChildIs fs number op i child → Writes (format_comment op p fs number pc i) w.old w.new }
 {
     let b = Instruction(i).b();
     let c = Instruction(i).c();
     let bx = Instruction(i).bx();
-    if op == OP_LOADK {
-        return comment_constant(words, text, lists.constants, bx, out, at);
+    match op {
+        OP_LOADK => comment_constant::<false>(w, store, lists.constants, bx),
+        OP_GETUPVAL | OP_SETUPVAL => comment_upvalue(w, store, lists.upvalues, b),
+        OP_GETGLOBAL | OP_SETGLOBAL => comment_constant::<true>(w, store, lists.constants, bx),
+        OP_GETTABLE | OP_SELF => comment_key(w, store, lists.constants, c),
+        OP_CLOSURE => comment_closure(w, store.words, lists.functions, bx, child),
+        OP_SETLIST => comment_set_list(w, store.words, lists.code, pc, c),
+        OP_VARARG => comment_vararg(w),
+        _ if has_operands(op) => comment_operands(w, store, lists.constants, b, c),
+        _ if is_jump(op) => comment_jump(w, pc, i),
+        _ => {}
     }
-    if either(op, OP_GETUPVAL, OP_SETUPVAL) {
-        return comment_upvalue(words, text, lists.upvalues, b, out, at);
-    }
-    if either(op, OP_GETGLOBAL, OP_SETGLOBAL) {
-        return comment_global(words, text, lists.constants, bx, out, at);
-    }
-    if either(op, OP_GETTABLE, OP_SELF) {
-        return comment_key(words, text, lists.constants, c, out, at);
-    }
-    if has_operands(op) {
-        return comment_operands(words, text, lists.constants, b, c, out, at);
-    }
-    if is_jump(op) {
-        return comment_jump(pc, i, out, at);
-    }
-    if op == OP_CLOSURE {
-        return comment_closure(words, lists.functions, bx, child, out, at);
-    }
-    if op == OP_SETLIST {
-        return comment_set_list(words, lists.code, pc, c, out, at);
-    }
-    if op == OP_VARARG {
-        return comment_vararg(out, at);
-    }
-    at
 }

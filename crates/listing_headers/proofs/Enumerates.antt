@@ -1,12 +1,13 @@
 -- A loop that writes the items of a list that stands in the words, each with its index: what is left to write are the items from here on.
 use Rattle.lent.proofs.Prelude.{ℕ, zero, suc, ◌+◌, ◌*◌, ◌≤◌, ◌<◌, ◌≡◌, refl, ◌∙◌, List, [], ◌∷◌, ◌++◌, some, arith, add-one, length, drop, get_or, drop_of_length-le}
-use Rattle.lent.specs.Memory.{Puts}
-use Rattle.lent.proofs.Writes.{Rest, rest_start, rest_put, rest_end, put_then}
+use Rattle.lent.specs.Writer.{Writes}
+use Rattle.lent.specs.declared.Writer.{Writer}
+use Rattle.lent.proofs.Writers.{WritesLeft, left_put, left_end, writes_then}
 use Rattle.format.specs.Store.{Piece, list}
 use Rattle.proto.specs.Walk.{item, Skips, StandsAt}
 use Rattle.proto.proofs.Items.{list_count, list_item}
 use Rattle.listing_operands.specs.Shown.{Shows}
-use Rattle.listing_headers.specs.Tables.{enumerated, title}
+use Rattle.listing_headers.specs.Tables.{enumerated, title, format_list}
 
 -- the item at an index, and those behind it
 record ItemAt {A : Type 0} (l : List A) (i : ℕ) : Type 0 where
@@ -20,36 +21,31 @@ item_at [] i h = absurd (omega arith)
 item_at (a ∷ l) zero h = record { value = a; is = refl; behind = refl }
 item_at (a ∷ l) (suc i) h = let x = item_at l i (omega arith) in record { value = x.value; is = x.is; behind = x.behind }
 
--- before item i of whatever list stands there, the loop having begun at start; the memory is as long as then
-pub record EnumeratesList {A : Type 0} (words text : List ℕ) (place : ℕ) (piece : A → Piece) (say : ℕ → A → List ℕ) (i at : ℕ) (out : List ℕ) (start : ℕ) (out₀ : List ℕ) : Type 0 where
-  pub kept : length out ≡ length out₀
-  pub left : (l : List A) → StandsAt words text place (list piece l) → Rest (enumerated say i (drop i l)) at out (enumerated say 0 l) start out₀
+-- before item i of whatever list stands there, the loop having begun at w₀
+pub record EnumeratesList {A : Type 0} (words text : List ℕ) (place : ℕ) (piece : A → Piece) (say : ℕ → A → List ℕ) (i : ℕ) (w w₀ : Writer) : Type 0 where
+  pub left : (l : List A) → StandsAt words text place (list piece l) → WritesLeft (enumerated say i (drop i l)) w (enumerated say 0 l) w₀
 
-module _ {A : Type 0} {words text : List ℕ} {place : ℕ} {piece : A → Piece} {say : ℕ → A → List ℕ} where
-  pub list_start : {at : ℕ} {out : List ℕ} → EnumeratesList words text place piece say 0 at out at out
-  list_start = record { kept = refl; left = λ l x. rest_start }
-
+module _ {A : Type 0} {words text : List ℕ} {place : ℕ} {piece : A → Piece} {say : ℕ → A → List ℕ} {w w₀ : Writer} where
   -- item i stands k words behind the one before it
-  pub list_turn : {i n k at start at' r : ℕ} {out out₀ out' : List ℕ} → EnumeratesList words text place piece say i at out start out₀ → Shows words text r piece (say i) at out at' out' → length out' ≡ length out
-      → Skips words (1 + k * i) place r → ((a : A) (to : ℕ) → length ((piece a).words to) ≡ k) → n ≡ get_or words place 0 → i < n → EnumeratesList words text place piece say (i + 1) at' out' start out₀
+  pub list_turn : {i n k r : ℕ} {w' : Writer} → EnumeratesList words text place piece say i w w₀ → Shows words text r piece (say i) w w' → Skips words (1 + k * i) place r → ((a : A) (to : ℕ) → length ((piece a).words to) ≡ k)
+      → n ≡ get_or words place 0 → i < n → EnumeratesList words text place piece say (i + 1) w' w₀
   unfolding enumerated
-  list_turn {i} {k = k} t p same s w e h =
+  list_turn {i} {k = k} t p s wide e h =
       record {
-        kept = same ∙ t.kept;
         left = λ l x.
             let c = e ∙ list_count piece l x.stands in
             let a = item_at l i (omega arith) in
             let q : enumerated say i (drop i l) ≡ say i a.value ++ enumerated say (i + 1) (drop (i + 1) l) = rw (a.behind, add-one i) in
-            rest_put (say i a.value) q (t.left l x) (p.shows a.value (list_item piece k w l i a.value a.is x.stands s));
+            left_put (say i a.value) q (t.left l x) (p.shows a.value (list_item piece k wide l i a.value a.is x.stands s));
       }
 
   -- behind a title
-  pub list_end : {i n at start mid : ℕ} {out out₀ out₁ : List ℕ} (what : List ℕ) (number : ℕ) → EnumeratesList words text place piece say i at out mid out₁ → Puts (title what n number) start out₀ mid out₁ → n ≡ get_or words place 0 → n ≤ i
-      → Shows words text place (list piece) (λ l. title what (length l) number ++ enumerated say 0 l) start out₀ at out
+  pub list_end : {i n : ℕ} {start : Writer} (what : List ℕ) (number : ℕ) → EnumeratesList words text place piece say i w w₀ → Writes (title what n number) start w₀ → n ≡ get_or words place 0 → n ≤ i
+      → Shows words text place (list piece) (λ l. format_list what say l number) start w
   unfolding enumerated
   list_end {i} {n} what number t p e h =
       record {
         shows = λ l x.
             let q : n ≡ length l = e ∙ list_count piece l x.stands in
-            rw (← q) (put_then p (rest_end (rw (drop_of_length-le l {i = i} (omega arith))) (t.left l x)));
+            rw (← q) (writes_then p (left_end (rw (drop_of_length-le l {i = i} (omega arith))) (t.left l x)));
       }

@@ -1,3 +1,2 @@
-pub mod Headers
 pub mod Enumerates
 pub mod Locals

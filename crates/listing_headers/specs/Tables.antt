@@ -1,5 +1,5 @@
 -- The lists of a full listing: format_constants, format_locals and format_upvalues of listing.rs, in its order.
-use Rattle.std.specs.Prelude.{ℕ, suc, ◌+◌, ◌%◌, ◌^◌, List, [], ◌∷◌, ◌++◌, length}
+use Rattle.std.specs.Prelude.{ℕ, suc, false, ◌+◌, ◌%◌, ◌^◌, List, [], ◌∷◌, ◌++◌, length}
 use Rattle.std.proofs.Math.Option.{some}
 use Rattle.digits.specs.Digits.{decimal}
 use Rattle.instructions.specs.OpCodes.{ascii}
@@ -17,12 +17,16 @@ enumerated e i (a ∷ l) = e i a ++ enumerated e (suc i) l
 abbrev pub title : List ℕ → ℕ → ℕ → List ℕ
 title what n number = what ++ ascii " (" ++ decimal n ++ ascii ") for " ++ address number ++ ascii ":\n"
 
+-- a list, each item with its line
+abbrev pub format_list : {A : Type 0} → List ℕ → (ℕ → A → List ℕ) → List A → ℕ → List ℕ
+format_list what line l number = title what (length l) number ++ enumerated line 0 l
+
 abbrev pub format_constant_at : ℕ → Constant → List ℕ
-format_constant_at i k = index (i + 1) ++ constant_text (some k) ++ ascii "\n"
+format_constant_at i k = index (i + 1) ++ constant_text false (some k) ++ ascii "\n"
 
 -- format_constants
 abbrev pub format_constants : List Constant → ℕ → List ℕ
-format_constants constants number = title (ascii "constants") (length constants) number ++ enumerated format_constant_at 0 constants
+format_constants constants number = format_list (ascii "constants") format_constant_at constants number
 
 -- a pc raised by one, which wraps
 abbrev pub raised : ℕ → ℕ
@@ -36,11 +40,11 @@ format_local_at i v = index i ++ v.name ++ tabbed (raised v.start) ++ tabbed (ra
 
 -- format_locals
 abbrev pub format_locals : List Local → ℕ → List ℕ
-format_locals locals number = title (ascii "locals") (length locals) number ++ enumerated format_local_at 0 locals
+format_locals locals number = format_list (ascii "locals") format_local_at locals number
 
 abbrev pub format_upvalue_at : ℕ → List ℕ → List ℕ
 format_upvalue_at i name = index i ++ name ++ ascii "\n"
 
 -- format_upvalues
 abbrev pub format_upvalues : List (List ℕ) → ℕ → List ℕ
-format_upvalues upvalues number = title (ascii "upvalues") (length upvalues) number ++ enumerated format_upvalue_at 0 upvalues
+format_upvalues upvalues number = format_list (ascii "upvalues") format_upvalue_at upvalues number

@@ -1,16 +1,15 @@
 // The header of a function (listing.rs: display_source, format_header).
-ghost use Rattle.std.specs.Prelude.{◌≡◌, ℕ, List, ◌++◌};
-ghost use Rattle.lent.specs.Memory.{Puts};
+ghost use Rattle.std.specs.Prelude.{◌≡◌, ◌++◌};
+ghost use Rattle.lent.specs.Writer.{Writes};
 ghost use Rattle.digits.specs.Digits.{decimal};
 ghost use Rattle.instructions.specs.OpCodes.{ascii};
 ghost use Rattle.format.specs.Tree.{Parts, Functions};
-ghost use Rattle.proto.specs.Head.{head_of};
-ghost use Rattle.proto.specs.Lists.{ListsAt};
+ghost use Rattle.listing_headers.specs.Headed.{HeaderOf};
 ghost use Rattle.listing_headers.specs.Header.{display_source, plural, vararg, kind_of, source_lines, code_size, format_params, header_kind, header_counts, format_header};
 
-use digits::put_decimal;
-use lent::{put_byte, put_bytes};
-use listing_comments::put_address;
+use digits::text::put_decimal;
+use lent::Writer;
+use listing_comments::{put_address, put_u32};
 use proto::head::Head;
 use proto::lists::Lists;
 use proto::walk::word_at;
@@ -19,138 +18,136 @@ use proto::walk::word_at;
 fn display_source(source: &[u8]) -> &[u8]
     ensures { result.now ≡ display_source source.now }
 {
-    if 0 < source.len() {
-        if source[0] == b'@' {
-            return &source[1..];
-        }
+    match source {
+        [b'@', rest @ ..] => rest,
+        _ => source,
     }
-    source
 }
 
 // A noun, with s but for one.
-fn put_noun(noun: &[u8], n: u32, out: &mut [u8], at: usize) -> usize
-    ensures { Puts (noun.now ++ plural n) at out.old result out.new }
+#[tactic(auto, using(lent::proofs::Writers::writes_then))]
+fn put_noun(w: &mut Writer, noun: &[u8], n: u32)
+    ensures { Writes (noun.now ++ plural n) w.old w.new }
 {
-    let a = put_bytes(out, at, noun);
-    if n == 1 {
-        return a;
+    w.put_bytes(noun);
+    if n != 1 {
+        w.put_byte(b's');
     }
-    put_byte(out, a, b's')
 }
 
 // n of what a noun names.
-fn put_amount(n: u32, noun: &[u8], out: &mut [u8], at: usize) -> usize
-    ensures { Puts (decimal n ++ (noun.now ++ plural n)) at out.old result out.new }
+#[tactic(auto, using(lent::proofs::Writers::writes_then))]
+fn put_amount(w: &mut Writer, n: u32, noun: &[u8])
+    ensures { Writes (decimal n ++ (noun.now ++ plural n)) w.old w.new }
 {
-    let a = put_decimal(out, at, n as u64);
-    put_noun(noun, n, out, a)
+    put_u32(w, n);
+    put_noun(w, noun, n);
 }
 
 // The same behind other amounts.
-fn put_and_amount(n: u32, noun: &[u8], out: &mut [u8], at: usize) -> usize
-    ensures { Puts (ascii ", " ++ (decimal n ++ (noun.now ++ plural n))) at out.old result out.new }
+fn put_and_amount(w: &mut Writer, n: u32, noun: &[u8])
+    ensures { Writes (ascii ", " ++ (decimal n ++ (noun.now ++ plural n))) w.old w.new }
 {
-    let a = put_bytes(out, at, b", ");
-    put_amount(n, noun, out, a)
+    w.put_bytes(b", ");
+    put_amount(w, n, noun);
 }
 
 // main or function.
-fn put_kind(line: u32, out: &mut [u8], at: usize) -> usize
-    ensures { Puts (kind_of line) at out.old result out.new }
+fn put_kind(w: &mut Writer, line: u32)
+    ensures { Writes (kind_of line) w.old w.new }
 {
     if line == 0 {
-        return put_bytes(out, at, b"main");
+        w.put_bytes(b"main");
+    } else {
+        w.put_bytes(b"function");
     }
-    put_bytes(out, at, b"function")
 }
 
 // The source and the defined lines.
-fn put_source_lines(source: &[u8], start: u32, end: u32, out: &mut [u8], at: usize) -> usize
-    ensures { Puts (source_lines source.now start end) at out.old result out.new }
+fn put_source_lines(w: &mut Writer, source: &[u8], start: u32, end: u32)
+    ensures { Writes (source_lines source.now start end) w.old w.new }
 {
-    let a = put_bytes(out, at, b" <");
-    let b = put_bytes(out, a, display_source(source));
-    let c = put_byte(out, b, b':');
-    let d = put_decimal(out, c, start as u64);
-    let e = put_byte(out, d, b',');
-    let f = put_decimal(out, e, end as u64);
-    put_byte(out, f, b'>')
+    w.put_bytes(b" <");
+    w.put_bytes(display_source(source));
+    w.put_byte(b':');
+    put_u32(w, start);
+    w.put_byte(b',');
+    put_u32(w, end);
+    w.put_byte(b'>');
 }
 
 // The code words, the bytes, and the function's number.
-fn put_code_size(n: u32, number: usize, out: &mut [u8], at: usize) -> usize
-    ensures { Puts (code_size n number) at out.old result out.new }
+fn put_code_size(w: &mut Writer, n: u32, number: usize)
+    ensures { Writes (code_size n number) w.old w.new }
 {
-    let a = put_bytes(out, at, b" (");
-    let b = put_amount(n, b" instruction", out, a);
-    let c = put_bytes(out, b, b", ");
-    let d = put_decimal(out, c, n as u64 * 4);
-    let e = put_bytes(out, d, b" bytes at ");
-    let f = put_address(number, out, e);
-    put_bytes(out, f, b")\n")
-}
-
-// The params, with + for vararg.
-fn put_params(n: u32, bits: u32, out: &mut [u8], at: usize) -> usize
-    ensures { Puts (format_params n bits) at out.old result out.new }
-{
-    let a = put_decimal(out, at, n as u64);
-    let b = put_vararg(bits, out, a);
-    put_noun(b" param", n, out, b)
+    w.put_bytes(b" (");
+    put_amount(w, n, b" instruction");
+    w.put_bytes(b", ");
+    put_decimal(w, u64::from(n) * 4);
+    w.put_bytes(b" bytes at ");
+    put_address(w, number);
+    w.put_bytes(b")\n");
 }
 
 // + where is_vararg has the bit worth 2.
-fn put_vararg(bits: u32, out: &mut [u8], at: usize) -> usize
-    ensures { Puts (vararg bits) at out.old result out.new }
+fn put_vararg(w: &mut Writer, bits: u32)
+    ensures { Writes (vararg bits) w.old w.new }
 {
     if bits / 2 % 2 == 1 {
-        return put_byte(out, at, b'+');
+        w.put_byte(b'+');
     }
-    at
 }
 
-// Line one.
-fn header_kind(
-    words: &[u32],
-    head: Head,
-    lists: Lists,
-    source: &[u8],
-    number: usize,
-    out: &mut [u8],
-    at: usize,
-) -> usize
-    ensures { (p : Parts) (fs : Functions) (t : List ℕ) → head ≡ head_of p → ListsAt words.now t lists p fs → Puts (header_kind p source.now number) at out.old result out.new }
+// The params, with + for vararg.
+fn put_params(w: &mut Writer, n: u32, bits: u32)
+    ensures { Writes (format_params n bits) w.old w.new }
 {
-    let a = put_kind(head.line_defined, out, at);
-    let b = put_source_lines(source, head.line_defined, head.last_line_defined, out, a);
-    put_code_size(word_at(words, lists.code), number, out, b)
+    put_u32(w, n);
+    put_vararg(w, bits);
+    put_noun(w, b" param", n);
 }
 
-// Line two.
-fn header_counts(words: &[u32], head: Head, lists: Lists, out: &mut [u8], at: usize) -> usize
-    ensures { (p : Parts) (fs : Functions) (t : List ℕ) → head ≡ head_of p → ListsAt words.now t lists p fs → Puts (header_counts p fs) at out.old result out.new }
-{
-    let a = put_params(head.num_params, head.is_vararg, out, at);
-    let b = put_and_amount(head.max_stack_size, b" slot", out, a);
-    let c = put_and_amount(head.num_upvalues, b" upvalue", out, b);
-    let d = put_and_amount(word_at(words, lists.locals), b" local", out, c);
-    let e = put_and_amount(word_at(words, lists.constants), b" constant", out, d);
-    let f = put_and_amount(word_at(words, lists.functions), b" function", out, e);
-    put_byte(out, f, b'\n')
+// What the header of a function is made of: its numbers, and where its lists stand in the words.
+#[derive(Clone, Copy)]
+pub struct Header<'a> {
+    pub words: &'a [u32],
+    pub head: Head,
+    pub lists: Lists,
 }
 
-// The header.
-pub fn format_header(
-    words: &[u32],
-    head: Head,
-    lists: Lists,
-    source: &[u8],
-    number: usize,
-    out: &mut [u8],
-    at: usize,
-) -> usize
-    ensures { (p : Parts) (fs : Functions) (t : List ℕ) → head ≡ head_of p → ListsAt words.now t lists p fs → Puts (format_header p fs source.now number) at out.old result out.new }
-{
-    let a = header_kind(words, head, lists, source, number, out, at);
-    header_counts(words, head, lists, out, a)
+impl Header<'_> {
+    // Line one.
+    fn put_kind(self, w: &mut Writer, source: &[u8], number: usize)
+        ensures { (p : Parts) (fs : Functions) → HeaderOf self.entry p fs → Writes (header_kind p source.now number) w.old w.new }
+    {
+        put_kind(w, self.head.line_defined);
+        put_source_lines(
+            w,
+            source,
+            self.head.line_defined,
+            self.head.last_line_defined,
+        );
+        put_code_size(w, word_at(self.words, self.lists.code), number);
+    }
+
+    // Line two.
+    fn put_counts(self, w: &mut Writer)
+        ensures { (p : Parts) (fs : Functions) → HeaderOf self.entry p fs → Writes (header_counts p fs) w.old w.new }
+    {
+        put_params(w, self.head.num_params, self.head.is_vararg);
+        put_and_amount(w, self.head.max_stack_size, b" slot");
+        put_and_amount(w, self.head.num_upvalues, b" upvalue");
+        put_and_amount(w, word_at(self.words, self.lists.locals), b" local");
+        put_and_amount(w, word_at(self.words, self.lists.constants), b" constant");
+        put_and_amount(w, word_at(self.words, self.lists.functions), b" function");
+        w.put_byte(b'\n');
+    }
+
+    // The header.
+    pub fn put(self, w: &mut Writer, source: &[u8], number: usize)
+        ensures { (p : Parts) (fs : Functions) → HeaderOf self.entry p fs → Writes (format_header p fs source.now number) w.old w.new }
+    {
+        self.put_kind(w, source, number);
+        self.put_counts(w);
+    }
 }

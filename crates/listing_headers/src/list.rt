@@ -1,146 +1,164 @@
 // The lists of a full listing (listing.rs: format_constants, format_locals, format_upvalues).
-ghost use Rattle.lent.specs.Memory.{Puts};
-ghost use Rattle.format.specs.Store.{list, string, constant_piece, local_piece};
+ghost use Rattle.std.specs.Prelude.{◌≡◌, ℕ, List, length, refl};
+ghost use Rattle.lent.specs.Writer.{Writes};
+ghost use Rattle.format.specs.Tree.{Constant, Local};
+ghost use Rattle.format.specs.Store.{Piece, list, string, constant_piece, local_piece};
+ghost use Rattle.proto.proofs.Pieces.{constant_words_law};
+ghost use Rattle.instructions.specs.OpCodes.{ascii};
 ghost use Rattle.listing_operands.specs.Shown.{Shows};
-ghost use Rattle.listing_headers.specs.Tables.{title, raised, tabbed, format_constant_at, format_constants, format_local_at, format_locals, format_upvalue_at, format_upvalues};
+ghost use Rattle.listing_headers.specs.Tables.{title, raised, tabbed, format_constant_at, format_local_at, format_upvalue_at, format_list};
 
-use digits::put_decimal;
-use lent::{put_byte, put_bytes};
-use listing_comments::put_address;
+use lent::Writer;
+use listing_comments::{put_address, put_u32};
 use listing_lines::put_index;
 use listing_operands::constant::put_constant;
 use proto::constant::constant_at;
-use proto::walk::{item_at, skip, string_at, word_at};
+use proto::store::Store;
+use proto::walk::{item_at, skip, word_at};
+
+// What a list of a full listing holds: items that stand as pieces of SIZE words, and a line for each. Other crates have
+// an Item too: each says what its own walk does with an item.
+pub trait Item {
+    ghost Value: { Type 0 };
+
+    ghost piece: { Value → Piece };
+
+    ghost line: { ℕ → Value → List ℕ };
+
+    ghost noun: { List ℕ };
+
+    ghost SIZE: { ℕ };
+
+    const SIZE: u32;
+
+    // Their name.
+    fn noun() -> &'static [u8]
+        ensures { result.now ≡ noun };
+
+    // The line of item i, which stands at a place.
+    fn put_line(w: &mut Writer, store: Store, place: usize, i: u32)
+        ensures { Shows store.entry.words.now store.entry.text.now place piece (line i) w.old w.new };
+
+    ghost size: { (v : Value) (to : ℕ) → length ((piece v).words to) ≡ SIZE };
+}
+
+// Constants, counted from 1.
+pub struct Constants;
+
+impl Item for Constants {
+    ghost Value = { Constant };
+
+    ghost piece = { constant_piece };
+
+    ghost line = { format_constant_at };
+
+    ghost noun = { ascii "constants" };
+
+    ghost SIZE = { 3 };
+
+    const SIZE: u32 = 3;
+
+    fn noun() -> &'static [u8] {
+        b"constants"
+    }
+
+    fn put_line(w: &mut Writer, store: Store, place: usize, i: u32) {
+        put_index(w, u64::from(i) + 1);
+        put_constant::<false>(w, store.text, constant_at(store.words, place));
+        w.put_byte(b'\n');
+    }
+
+    ghost size = { constant_words_law };
+}
+
+// Locals, counted from 0.
+pub struct Locals;
+
+impl Item for Locals {
+    ghost Value = { Local };
+
+    ghost piece = { local_piece };
+
+    ghost line = { format_local_at };
+
+    ghost noun = { ascii "locals" };
+
+    ghost SIZE = { 4 };
+
+    const SIZE: u32 = 4;
+
+    fn noun() -> &'static [u8] {
+        b"locals"
+    }
+
+    fn put_line(w: &mut Writer, store: Store, place: usize, i: u32) {
+        put_index(w, u64::from(i));
+        w.put_bytes(store.string_at(place));
+        put_raised(w, word_at(store.words, skip(store.words, place, 2)));
+        put_raised(w, word_at(store.words, skip(store.words, place, 3)));
+        w.put_byte(b'\n');
+    }
+
+    ghost size = { λ v to. refl };
+}
+
+// Names of upvalues, counted from 0.
+pub struct Upvalues;
+
+impl Item for Upvalues {
+    ghost Value = { List ℕ };
+
+    ghost piece = { string };
+
+    ghost line = { format_upvalue_at };
+
+    ghost noun = { ascii "upvalues" };
+
+    ghost SIZE = { 2 };
+
+    const SIZE: u32 = 2;
+
+    fn noun() -> &'static [u8] {
+        b"upvalues"
+    }
+
+    fn put_line(w: &mut Writer, store: Store, place: usize, i: u32) {
+        put_index(w, u64::from(i));
+        w.put_bytes(store.string_at(place));
+        w.put_byte(b'\n');
+    }
+
+    ghost size = { λ v to. refl };
+}
 
 // What a list holds, how many, and whose it is.
-fn put_title(what: &[u8], n: u32, number: usize, out: &mut [u8], at: usize) -> usize
-    ensures { Puts (title what.now n number) at out.old result out.new }
+fn put_title(w: &mut Writer, what: &[u8], n: u32, number: usize)
+    ensures { Writes (title what.now n number) w.old w.new }
 {
-    let a = put_bytes(out, at, what);
-    let b = put_bytes(out, a, b" (");
-    let c = put_decimal(out, b, n as u64);
-    let d = put_bytes(out, c, b") for ");
-    let e = put_address(number, out, d);
-    put_bytes(out, e, b":\n")
-}
-
-// The line of constant i, which stands at a place.
-fn format_constant_at(
-    words: &[u32],
-    text: &[u8],
-    place: usize,
-    i: u32,
-    out: &mut [u8],
-    at: usize,
-) -> usize
-    ensures { Shows words.now text.now place constant_piece (format_constant_at i) at out.old result out.new }
-{
-    let a = put_index(i as u64 + 1, out, at);
-    let b = put_constant(text, constant_at(words, place), out, a);
-    put_byte(out, b, b'\n')
-}
-
-// The constants.
-pub fn format_constants(
-    words: &[u32],
-    text: &[u8],
-    constants: usize,
-    number: usize,
-    out: &mut [u8],
-    at: usize,
-) -> usize
-    ensures { Shows words.now text.now constants (list constant_piece) (λ l. format_constants l number) at out.old result out.new }
-{
-    let n = word_at(words, constants);
-    let mut o = put_title(b"constants", n, number, out, at);
-    let mut i: u32 = 0;
-    while i < n {
-        o = format_constant_at(words, text, item_at(words, constants, 3, i), i, out, o);
-        i += 1;
-    }
-    o
+    w.put_bytes(what);
+    w.put_bytes(b" (");
+    put_u32(w, n);
+    w.put_bytes(b") for ");
+    put_address(w, number);
+    w.put_bytes(b":\n");
 }
 
 // A tab, and a pc raised by one, which wraps.
-fn put_raised(pc: u32, out: &mut [u8], at: usize) -> usize
-    ensures { Puts (tabbed (raised pc)) at out.old result out.new }
+#[tactic(auto, using(lent::proofs::Writers::writes_first))]
+fn put_raised(w: &mut Writer, pc: u32)
+    ensures { Writes (tabbed (raised pc)) w.old w.new }
 {
-    let a = put_byte(out, at, b'\t');
-    put_decimal(out, a, std::num::wrapping_add_u32(pc, 1) as u64)
+    w.put_byte(b'\t');
+    put_u32(w, pc.wrapping_add(1));
 }
 
-// The line of local i, which stands at a place.
-fn format_local_at(
-    words: &[u32],
-    text: &[u8],
-    place: usize,
-    i: u32,
-    out: &mut [u8],
-    at: usize,
-) -> usize
-    ensures { Shows words.now text.now place local_piece (format_local_at i) at out.old result out.new }
+// A list: its title, and a line for each item.
+pub fn put_list<T: Item>(w: &mut Writer, store: Store, place: usize, number: usize)
+    ensures { Shows store.entry.words.now store.entry.text.now place (list T.piece) (λ l. format_list T.noun T.line l number) w.old w.new }
 {
-    let a = put_index(i as u64, out, at);
-    let b = put_bytes(out, a, string_at(words, text, place));
-    let c = put_raised(word_at(words, skip(words, place, 2)), out, b);
-    let d = put_raised(word_at(words, skip(words, place, 3)), out, c);
-    put_byte(out, d, b'\n')
-}
-
-// The locals.
-pub fn format_locals(
-    words: &[u32],
-    text: &[u8],
-    locals: usize,
-    number: usize,
-    out: &mut [u8],
-    at: usize,
-) -> usize
-    ensures { Shows words.now text.now locals (list local_piece) (λ l. format_locals l number) at out.old result out.new }
-{
-    let n = word_at(words, locals);
-    let mut o = put_title(b"locals", n, number, out, at);
-    let mut i: u32 = 0;
-    while i < n {
-        o = format_local_at(words, text, item_at(words, locals, 4, i), i, out, o);
-        i += 1;
+    let n = word_at(store.words, place);
+    put_title(w, T::noun(), n, number);
+    for i in 0..n {
+        T::put_line(w, store, item_at(store.words, place, T::SIZE, i), i);
     }
-    o
-}
-
-// The line of upvalue i, whose name stands at a place.
-fn format_upvalue_at(
-    words: &[u32],
-    text: &[u8],
-    place: usize,
-    i: u32,
-    out: &mut [u8],
-    at: usize,
-) -> usize
-    ensures { Shows words.now text.now place string (format_upvalue_at i) at out.old result out.new }
-{
-    let a = put_index(i as u64, out, at);
-    let b = put_bytes(out, a, string_at(words, text, place));
-    put_byte(out, b, b'\n')
-}
-
-// The upvalues.
-pub fn format_upvalues(
-    words: &[u32],
-    text: &[u8],
-    upvalues: usize,
-    number: usize,
-    out: &mut [u8],
-    at: usize,
-) -> usize
-    ensures { Shows words.now text.now upvalues (list string) (λ l. format_upvalues l number) at out.old result out.new }
-{
-    let n = word_at(words, upvalues);
-    let mut o = put_title(b"upvalues", n, number, out, at);
-    let mut i: u32 = 0;
-    while i < n {
-        o = format_upvalue_at(words, text, item_at(words, upvalues, 2, i), i, out, o);
-        i += 1;
-    }
-    o
 }

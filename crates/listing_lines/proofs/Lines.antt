@@ -1,27 +1,7 @@
--- Laws of a line looked up, and the length of an opcode's name.
-use Rattle.lent.proofs.Prelude.{ℕ, zero, suc, ◌+◌, ◌*◌, ◌≤◌, ◌<◌, ◌≡◌, refl, sym, ap, ◌∙◌, Bool, true, false, ◌&&◌, List, [], ◌∷◌, none, some, arith, length, get_or, eqb, eqb-true}
+-- The length of an opcode's name.
+use Rattle.lent.proofs.Prelude.{ℕ, zero, suc, ◌≡◌, refl, Bool, true, false, ◌&&◌, List, [], ◌∷◌, arith, length, get_or, eqb, eqb-true}
 use Rattle.digits.specs.Room.{Width}
-use Rattle.format.specs.Store.{word, ints}
-use Rattle.proto.specs.Walk.{item, Skips, StandsAt}
-use Rattle.proto.proofs.Sublists.{here_get}
-use Rattle.proto.proofs.Pieces.{stands_same}
-use Rattle.proto.proofs.Items.{list_count, list_item, item_past, item_there, ints_list}
 use Rattle.instructions.specs.OpCodes.{Row, blank, opcodes, or_move, op_name, padded}
-
-module _ {words t l : List ℕ} {place n i : ℕ} (e : n ≡ get_or words place 0) (s : StandsAt words t place (ints l)) where
-  -- past the count there is none
-  pub line_past : n ≤ i → item l i ≡ none
-  line_past h =
-      let k : length l ≤ i = omega (arith, list_count word l (stands_same (ints_list l) s.stands)) in
-      item_past l i k
-
-  -- before it there is the word at that place
-  pub line_there : {r x : ℕ} → i < n → Skips words (1 + 1 * i) place r → x ≡ get_or words r 0 → item l i ≡ some x
-  line_there h p q =
-      let k : i < length l = omega (arith, list_count word l (stands_same (ints_list l) s.stands)) in
-      let y = item_there l i k in
-      let z = list_item word 1 (λ a to. refl) l i y.value y.is (stands_same (ints_list l) s.stands) p in
-      y.is ∙ ap some (sym (q ∙ here_get y.value [] z.stands.in_words))
 
 -- ---- a padded name is 9 bytes long
 

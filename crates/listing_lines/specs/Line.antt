@@ -21,9 +21,13 @@ format_line (some l) = ascii "[" ++ decimal l ++ ascii "]"
 
 -- ==== the line
 
--- what stands in front of the comment: index, line, opcode padded to 9, operands
+-- what stands in front of the comment: index n, line, opcode padded to 9, operands
+abbrev pub start_of : Option ℕ → ℕ → ℕ → ℕ → List ℕ
+start_of line op n i = index n ++ format_line line ++ ascii "\t" ++ padded (op_name op) ++ ascii "\t" ++ format_operands op i
+
+-- the index counts from 1
 abbrev pub format_start : Option ℕ → ℕ → ℕ → ℕ → List ℕ
-format_start line op pc i = index (pc + 1) ++ format_line line ++ ascii "\t" ++ padded (op_name op) ++ ascii "\t" ++ format_operands op i
+format_start line op pc i = start_of line op (pc + 1) i
 
 unfoldable pub format_instruction : Parts → Functions → ℕ → ℕ → ℕ → List ℕ
 format_instruction p fs number pc i = format_start (item p.debug.lines pc) (opcode i) pc i ++ format_comment (opcode i) p fs number pc i ++ ascii "\n"

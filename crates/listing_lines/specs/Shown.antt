@@ -1,7 +1,8 @@
 -- What a line looked up says.
-use Rattle.std.specs.Prelude.{ℕ, cond}
-use Rattle.std.proofs.Math.Option.{Option, none, some}
-use Rattle.listing_lines.specs.declared.Line.{Line}
+use Rattle.std.specs.Prelude.{ℕ}
+use Rattle.std.proofs.Math.Option.{Option}
+use Rattle.std.specs.declared.option.Option as rust
+use Rattle.listing_operands.specs.Shown.{read}
 
-abbrev pub line_of : Line → Option ℕ
-line_of l = cond l.known (some l.number) none
+abbrev pub line_of : rust.Option ℕ → Option ℕ
+line_of line = read (λ n. n) line

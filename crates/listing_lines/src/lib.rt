@@ -1,81 +1,57 @@
-// One instruction's line of a listing, and the constants that it names (listing.rs: format_constant, format_constant_raw, and the body of
-// format_code's loop). Each call writes its text at a place of lent bytes and answers the next place; what is past the end is not written.
+// One instruction's line of a listing (listing.rs: the body of format_code's loop). What is past the end is not written. What stands in front of
+// the comment fits, mostly: it goes over (out, at), which ask for room and test none, with the places in registers; a writer would test each byte.
 #![tactic(auto)]
 
 ghost use Rattle.std.specs.Prelude.{ℕ, ◌+◌, ◌-◌, ◌^◌, ◌≤◌, ◌<◌, List, ◌≡◌, length};
-ghost use Rattle.digits.specs.Room.{PutsWithin, Width};
-ghost use Rattle.lent.specs.Memory.{Puts};
+ghost use Rattle.digits.specs.Room.{PutsWithin};
+ghost use Rattle.lent.specs.Writer.{Writes};
 ghost use Rattle.format.specs.Tree.{Parts, Functions};
 ghost use Rattle.format.specs.Store.{ints};
 ghost use Rattle.proto.specs.Walk.{item, StandsAt};
 ghost use Rattle.instructions.specs.OpCodes.{opcode, op_name, padded};
-ghost use Rattle.listing_lines.specs.Line.{index, format_line, format_start, format_instruction};
+ghost use Rattle.listing_operands.specs.Fit.{room, Fits};
+ghost use Rattle.listing_lines.specs.Line.{index, format_line, start_of, format_instruction};
 ghost use Rattle.listing_lines.specs.Shown.{line_of};
 ghost use Rattle.proto.specs.Lists.{ListsAt};
 ghost use Rattle.listing_comments.specs.Shown.{ChildIs};
 
-use digits::{put_decimal, store_byte, store_decimal, width};
+use digits::text::put_decimal;
 use instructions::Instruction;
-use lent::{further, put_byte, put_bytes};
+use lent::Writer;
 use listing_comments::format_comment;
-use listing_operands::operand::{operands_width, store_operands};
+use listing_operands::fit::{fit_byte, fit_decimal};
+use listing_operands::operand::fit_operands;
 use proto::lists::Lists;
-use proto::walk::{item_at, word_at};
+use proto::store::Store;
+use proto::walk::ints_at;
 
 // A tab, an index and a tab.
-pub fn put_index(n: u64, out: &mut [u8], at: usize) -> usize
-    ensures { Puts (index n) at out.old result out.new }
+pub fn put_index(w: &mut Writer, n: u64)
+    ensures { Writes (index n) w.old w.new }
 {
-    let a = put_byte(out, at, b'\t');
-    let b = put_decimal(out, a, n);
-    put_byte(out, b, b'\t')
+    w.put_byte(b'\t');
+    put_decimal(w, n);
+    w.put_byte(b'\t');
 }
 
-// The line of an instruction, where it is known.
-#[derive(Clone, Copy)]
-pub struct Line {
-    pub known: bool,
-    pub number: u32,
-}
-
-// The line of the instruction at pc.
-fn line_at(words: &[u32], lines: usize, pc: u32) -> Line
+// The line of the instruction at pc, where it is known.
+fn line_at(words: &[u32], lines: usize, pc: u32) -> Option<u32>
     ensures { (t : List ℕ) (l : List ℕ) → StandsAt words.now t lines (ints l) → line_of result ≡ item l pc }
 {
-    if word_at(words, lines) <= pc {
-        return Line {
-            known: false,
-            number: 0,
-        };
-    }
-    Line {
-        known: true,
-        number: word_at(words, item_at(words, lines, 1, pc)),
-    }
+    ints_at(words, lines).get(pc as usize).copied()
 }
 
 // A line, which fits.
-fn store_line(line: Line, out: &mut [u8], at: usize) -> usize
-    requires { at + 12 ≤ length out.old }
-    ensures { PutsWithin (format_line (line_of line)) 12 at out.old result out.new }
+fn fit_line<const STORED: bool>(line: Option<u32>, out: &mut [u8], at: usize) -> usize
+    requires { at + 12 ≤ room STORED out.old }
+    ensures { Fits STORED (format_line (line_of line)) 12 at out.old result out.new }
 {
-    let a = store_byte(out, at, b'[');
-    if line.known {
-        let b = store_decimal(out, a, line.number);
-        return store_byte(out, b, b']');
-    }
-    let b = store_byte(out, a, b'-');
-    store_byte(out, b, b']')
-}
-
-// Its bytes.
-fn line_width(line: Line) -> usize
-    ensures { Width (format_line (line_of line)) 12 result }
-{
-    if line.known {
-        return 1 + width(line.number) + 1;
-    }
-    3
+    let a = fit_byte::<STORED>(out, at, b'[');
+    let b = match line {
+        Some(n) => fit_decimal::<STORED>(out, a, n),
+        None => fit_byte::<STORED>(out, a, b'-'),
+    };
+    fit_byte::<STORED>(out, b, b']')
 }
 
 // An opcode's name, padded to 9, which fits.
@@ -83,75 +59,70 @@ fn store_name(op: u8, out: &mut [u8], at: usize) -> usize
     requires { at + 9 ≤ length out.old }
     ensures { PutsWithin (padded (op_name op)) 9 at out.old result out.new }
 {
-    let name = instructions::name(op);
-    lent::copy(out, at, &name, 9);
+    lent::copy(out, at, &instructions::name(op));
     at + 9
 }
 
-// What stands in front of the comment, which fits.
-fn store_start(line: Line, op: u8, pc: u32, i: u32, out: &mut [u8], at: usize) -> usize
-    requires { (at + 69 ≤ length out.old) × (pc < 2 ^ 32 - 1) }
-    ensures { PutsWithin (format_start (line_of line) op pc i) 69 at out.old result out.new }
+// The same, stored or only counted.
+fn fit_name<const STORED: bool>(op: u8, out: &mut [u8], at: usize) -> usize
+    requires { at + 9 ≤ room STORED out.old }
+    ensures { Fits STORED (padded (op_name op)) 9 at out.old result out.new }
 {
-    let a = store_byte(out, at, b'\t');
-    let b = store_decimal(out, a, pc + 1);
-    let c = store_byte(out, b, b'\t');
-    let d = store_line(line, out, c);
-    let e = store_byte(out, d, b'\t');
-    let f = store_name(op, out, e);
-    let g = store_byte(out, f, b'\t');
-    store_operands(op, i, out, g)
-}
-
-// Its bytes.
-fn start_width(line: Line, op: u8, pc: u32, i: u32) -> usize
-    requires { pc < 2 ^ 32 - 1 }
-    ensures { Width (format_start (line_of line) op pc i) 69 result }
-{
-    1 + width(pc + 1) + 1 + line_width(line) + 1 + 9 + 1 + operands_width(op, i)
-}
-
-// The same where it may not fit.
-fn cut_start(line: Line, op: u8, pc: u32, i: u32, out: &mut [u8], at: usize) -> usize
-    requires { pc < 2 ^ 32 - 1 }
-    ensures { Puts (format_start (line_of line) op pc i) at out.old result out.new }
-{
-    let mut all = [0u8; 69];
-    let n = store_start(line, op, pc, i, &mut all, 0);
-    put_bytes(out, at, &all[..n])
-}
-
-// What stands in front of the comment. Past the end it is only counted.
-fn format_start(line: Line, op: u8, pc: u32, i: u32, out: &mut [u8], at: usize) -> usize
-    requires { pc < 2 ^ 32 - 1 }
-    ensures { Puts (format_start (line_of line) op pc i) at out.old result out.new }
-{
-    if out.len() <= at {
-        return further(at, start_width(line, op, pc, i));
+    if STORED {
+        store_name(op, out, at)
+    } else {
+        at + 9
     }
-    if out.len() - at < 69 {
-        return cut_start(line, op, pc, i, out, at);
-    }
-    store_start(line, op, pc, i, out, at)
 }
 
-// The line of instruction i at pc. child is the number of the function that a CLOSURE makes.
-pub fn format_instruction(
-    words: &[u32],
-    text: &[u8],
-    lists: Lists,
-    child: usize,
-    pc: u32,
+// What stands in front of the comment, which fits. n is the index, counted from 1.
+fn fit_start<const STORED: bool>(
+    line: Option<u32>,
+    op: u8,
+    n: u32,
     i: u32,
     out: &mut [u8],
     at: usize,
 ) -> usize
+    requires { at + 69 ≤ room STORED out.old }
+    ensures { Fits STORED (start_of (line_of line) op n i) 69 at out.old result out.new }
+{
+    let a = fit_byte::<STORED>(out, at, b'\t');
+    let b = fit_decimal::<STORED>(out, a, n);
+    let c = fit_byte::<STORED>(out, b, b'\t');
+    let d = fit_line::<STORED>(line, out, c);
+    let e = fit_byte::<STORED>(out, d, b'\t');
+    let f = fit_name::<STORED>(op, out, e);
+    let g = fit_byte::<STORED>(out, f, b'\t');
+    fit_operands::<STORED>(op, i, out, g)
+}
+
+// What stands in front of the comment. Past the end it is only counted.
+#[tactic(auto, unfolding(listing_operands::specs::Fit::room))]
+fn format_start(w: &mut Writer, line: Option<u32>, op: u8, n: u32, i: u32)
+    ensures { Writes (start_of (line_of line) op n i) w.old w.new }
+{
+    if w.out.len() <= w.at {
+        w.at = w
+            .at
+            .saturating_add(fit_start::<false>(line, op, n, i, &mut [], 0));
+    } else if w.out.len() - w.at < 69 {
+        let mut all = [0u8; 69];
+        let end = fit_start::<true>(line, op, n, i, &mut all, 0);
+        w.put_bytes(&all[..end]);
+    } else {
+        w.at = fit_start::<true>(line, op, n, i, w.out, w.at);
+    }
+}
+
+// The line of instruction i at pc. child is the number of the function that a CLOSURE makes.
+pub fn format_instruction(w: &mut Writer, store: Store, lists: Lists, child: usize, pc: u32, i: u32)
     requires { pc < 2 ^ 32 - 1 }
-    ensures { (p : Parts) (fs : Functions) (number : ℕ) → ListsAt words.now text.now lists p fs → ChildIs fs number (opcode i) i child → Puts (format_instruction p fs number pc i) at out.old result out.new }
+    ensures { (p : Parts) (fs : Functions) (number : ℕ) → ListsAt store.entry.words.now store.entry.text.now lists p fs → ChildIs fs number (opcode i) i child → Writes (format_instruction p fs number pc i) w.old w.new }
 {
     let op = Instruction(i).opcode();
-    let line = line_at(words, lists.lines, pc);
-    let a = format_start(line, op, pc, i, out, at);
-    let b = format_comment(words, text, lists, child, pc, op, i, out, a);
-    put_byte(out, b, b'\n')
+    let line = line_at(store.words, lists.lines, pc);
+    format_start(w, line, op, pc + 1, i);
+    format_comment(w, store, lists, child, pc, op, i);
+    w.put_byte(b'\n');
 }

@@ -1,2 +1,3 @@
+pub mod Fit
 pub mod Operands
 pub mod Shown

@@ -17,29 +17,21 @@ use Rattle.instructions.specs.declared.OpModes.{OpModes}
 
 -- ==== constants
 
--- a constant, which is none where the index is no constant's
-abbrev pub constant_text : Option Constant → List ℕ
-constant_text none = ascii "(invalid constant)"
-constant_text (some Constant.nil) = ascii "nil"
-constant_text (some (Constant.bool b)) = cond b (ascii "true") (ascii "false")
-constant_text (some (Constant.num high low)) = number high low
-constant_text (some (Constant.str s)) = quoted s
-
--- a string as it is, repaired; others as ever
-abbrev pub raw_text : Option Constant → List ℕ
-raw_text none = constant_text none
-raw_text (some Constant.nil) = constant_text (some Constant.nil)
-raw_text (some (Constant.bool b)) = constant_text (some (Constant.bool b))
-raw_text (some (Constant.num high low)) = constant_text (some (Constant.num high low))
-raw_text (some (Constant.str s)) = repair s
+-- a constant, which is none where the index is no constant's; where raw, a string as it is, repaired
+abbrev pub constant_text : Bool → Option Constant → List ℕ
+constant_text raw none = ascii "(invalid constant)"
+constant_text raw (some Constant.nil) = ascii "nil"
+constant_text raw (some (Constant.bool b)) = cond b (ascii "true") (ascii "false")
+constant_text raw (some (Constant.num high low)) = number high low
+constant_text raw (some (Constant.str s)) = cond raw (repair s) (quoted s)
 
 -- format_constant
 abbrev pub format_constant : List Constant → ℕ → List ℕ
-format_constant constants idx = constant_text (item constants idx)
+format_constant constants idx = constant_text false (item constants idx)
 
 -- format_constant_raw
 abbrev pub format_constant_raw : List Constant → ℕ → List ℕ
-format_constant_raw constants idx = raw_text (item constants idx)
+format_constant_raw constants idx = constant_text true (item constants idx)
 
 -- ==== operands
 

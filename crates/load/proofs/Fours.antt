@@ -1,15 +1,16 @@
 -- Integers in a row: what reading them gives, and what storing them leaves.
 use Rattle.lent.proofs.Prelude.{ℕ, zero, suc, ◌+◌, ◌-◌, ◌*◌, ◌≤◌, ◌<◌, min, ◌≡◌, refl, ap, List, [], ◌∷◌, ◌++◌, arith, dec_le, length, take, drop, sets}
 use Rattle.lent.specs.Memory.{far, Puts}
-use Rattle.lent.proofs.Writes.{sets_append, put_lost, put_part, put_none}
+use Rattle.lent.proofs.Writes.{sets_append, put_part, put_none}
+use Rattle.std.specs.Prelude.{Ok, Err}
 use Rattle.format.specs.Read.{got, refused, load_int, many, load_count, load_list}
 use Rattle.format.specs.Store.{plain, word, ints}
-use Rattle.load_state.specs.declared.cursor.Cursor.{Cursor}
-use Rattle.load.specs.declared.Load.{Load}
+use Rattle.format.specs.declared.Refusal.TheVariants.{Truncated}
 use Rattle.load_state.specs.ReadAt.{four_at}
-use Rattle.load.specs.Loads.{ReadsBy, fours, space, Does, world, moved, Loads}
+use Rattle.load.specs.declared.Loader.{Loader}
+use Rattle.load.specs.Loads.{fours, space, Does, Same, LoadsBy, Loads}
 use Rattle.load_state.proofs.Bytes.{int_got, number_none}
-use Rattle.load.proofs.Steps.{passed, takes, stops, bind}
+use Rattle.load.proofs.Steps.{same_self, loads_then}
 use Rattle.load.proofs.Stores.{join}
 
 pub fours_length : (bs : List ℕ) (at n : ℕ) → length (fours bs at n) ≡ n
@@ -38,14 +39,10 @@ fours_take bs at (suc n) (suc k) h = ap (λ (l : List ℕ). four_at bs at ∷ l)
 pub fill_more : (bs l : List ℕ) (from at i : ℕ) {v : ℕ} {l' : List ℕ} → v ≡ four_at bs (from + 4 * i) → l' ≡ sets l at (fours bs from i) → sets l' (at + i) (v ∷ []) ≡ sets l at (fours bs from (i + 1))
 fill_more bs l from at i e f = rw (f, e, fours_more bs from i) (rw (fours_length bs from i) at (sets_append (fours bs from i) l (four_at bs (from + 4 * i) ∷ []) at))
 
-module _ (bs : List ℕ) (from n at : ℕ) {at' : ℕ} {ws ws' : List ℕ} (p : at' ≡ min (at + n) far) where
-  pub ints_stored : (k : ℕ) → k ≡ min n (length ws - at) → ws' ≡ sets ws at (fours bs from k) → Puts (fours bs from n) at ws at' ws'
-  ints_stored k e f =
-      let l : length (fours bs from n) ≡ n = fours_length bs from n in
-      put_part k (rw l p) (rw l e) (rw (fours_take bs from n k (omega arith)) f)
-
-  pub ints_lost : length ws ≤ at → ws' ≡ ws → Puts (fours bs from n) at ws at' ws'
-  ints_lost h f = put_lost (rw (fours_length bs from n) p) h f
+pub ints_stored : (bs : List ℕ) {ws ws' : List ℕ} (from n : ℕ) {at at' room k : ℕ} → at' ≡ min (at + n) far → room ≡ length ws - at → k ≡ min n room → ws' ≡ sets ws at (fours bs from k) → Puts (fours bs from n) at ws at' ws'
+ints_stored bs from n {k = k} p r e f =
+    let l : length (fours bs from n) ≡ n = fours_length bs from n in
+    put_part k (rw l p) (rw (l, ← r) e) (rw (fours_take bs from n k (omega arith)) f)
 
 -- ---- reading
 
@@ -64,20 +61,16 @@ many_none bs at (suc n) h = elim (dec_le 4 (length bs - at)) [
 
 -- ---- a list of integers, after its count
 
-module _ {bs : List ℕ} {s p : Load} {n : ℕ} {ws ws₁ : List ℕ}
-    (h : (t : List ℕ) → ReadsBy bs load_count (λ a. (a ≡ n) × Does (word a) (space s ws t) (space p ws₁ t)) s.cursor p.cursor) where
-  pub ints_refused : 0 < p.cursor.refusal → (t : List ℕ) → Loads bs (load_list load_int) ints (world s ws t) (world p ws₁ t)
-  ints_refused z t = bind (many load_int) (h t) (λ y. refl) (λ a e. passed z refl)
+module _ {σ m : Loader} {n : ℕ} (h : LoadsBy load_count (λ a b. (a ≡ b) × Does (word a) (space σ) (space m)) σ m (Ok n)) where
+  pub ints_short : length m.reader.chunk.now - m.reader.pos < 4 * n → Loads (load_list load_int) ints σ m (Err Truncated)
+  ints_short k = loads_then (many load_int) h (λ a e. record { same = same_self; reads = record { ends = rw (e.0, many_none m.reader.chunk.now m.reader.pos n k) refl } })
 
-  pub ints_short : {r : Load} {m : Cursor} {ws₂ : List ℕ} → p.cursor.refusal ≤ 0 → length bs - p.cursor.next < 4 * n → r ≡ moved p m → m.refusal ≡ 2
-      → (t : List ℕ) → Loads bs (load_list load_int) ints (world s ws t) (world r ws₂ t)
-  ints_short z k e f t = rw e (bind (many load_int) (h t) (λ y. absurd (omega arith)) (λ a e. stops z (rw e.0 (many_none bs p.cursor.next n k)) f (omega arith)))
-
-  pub ints_loaded : {r : Load} {ws₂ : List ℕ} → p.cursor.refusal ≤ 0 → 4 * n ≤ length bs - p.cursor.next → r.cursor.refusal ≡ 0 → r.cursor.next ≡ p.cursor.next + 4 * n → r.text ≡ p.text
-      → Puts (fours bs p.cursor.next n) p.words ws₁ r.words ws₂ → (t : List ℕ) → Loads bs (load_list load_int) ints (world s ws t) (world r ws₂ t)
-  ints_loaded {r} {ws₂} z k f g u w t =
-      bind (many load_int) (h t) (λ y. absurd (omega arith))
-      (λ a e. takes {a = fours bs p.cursor.next n} {rest = drop (p.cursor.next + 4 * n) bs} z (rw e.0 (many_got bs p.cursor.next n k)) f (rw g) (rw (fours_length bs p.cursor.next n) (join (rw e.0 at e.1) stored)))
+  pub ints_loaded : {σ' : Loader} → 4 * n ≤ length m.reader.chunk.now - m.reader.pos → Same m σ' → σ'.reader.pos ≡ m.reader.pos + 4 * n
+      → Puts (fours m.reader.chunk.now m.reader.pos n) m.words_at m.words.now σ'.words_at σ'.words.now → σ'.text_at ≡ m.text_at → σ'.text.now ≡ m.text.now
+      → Loads (load_list load_int) ints σ σ' (Ok tt)
+  ints_loaded {σ'} k s f w t u =
+      loads_then (many load_int) h
+      (λ a e. record { same = s; reads = record { ends = rw (e.0, many_got m.reader.chunk.now m.reader.pos n k) (rw f refl, rw (fours_length m.reader.chunk.now m.reader.pos n) (join (rw e.0 at e.1) stored)) } })
     where
-      stored : Does (plain (fours bs p.cursor.next n)) (space p ws₁ t) (space r ws₂ t)
-      stored = record { does = λ τ e h. record { stored = fours bs p.cursor.next n; many = refl; exact = λ x. refl; words = w; text = rw u put_none } }
+      stored : Does (plain (fours m.reader.chunk.now m.reader.pos n)) (space m) (space σ')
+      stored = record { does = λ τ e h. record { stored = fours m.reader.chunk.now m.reader.pos n; many = refl; exact = λ x. refl; words = w; text = rw (t, u) put_none } }

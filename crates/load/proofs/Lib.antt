@@ -1,4 +1,4 @@
 pub mod Steps
-pub mod Strings
 pub mod Stores
+pub mod Strings
 pub mod Fours

@@ -1,54 +1,57 @@
 -- What a step of the reader does, against what reading gives (Read) and what a store holds (Store).
-use Rattle.std.specs.Prelude.{ℕ, zero, suc, ◌+◌, ◌≤◌, ◌<◌, min, ◌≡◌, Bool, false, cond, List, [], ◌∷◌, length, drop, get_or}
+use Rattle.std.specs.Prelude.{ℕ, zero, suc, ◌+◌, ◌≤◌, min, ◌≡◌, Bool, List, [], ◌∷◌, length, get_or, Option, Some, None, Result, IfOk}
 use Rattle.lent.specs.Memory.{far, Puts}
 use Rattle.utf8.specs.Utf8.{repair}
 use Rattle.format.specs.Tree.{Source}
-use Rattle.format.specs.Read.{Reader, load_string, load_constant}
+use Rattle.format.specs.Read.{Reader, load_string, load_text, load_constant}
 use Rattle.format.specs.Store.{Piece, string, source_piece}
 use Rattle.format.specs.Valid.{most}
 use Rattle.format.specs.Stored.{part}
 use Rattle.format.specs.Undump.{repaired_source}
 use Rattle.format.specs.Constants.{meaning_of, value_of, LiesIn}
-use Rattle.format.specs.declared.Constant.{Constant}
-use Rattle.load_state.specs.declared.cursor.Cursor.{Cursor}
-use Rattle.load_state.specs.ReadAt.{Ends, four_at}
+use Rattle.format.specs.declared.Refusal.{Refusal}
+use Rattle.load_state.specs.declared.cursor.Got.{Got}
+use Rattle.load_state.specs.ReadAt.{ReadsBy, four_at}
 use Rattle.load.specs.declared.cursor.Span.{Span}
-use Rattle.load.specs.declared.Load.{Load}
+use Rattle.load.specs.declared.cursor.Loaded.{Loaded}
+use Rattle.load.specs.declared.Loader.{Loader}
 
 -- ---- reading
-
--- from the cursor s to r by the reader R, with P of what it gives; a refusal is passed on
-pub record ReadsBy {A : Type 0} (bs : List ℕ) (R : Reader A) (P : A → Type 0) (s r : Cursor) : Type 0 where
-  pub stays : 0 < s.refusal → r.refusal ≡ s.refusal
-  pub goes : s.refusal ≡ 0 → Ends bs (R (drop s.next bs)) P r
 
 -- n numbers of four bytes each, one after the other
 unfoldable pub fours : List ℕ → ℕ → ℕ → List ℕ
 fours bs at zero = []
 fours bs at (suc n) = four_at bs at ∷ fours bs (at + 4) n
 
--- the string that a span stands for
-abbrev pub spanned : List ℕ → Span → Source
-spanned bs z = cond z.own (Source.own (part bs z.start z.len)) Source.inherited
+-- the bytes of a span
+abbrev pub bytes_of : List ℕ → Span → List ℕ
+bytes_of bs z = part bs z.start z.len
 
--- no string, at a cursor
-pub record NoString (m : Cursor) (z : Span) : Type 0 where
-  pub cursor : z.cursor ≡ m
-  pub own : z.own ≡ false
-  pub start : z.start ≡ 0
-  pub len : z.len ≡ 0
+-- the string that a span stands for, where there is one
+abbrev pub spanned : List ℕ → Option Span → Source
+spanned bs None = Source.inherited
+spanned bs (Some z) = Source.own (bytes_of bs z)
 
--- a string, its size of this width: the span lies in the chunk, also where there is none
-pub record Strings (bs : List ℕ) (size4 : Bool) (s : Cursor) (z : Span) : Type 0 where
-  pub reads : ReadsBy bs (load_string size4) (λ v. v ≡ spanned bs z) s z.cursor
-  pub within : z.start + z.len ≤ length bs
-  pub empty : z.own ≡ false → z.len ≡ 0
+-- a span lies in the chunk, where there is one
+abbrev pub Lies : List ℕ → Option Span → Type 0
+Lies bs None = Unit {0}
+Lies bs (Some z) = z.start + z.len ≤ length bs
 
--- a constant: k stands for it, its string lies in the chunk, and its tag is k's number
-pub record ReadsConstant (bs : List ℕ) (size4 : Bool) (s : Cursor) (k : Constant) (r : Cursor) : Type 0 where
-  pub reads : ReadsBy bs (load_constant size4) (λ a. a ≡ value_of bs k) s r
-  pub lies : LiesIn bs k
-  pub numbered : s.refusal ≡ 0 → r.refusal ≡ 0 → get_or bs s.next 0 ≡ (meaning_of k).number
+-- a string, its size of this width: the span lies in the chunk
+pub record Strings (bs : List ℕ) (size4 : Bool) (at : ℕ) (r : Result (Got (Option Span)) Refusal) : Type 0 where
+  pub reads : ReadsBy bs (load_string size4) (λ v g. v ≡ spanned bs g.value) (λ g. g.next) at r
+  pub within : IfOk r (λ g. Lies bs g.value)
+
+-- a name or a string constant, which is empty where there is no string
+pub record Texts (bs : List ℕ) (size4 : Bool) (at : ℕ) (r : Result (Got Span) Refusal) : Type 0 where
+  pub reads : ReadsBy bs (load_text size4) (λ s g. s ≡ bytes_of bs g.value) (λ g. g.next) at r
+  pub within : IfOk r (λ g. g.value.start + g.value.len ≤ length bs)
+
+-- a constant: what is answered stands for it, its string lies in the chunk, and its tag is the answer's number
+pub record ReadsConstant (bs : List ℕ) (size4 : Bool) (at : ℕ) (r : Result Loaded Refusal) : Type 0 where
+  pub reads : ReadsBy bs (load_constant size4) (λ a z. a ≡ value_of bs z.constant) (λ z. z.next) at r
+  pub lies : IfOk r (λ z. LiesIn bs z.constant)
+  pub numbered : IfOk r (λ z. get_or bs at 0 ≡ (meaning_of z.constant).number)
 
 -- ---- storing
 
@@ -59,8 +62,8 @@ pub record Space : Type 0 where
   pub words : List ℕ
   pub text : List ℕ
 
-abbrev pub space : Load → List ℕ → List ℕ → Space
-space s ws ts = record { words_at = s.words; text_at = s.text; words = ws; text = ts }
+abbrev pub space : Loader → Space
+space σ = record { words_at = σ.words_at; text_at = σ.text_at; words = σ.words.now; text = σ.text.now }
 
 -- a piece stored, τ text bytes standing so far: its text is written, and as many words as it has, which are its own where the text keeps within the limit
 pub record Wrote (τ : ℕ) (p : Piece) (σ σ' : Space) : Type 0 where
@@ -74,25 +77,35 @@ pub record Wrote (τ : ℕ) (p : Piece) (σ σ' : Space) : Type 0 where
 pub record Does (p : Piece) (σ σ' : Space) : Type 0 where
   pub does : (τ : ℕ) → σ.text_at ≡ min τ far → length σ.text ≤ far → Wrote τ p σ σ'
 
--- the state of the reader, with what lent memory holds
-pub record World : Type 0 where
-  pub load : Load
-  pub words : List ℕ
-  pub text : List ℕ
+-- the chunk, the width of sizes and the lent memory are the same
+pub record Same (σ σ' : Loader) : Type 0 where
+  pub chunk : σ'.reader.chunk ≡ σ.reader.chunk
+  pub size_4 : σ'.size_4 ≡ σ.size_4
+  pub words : σ'.words.ghost_name ≡ σ.words.ghost_name
+  pub text : σ'.text.ghost_name ≡ σ.text.ghost_name
 
-abbrev pub world : Load → List ℕ → List ℕ → World
-world s ws ts = record { load = s; words = ws; text = ts }
+-- bytes go to the text, and nothing else changes
+pub record PutsText (bytes : List ℕ) (σ σ' : Loader) : Type 0 where
+  pub same : Same σ σ'
+  pub reader : σ'.reader ≡ σ.reader
+  pub words_at : σ'.words_at ≡ σ.words_at
+  pub words : σ'.words.now ≡ σ.words.now
+  pub puts : Puts bytes σ.text_at σ.text.now σ'.text_at σ'.text.now
 
-abbrev pub space_of : World → Space
-space_of σ = space σ.load σ.words σ.text
+-- a piece is stored, and nothing read
+pub record Stores (p : Piece) (σ σ' : Loader) : Type 0 where
+  pub same : Same σ σ'
+  pub pos : σ'.reader.pos ≡ σ.reader.pos
+  pub does : Does p (space σ) (space σ')
 
--- the state with another cursor
-abbrev pub moved : Load → Cursor → Load
-moved s c = record { cursor = c; words = s.words; text = s.text }
+-- from σ to σ' by the reader R, with P of what it gives and r's value, or with r's refusal
+pub record LoadsBy {A B : Type 0} (R : Reader A) (P : A → B → Type 0) (σ σ' : Loader) (r : Result B Refusal) : Type 0 where
+  pub same : Same σ σ'
+  pub reads : ReadsBy σ.reader.chunk.now R P (λ b. σ'.reader.pos) σ.reader.pos r
 
--- from σ to σ' by the reader R, what it gives being stored as a piece
-abbrev pub Loads : {A : Type 0} → List ℕ → Reader A → (A → Piece) → World → World → Type 0
-Loads bs R piece σ σ' = ReadsBy bs R (λ a. Does (piece a) (space_of σ) (space_of σ')) σ.load.cursor σ'.load.cursor
+-- what it gives being stored as a piece
+abbrev pub Loads : {A : Type 0} → Reader A → (A → Piece) → Loader → Loader → Result (Unit {0}) Refusal → Type 0
+Loads R piece σ σ' r = LoadsBy R (λ a (b : Unit {0}). Does (piece a) (space σ) (space σ')) σ σ' r
 
 -- ---- what is stored, names repaired
 

@@ -1,177 +1,119 @@
-// Numbers, strings and constants of a chunk, a refusal passed on: a cursor that holds one reads nothing.
-// Beside a refusal the value and the next place are open: nothing reads them.
-ghost use Rattle.std.specs.Prelude.{◌≡◌};
-ghost use Rattle.format.specs.Read.{load_byte, load_int, load_size, load_count};
-ghost use Rattle.load.specs.Loads.{ReadsBy, NoString, Strings, ReadsConstant};
+// Sizes, counts, strings and constants of a chunk, at the reader's place.
+ghost use Rattle.format.specs.Read.{load_size, load_count};
+ghost use Rattle.load_state.specs.ReadAt.{ReadAt};
+ghost use Rattle.load.specs.Loads.{Strings, Texts, ReadsConstant};
 
-use format::{Constant, LIMIT};
-use load_state::cursor::{Byte, Cursor, Int, Size, refused, remaining};
-use load_state::{read_byte, read_int, read_size};
+use format::{Constant, LIMIT, Refusal};
+use load_state::LoadState;
+use load_state::cursor::Got;
 
-// Where a string stands in the chunk; own is false where there is none.
-#[derive(Clone, Copy)]
+// Where a string stands in the chunk.
+#[derive(Clone, Copy, Default)]
 pub struct Span {
-    pub own: bool,
     pub start: usize,
     pub len: usize,
-    pub cursor: Cursor,
 }
 
-// A constant that was read, a string by its place and length in the chunk, and the next cursor.
+// A constant that was read, a string by its place and length in the chunk, and the next place: the scope names this form.
 #[derive(Clone, Copy)]
 pub struct Loaded {
     pub constant: Constant,
-    pub cursor: Cursor,
-}
-
-pub fn load_byte(chunk: &[u8], s: Cursor) -> Byte
-    ensures { ReadsBy chunk.now load_byte (λ a. a ≡ result.value) s result.cursor }
-{
-    if 0 < s.refusal {
-        return Byte {
-            value: 0,
-            cursor: s,
-        };
-    }
-    read_byte(chunk, s.next)
-}
-
-pub fn load_int(chunk: &[u8], s: Cursor) -> Int
-    ensures { ReadsBy chunk.now load_int (λ a. a ≡ result.value) s result.cursor }
-{
-    if 0 < s.refusal {
-        return Int {
-            value: 0,
-            cursor: s,
-        };
-    }
-    read_int(chunk, s.next)
+    pub next: usize,
 }
 
 // A size: four bytes, which are an integer, or eight.
-pub fn load_size(chunk: &[u8], s: Cursor, size_4: bool) -> Size
-    ensures { ReadsBy chunk.now (load_size size_4) (λ a. a ≡ result.value) s result.cursor }
+#[tactic(auto, unfolding(format::specs::Read::load_size))]
+pub fn load_size(s: LoadState, size_4: bool) -> Result<Got<u64>, Refusal>
+    ensures { ReadAt s.entry.chunk.now (load_size size_4) s.entry.pos result }
 {
-    if 0 < s.refusal {
-        return Size {
-            value: 0,
-            cursor: s,
-        };
+    if !size_4 {
+        return s.load_size();
     }
-    if size_4 {
-        let n = read_int(chunk, s.next);
-        let cursor = n.cursor;
-        return Size {
-            value: n.value as u64,
-            cursor,
-        };
-    }
-    read_size(chunk, s.next)
+    let n = s.load_int()?;
+    Ok(Got {
+        value: u64::from(n.value),
+        next: n.next,
+    })
 }
 
 // A list's count.
-pub fn load_count(chunk: &[u8], s: Cursor) -> Int
-    ensures { ReadsBy chunk.now load_count (λ a. a ≡ result.value) s result.cursor }
+pub fn load_count(s: LoadState) -> Result<Got<u32>, Refusal>
+    ensures { ReadAt s.entry.chunk.now load_count s.entry.pos result }
 {
-    let n = load_int(chunk, s);
-    if 0 < n.cursor.refusal {
-        return n;
-    }
+    let n = s.load_int()?;
     if LIMIT < n.value {
-        return Int {
-            value: 0,
-            cursor: refused(6),
-        };
+        return Err(Refusal::TooManyItems);
     }
-    n
+    Ok(n)
 }
 
-fn no_string(s: Cursor) -> Span
-    ensures { NoString s result }
+// A string: its size, which counts the last byte, and its bytes, of which the last is skipped. None where the size is 0.
+pub fn load_string(s: LoadState, size_4: bool) -> Result<Got<Option<Span>>, Refusal>
+    ensures { Strings s.entry.chunk.now size_4 s.entry.pos result }
 {
-    Span {
-        own: false,
-        start: 0,
-        len: 0,
-        cursor: s,
+    let size = load_size(s, size_4)?;
+    let start = size.next;
+    if size.value == 0 {
+        return Ok(Got {
+            value: None,
+            next: start,
+        });
     }
+    if (s.chunk.len().saturating_sub(start) as u64) < size.value {
+        return Err(Refusal::Truncated);
+    }
+    let n = size.value as usize;
+    Ok(Got {
+        value: Some(Span { start, len: n - 1 }),
+        next: start + n,
+    })
 }
 
-// A string: its size, which counts the last byte, and its bytes, of which the last is skipped.
-pub fn load_string(chunk: &[u8], s: Cursor, size_4: bool) -> Span
-    ensures { Strings chunk.now size_4 s result }
+// A name or a string constant: empty where there is no string.
+pub fn load_text(s: LoadState, size_4: bool) -> Result<Got<Span>, Refusal>
+    ensures { Texts s.entry.chunk.now size_4 s.entry.pos result }
 {
-    let z = load_size(chunk, s, size_4);
-    let c = z.cursor;
-    let size = z.value;
-    if 0 < c.refusal {
-        return no_string(c);
-    }
-    if size == 0 {
-        return no_string(c);
-    }
-    let start = c.next;
-    if (remaining(chunk, start) as u64) < size {
-        return no_string(refused(2));
-    }
-    let n = size as usize;
-    Span {
-        own: true,
-        start,
-        len: n - 1,
-        cursor: Cursor {
-            refusal: 0,
-            next: start + n,
-        },
-    }
+    let z = load_string(s, size_4)?;
+    Ok(Got {
+        value: z.value.unwrap_or_default(),
+        next: z.next,
+    })
 }
 
 // A constant, by its tag.
-pub fn load_constant(chunk: &[u8], s: Cursor, size_4: bool) -> Loaded
-    ensures { ReadsConstant chunk.now size_4 s result.constant result.cursor }
+pub fn load_constant(s: LoadState, size_4: bool) -> Result<Loaded, Refusal>
+    ensures { ReadsConstant s.entry.chunk.now size_4 s.entry.pos result }
 {
-    let t = load_byte(chunk, s);
-    let c = t.cursor;
-    if 0 < c.refusal {
-        return Loaded {
+    let tag = s.load_byte()?;
+    let s = LoadState { pos: tag.next, ..s };
+    match tag.value {
+        0 => Ok(Loaded {
             constant: Constant::Nil,
-            cursor: c,
-        };
-    }
-    let tag = t.value;
-    match tag {
-        0 => Loaded {
-            constant: Constant::Nil,
-            cursor: c,
-        },
+            next: s.pos,
+        }),
         1 => {
-            let b = load_byte(chunk, c);
-            let d = b.cursor;
-            Loaded {
+            let b = s.load_byte()?;
+            Ok(Loaded {
                 constant: Constant::Bool(b.value != 0),
-                cursor: d,
-            }
+                next: b.next,
+            })
         }
         3 => {
-            let low = load_int(chunk, c);
-            let high = load_int(chunk, low.cursor);
-            let d = high.cursor;
-            Loaded {
+            let low = s.load_int()?;
+            let s = LoadState { pos: low.next, ..s };
+            let high = s.load_int()?;
+            Ok(Loaded {
                 constant: Constant::Num(high.value, low.value),
-                cursor: d,
-            }
+                next: high.next,
+            })
         }
         4 => {
-            let z = load_string(chunk, c, size_4);
-            let d = z.cursor;
-            Loaded {
-                constant: Constant::String(z.start, z.len),
-                cursor: d,
-            }
+            let z = load_text(s, size_4)?;
+            Ok(Loaded {
+                constant: Constant::String(z.value.start, z.value.len),
+                next: z.next,
+            })
         }
-        _ => Loaded {
-            constant: Constant::Nil,
-            cursor: refused(5),
-        },
+        _ => Err(Refusal::BadTag),
     }
 }

@@ -4,158 +4,162 @@
 pub mod cursor;
 pub mod ints;
 
-ghost use Rattle.std.specs.Prelude.{◌≡◌, List, [], ◌∷◌, ℕ, ◌-◌, ◌<◌};
-ghost use Rattle.lent.specs.Memory.{Puts};
+ghost use Rattle.std.specs.Prelude.{◌≡◌, [], ◌∷◌, ◌<◌};
 ghost use Rattle.utf8.specs.Utf8.{repair};
-ghost use Rattle.format.specs.Read.{load_int, load_count, load_string, load_text};
+ghost use Rattle.lent.specs.Writer.{Writes};
+ghost use Rattle.format.specs.Read.{load_byte, load_int, load_count, load_string, load_text};
 ghost use Rattle.format.specs.Store.{plain, string, ◌⊕◌};
 ghost use Rattle.format.specs.Store.{word as word_piece};
-ghost use Rattle.load.specs.Loads.{ReadsBy, space, world, moved, Does, Loads, repaired_name, repaired_source_piece};
+ghost use Rattle.load.specs.Loads.{space, Does, PutsText, Stores, Loads, LoadsBy, repaired_name, repaired_source_piece};
 
-use cursor::{load_count, load_int, load_string};
-use load_state::cursor::Cursor;
+use cursor::{load_count, load_string, load_text};
+use format::Refusal;
+use lent::Writer;
+use load_state::LoadState;
 
-// The state of the reader: the cursor, and the words and text bytes so far.
-#[derive(Clone, Copy)]
-pub struct Load {
-    pub cursor: Cursor,
-    pub words: usize,
-    pub text: usize,
+// The state of the reader: the chunk with its place, the width of sizes, and lent memory with the places of what is stored next.
+// Places of its own, no Writer: at the end of a loan inside it only the length of the words would be known.
+// The width is a bool, as the C interface has it.
+#[derive(Drop)]
+pub struct Loader<'a> {
+    pub reader: LoadState<'a>,
+    pub size_4: bool,
+    pub words: &'a mut [u32],
+    pub words_at: usize,
+    pub text: &'a mut [u8],
+    pub text_at: usize,
 }
 
-// A count, and the state after it.
-#[derive(Clone, Copy)]
-pub struct Counted {
-    pub n: u32,
-    pub load: Load,
-}
-
-// A number as a word: any below 2^32 keeps its value.
+// A number as a word: any below 2^32 keeps its value. By the remainder, which takes no instruction; try_from would test.
 fn word(n: usize) -> u32
     ensures { n < 4294967296 → result ≡ n }
 {
     (n % 4294967296) as u32
 }
 
-// a - b, or 0.
-fn less(a: usize, b: usize) -> usize
-    ensures { result ≡ a - b }
-{
-    if b < a { a - b } else { 0 }
-}
-
-// The state with another cursor.
-pub fn at(s: Load, cursor: Cursor) -> Load
-    ensures { result ≡ moved s cursor }
-{
-    Load {
-        cursor,
-        words: s.words,
-        text: s.text,
-    }
-}
-
-// A word is stored.
-pub fn put(words: &mut [u32], s: Load, v: u32) -> Load
-    ensures { (result.cursor ≡ s.cursor) × ((t : List ℕ) → Does (word_piece v) (space s words.old t) (space result words.new t)) }
-{
-    let w = lent::put_word(words, s.words, v);
-    let cursor = s.cursor;
-    Load {
-        cursor,
-        words: w,
-        text: s.text,
-    }
-}
-
-// The place and the length of a string are stored, whose bytes took the text from s on up to t.
-pub fn put_string(words: &mut [u32], s: Load, t: usize) -> Load
-    ensures { (result.cursor ≡ s.cursor) × ((b u u' : List ℕ) → Puts b s.text u t u' → Does (string b) (space s words.old u) (space result words.new u')) }
-{
-    let w = lent::put_two(words, s.words, word(s.text), word(less(t, s.text)));
-    let cursor = s.cursor;
-    Load {
-        cursor,
-        words: w,
-        text: t,
-    }
-}
-
-// A tag before them.
-pub fn put_tagged(words: &mut [u32], s: Load, tag: u32, t: usize) -> Load
-    ensures { (result.cursor ≡ s.cursor) × ((b u u' : List ℕ) → Puts b s.text u t u' → Does (word_piece tag ⊕ string b) (space s words.old u) (space result words.new u')) }
-{
-    let w = lent::put_three(words, s.words, tag, word(s.text), word(less(t, s.text)));
-    let cursor = s.cursor;
-    Load {
-        cursor,
-        words: w,
-        text: t,
-    }
-}
-
-// Three words are stored.
-pub fn put3(words: &mut [u32], s: Load, a: u32, b: u32, c: u32) -> Load
-    ensures { (result.cursor ≡ s.cursor) × ((t : List ℕ) → Does (plain (a ∷ b ∷ c ∷ [])) (space s words.old t) (space result words.new t)) }
-{
-    let w = lent::put_three(words, s.words, a, b, c);
-    let cursor = s.cursor;
-    Load {
-        cursor,
-        words: w,
-        text: s.text,
-    }
-}
-
-// Bytes go to the text, repaired. ASCII, which most names are, is copied here, so that no call is made for it.
-fn put_repaired(bytes: &[u8], text: &mut [u8], at: usize) -> usize
-    ensures { Puts (repair bytes.now) at text.old result text.new }
+// Bytes are written, repaired. ASCII is copied here, without a call: measured, 7 % of both calls on real programs.
+#[tactic(auto, using(utf8::proofs::Ascii::repair_ascii))]
+fn put_repaired(w: &mut Writer, bytes: &[u8])
+    ensures { Writes (repair bytes.now) w.old w.new }
 {
     if utf8::is_ascii(bytes) {
-        return lent::put_bytes(text, at, bytes);
+        w.put_bytes(bytes);
+    } else {
+        utf8::put_repaired(w, bytes);
     }
-    utf8::repair(bytes, text, at)
 }
 
-// A name: its bytes, repaired, go to the text, its place and its length to the words.
-pub fn load_name(chunk: &[u8], words: &mut [u32], text: &mut [u8], s: Load, size_4: bool) -> Load
-    ensures { Loads chunk.now (load_text size_4) repaired_name (world s words.old text.old) (world result words.new text.new) }
-{
-    let z = load_string(chunk, s.cursor, size_4);
-    let start = z.start;
-    let end = start + z.len;
-    let t = put_repaired(&chunk[start..end], text, s.text);
-    put_string(words, at(s, z.cursor), t)
-}
-
-// A source: whether it is the function's own, its place and its length.
-pub fn load_source(chunk: &[u8], words: &mut [u32], text: &mut [u8], s: Load, size_4: bool) -> Load
-    ensures { Loads chunk.now (load_string size_4) repaired_source_piece (world s words.old text.old) (world result words.new text.new) }
-{
-    let z = load_string(chunk, s.cursor, size_4);
-    let p = at(s, z.cursor);
-    if !z.own {
-        return put3(words, p, 0, 0, 0);
+impl<'a> Loader<'a> {
+    // Bytes go to the text, repaired.
+    fn put_repaired(&mut self, bytes: &[u8])
+        ensures { PutsText (repair bytes.now) self.old self.new }
+    {
+        let out = &mut *self.text;
+        let mut w = Writer {
+            out,
+            at: self.text_at,
+        };
+        put_repaired(&mut w, bytes);
+        self.text_at = w.at;
     }
-    let start = z.start;
-    let end = start + z.len;
-    let t = put_repaired(&chunk[start..end], text, p.text);
-    put_tagged(words, p, 1, t)
-}
 
-// An integer goes from the chunk to the words.
-pub fn copy_int(chunk: &[u8], words: &mut [u32], s: Load) -> Load
-    ensures { (t : List ℕ) → Loads chunk.now load_int word_piece (world s words.old t) (world result words.new t) }
-{
-    let v = load_int(chunk, s.cursor);
-    put(words, at(s, v.cursor), v.value)
-}
+    // A word is stored.
+    pub fn put(&mut self, v: u32)
+        ensures { Stores (word_piece v) self.old self.new }
+    {
+        self.words_at = lent::put(self.words, self.words_at, v);
+    }
 
-// So does a count, which is answered too.
-pub fn copy_count(chunk: &[u8], words: &mut [u32], s: Load) -> Counted
-    ensures { (t : List ℕ) → ReadsBy chunk.now load_count (λ a. (a ≡ result.n) × Does (word_piece a) (space s words.old t) (space result.load words.new t)) s.cursor result.load.cursor }
-{
-    let v = load_count(chunk, s.cursor);
-    let load = put(words, at(s, v.cursor), v.value);
-    Counted { n: v.value, load }
+    // Three words are stored.
+    pub fn put3(&mut self, a: u32, b: u32, c: u32)
+        ensures { Stores (plain (a ∷ b ∷ c ∷ [])) self.old self.new }
+    {
+        self.words_at = lent::put_array(self.words, self.words_at, [a, b, c]);
+    }
+
+    // A name is stored: its bytes, repaired, as text, its place and its length as words.
+    fn put_name(&mut self, bytes: &[u8])
+        ensures { Stores (repaired_name bytes.now) self.old self.new }
+    {
+        let start = self.text_at;
+        self.put_repaired(bytes);
+        let len = self.text_at.saturating_sub(start);
+        self.words_at = lent::put_array(self.words, self.words_at, [word(start), word(len)]);
+    }
+
+    // A source of a function's own: 1 before what stands of a name.
+    fn put_source(&mut self, bytes: &[u8])
+        ensures { Stores (word_piece 1 ⊕ repaired_name bytes.now) self.old self.new }
+    {
+        self.put(1);
+        self.put_name(bytes);
+    }
+
+    // A string constant: 4, and its bytes as they are. Three words by one test of the room.
+    pub fn put_str(&mut self, bytes: &[u8])
+        ensures { Stores (word_piece 4 ⊕ string bytes.now) self.old self.new }
+    {
+        let start = self.text_at;
+        self.text_at = lent::put_all(self.text, start, bytes);
+        let len = self.text_at.saturating_sub(start);
+        self.words_at = lent::put_array(self.words, self.words_at, [4, word(start), word(len)]);
+    }
+
+    // A name goes from the chunk to lent memory.
+    pub fn load_name(&mut self) -> Result<(), Refusal>
+        ensures { Loads (load_text self.old.size_4) repaired_name self.old self.new result }
+    {
+        let z = load_text(self.reader, self.size_4)?;
+        self.reader.pos = z.next;
+        let chunk = self.reader.chunk;
+        let end = z.value.start + z.value.len;
+        self.put_name(&chunk[z.value.start..end]);
+        Ok(())
+    }
+
+    // A source: the function's own, or none, which is three zeros.
+    pub fn load_source(&mut self) -> Result<(), Refusal>
+        ensures { Loads (load_string self.old.size_4) repaired_source_piece self.old self.new result }
+    {
+        let z = load_string(self.reader, self.size_4)?;
+        self.reader.pos = z.next;
+        match z.value {
+            None => self.put3(0, 0, 0),
+            Some(s) => {
+                let chunk = self.reader.chunk;
+                let end = s.start + s.len;
+                self.put_source(&chunk[s.start..end]);
+            }
+        }
+        Ok(())
+    }
+
+    // A byte, which is not stored.
+    pub fn load_byte(&mut self) -> Result<u8, Refusal>
+        ensures { (LoadsBy load_byte (λ a b. (a ≡ b) × (space self.new ≡ space self.old)) self.old self.new result) × (space self.new ≡ space self.old) }
+    {
+        let b = self.reader.load_byte()?;
+        self.reader.pos = b.next;
+        Ok(b.value)
+    }
+
+    // An integer goes from the chunk to the words.
+    pub fn copy_int(&mut self) -> Result<(), Refusal>
+        ensures { Loads load_int word_piece self.old self.new result }
+    {
+        let v = self.reader.load_int()?;
+        self.reader.pos = v.next;
+        self.put(v.value);
+        Ok(())
+    }
+
+    // So does a count, which is answered too.
+    pub fn copy_count(&mut self) -> Result<u32, Refusal>
+        ensures { LoadsBy load_count (λ a n. (a ≡ n) × Does (word_piece a) (space self.old) (space self.new)) self.old self.new result }
+    {
+        let n = load_count(self.reader)?;
+        self.reader.pos = n.next;
+        self.put(n.value);
+        Ok(n.value)
+    }
 }

@@ -1,72 +1,113 @@
 -- A function put together from its parts, as the definition reads it.
-use Rattle.lent.proofs.Prelude.{ℕ, suc, ◌+◌, ◌*◌, ◌≤◌, ◌<◌, ◌≡◌, refl, ◌∙◌, List, Bool, arith}
-use Rattle.format.specs.Tree.{count}
-use Rattle.format.specs.Read.{◌>>=◌, load_byte, load_int, load_string, load_text, load_list, load_local, load_count, load_constant, many_functions, load_code, load_constants, load_debug, load_function}
-use Rattle.format.specs.Store.{word, list, ints, constant_piece, function_piece, function_pieces, children_piece}
-use Rattle.format.specs.Undump.{repaired, repaired_all}
-use Rattle.load_state.specs.declared.cursor.Cursor.{Cursor}
-use Rattle.load.specs.declared.Load.{Load}
-use Rattle.load.specs.Loads.{ReadsBy, space, Does, World, world, space_of, moved, Loads, repaired_source_piece}
-use Rattle.load_function.specs.Repaired.{repaired_locals, repaired_names, repaired_debug_piece, repaired_constants, repaired_function}
-use Rattle.load_function.proofs.Lists.{Counts, Loading, loading_stop, loading_end}
-use Rattle.load.proofs.Steps.{stops, bind, done, stays_then}
+use Rattle.std.specs.Prelude.{Result, Ok, Err}
+use Rattle.lent.proofs.Prelude.{ℕ, suc, ◌≡◌, refl, List, [], ◌∷◌, drop}
+use Rattle.format.specs.Tree.{Local}
+use Rattle.utf8.specs.Utf8.{repair}
+use Rattle.format.specs.Read.{Reader, ◌>>=◌, load_byte, load_int, load_string, load_text, load_list, load_local, load_count, load_constant, many_functions, load_code, load_constants, load_debug, load_function}
+use Rattle.format.specs.Store.{word, list, ints, string, local_piece, constant_piece, function_piece, children_piece}
+use Rattle.format.specs.Undump.{repaired, repaired_all, repaired_local}
+use Rattle.format.specs.declared.Refusal.{Refusal}
+use Rattle.format.specs.declared.Refusal.TheVariants.{TooDeep}
+use Rattle.load_state.specs.ReadAt.{Ends}
+use Rattle.load.specs.declared.Loader.{Loader}
+use Rattle.load.specs.Loads.{LoadsBy, Loads, repaired_name, repaired_source_piece}
+use Rattle.load_function.specs.Repaired.{repaired_locals, repaired_names, load_limits, limits_piece, repaired_local_piece, repaired_debug_piece, repaired_constants, repaired_function}
+use Rattle.load_function.proofs.Lists.{list_map}
+use Rattle.load.proofs.Steps.{same_self, same_then, loads_then, loads_refused, loads_mapped, at_width}
 use Rattle.load.proofs.Stores.{join, regroup}
 
-pub debug_loaded : {bs ws ws₁ ts : List ℕ} {s a : Load} {m ρ : World} (size4 : Bool) → ((t : List ℕ) → Loads bs (load_list load_int) ints (world s ws t) (world a ws₁ t))
-    → Loads bs (load_list (load_local size4)) repaired_locals (world a ws₁ ts) m → Loads bs (load_list (load_text size4)) repaired_names m ρ → Loads bs (load_debug size4) repaired_debug_piece (world s ws ts) ρ
-unfolding load_debug
-debug_loaded {ts = ts} size4 h k l =
-    bind _ (h ts) (stays_then k.stays l.stays) (λ li d. bind _ k l.stays (λ lo e. bind _ l (λ z. refl) (λ up f. done _ (join d (join e f)))))
+locals_repaired : (l : List Local) → list repaired_local_piece l ≡ repaired_locals l
+locals_repaired l = list_map repaired_local local_piece l
+
+names_repaired : (l : List (List ℕ)) → list repaired_name l ≡ repaired_names l
+names_repaired l = list_map repair string l
+
+module _ {σ a b ρ : Loader} {r : Result (Unit {0}) Refusal} where
+  pub local_loaded : Loads (load_text σ.size_4) repaired_name σ a (Ok tt) → Loads load_int word a b (Ok tt) → Loads load_int word b ρ r → Loads (load_local σ.size_4) repaired_local_piece σ ρ r
+  local_loaded h k l = loads_then _ h (λ n d. loads_then _ k (λ s e. loads_mapped _ (λ t u f. join d (join e f)) l))
+
+  pub debug_loaded : Loads (load_list load_int) ints σ a (Ok tt) → Loads (load_list (load_local a.size_4)) (list repaired_local_piece) a b (Ok tt) → Loads (load_list (load_text b.size_4)) (list repaired_name) b ρ r
+      → Loads (load_debug σ.size_4) repaired_debug_piece σ ρ r
+  unfolding load_debug
+  debug_loaded h k l =
+      loads_then _ h (λ li d. loads_then _ (at_width (λ w. load_list (load_local w)) h.same k) (λ lo e. loads_mapped _ (λ up u f. join d (join (rw (locals_repaired lo) at e) (rw (names_repaired up) at f))) (at_width (λ w. load_list (load_text w)) (same_then h.same k.same) l)))
 
 -- the constants, then the functions
-constants_loaded : {bs : List ℕ} {σ a ρ : World} (size4 : Bool) (allowance : ℕ) → Loads bs (load_list (load_constant size4)) (list constant_piece) σ a
-    → Loads bs (load_count >>= many_functions (load_function size4 allowance)) (λ fs. children_piece (repaired_all fs)) a ρ → Loads bs (load_constants size4 (load_function size4 allowance)) repaired_constants σ ρ
+pub constants_loaded : {σ a ρ : Loader} {r : Result (Unit {0}) Refusal} (allowance : ℕ) → Loads (load_list (load_constant σ.size_4)) (list constant_piece) σ a (Ok tt)
+    → Loads (load_count >>= many_functions (load_function a.size_4 allowance)) (λ fs. children_piece (repaired_all fs)) a ρ r → Loads (load_constants σ.size_4 (load_function σ.size_4 allowance)) repaired_constants σ ρ r
 unfolding load_constants
-constants_loaded size4 allowance h k = bind _ h k.stays (λ ks d. bind _ k (λ z. refl) (λ fs e. done _ (join d e)))
+constants_loaded allowance h k =
+    loads_then _ h (λ ks d. loads_mapped _ (λ fs u e. join d e) (at_width (λ w. load_count >>= many_functions (load_function w allowance)) h.same k))
 
-module _ {bs : List ℕ} {σ ρ : World} {s s₀ : Load} {ws ws₀ ts : List ℕ} {n i : ℕ} (size4 : Bool) (allowance : ℕ)
-    (h : Loads bs (load_list (load_constant size4)) (list constant_piece) σ (world s ws ts)) (c : Counts bs load_count n s ws s₀ ws₀)
-    (l : Loading bs (many_functions (load_function size4 allowance)) (λ fs. count (repaired_all fs)) (λ fs. function_pieces (repaired_all fs)) n (world s₀ ws₀ ts) i ρ) where
-  pub constants_stop : 0 < ρ.load.cursor.refusal → Loads bs (load_constants size4 (load_function size4 allowance)) repaired_constants σ ρ
-  constants_stop z = constants_loaded size4 allowance h (loading_stop c l z)
+pub pool_refused : {σ ρ : Loader} {x : Refusal} (allowance : ℕ) → Loads (load_list (load_constant σ.size_4)) (list constant_piece) σ ρ (Err x) → Loads (load_constants σ.size_4 (load_function σ.size_4 allowance)) repaired_constants σ ρ (Err x)
+unfolding load_constants
+pool_refused allowance h = loads_refused _ h
 
-  pub constants_end : n ≤ i → Loads bs (load_constants size4 (load_function size4 allowance)) repaired_constants σ ρ
-  constants_end k = constants_loaded size4 allowance h (loading_end c l k)
+-- four bytes, read one by one
+limits_then : {C D : Type 0} {Q : C → D → Type 0} {σ σ' : Loader} {r : Result D Refusal} (f : ℕ → ℕ → ℕ → ℕ → Reader C) → LoadsBy (load_limits >>= λ l. f l.nu l.np l.va l.ms) Q σ σ' r
+    → LoadsBy (load_byte >>= λ a. load_byte >>= λ b. load_byte >>= λ c. load_byte >>= λ d. f a b c d) Q σ σ' r
+limits_then {C} {D} {Q} {σ} {σ'} {r} f h = record { same = h.same; reads = record { ends = by (drop σ.reader.pos σ.reader.chunk.now) h.reads.ends } }
+  where
+    by : (bs : List ℕ) → Ends ((load_limits >>= λ l. f l.nu l.np l.va l.ms) bs) (λ c rest (d : D). (rest ≡ drop σ'.reader.pos σ.reader.chunk.now) × Q c d) r
+        → Ends ((load_byte >>= λ a. load_byte >>= λ b. load_byte >>= λ c. load_byte >>= λ d. f a b c d) bs) (λ c rest (d : D). (rest ≡ drop σ'.reader.pos σ.reader.chunk.now) × Q c d) r
+    by [] t = t
+    by (a ∷ []) t = t
+    by (a ∷ b ∷ []) t = t
+    by (a ∷ b ∷ c ∷ []) t = t
+    by (a ∷ b ∷ c ∷ d ∷ rest) t = t
 
 -- 7
-pub function_too_deep : {bs ws ts : List ℕ} {s r : Load} {m : Cursor} {n : ℕ} (size4 : Bool) → n ≡ 0 → s.cursor.refusal ≤ 0 → r ≡ moved s m → m.refusal ≡ 7
-    → Loads bs (load_function size4 n) repaired_function (world s ws ts) (world r ws ts)
+pub function_too_deep : {σ : Loader} {k : ℕ} → k ≡ 0 → Loads (load_function σ.size_4 k) repaired_function σ σ (Err TooDeep)
 unfolding load_function
-function_too_deep size4 e z f g = rw (e, f) (stops z refl g (omega arith))
+function_too_deep q = rw q (record { same = same_self; reads = record { ends = refl } })
 
-pub function_loaded : {bs : List ℕ} {σ a b c d e f ρ : World} {m₁ m₂ m₃ m₄ : Cursor} {nu np va ms v : ℕ} {p : Load} (size4 : Bool) (allowance : ℕ)
-    → Loads bs (load_string size4) repaired_source_piece σ a → Loads bs load_int word a b → Loads bs load_int word b c
-    → ReadsBy bs load_byte (λ x. x ≡ nu) c.load.cursor m₁ → ReadsBy bs load_byte (λ x. x ≡ np) m₁ m₂ → ReadsBy bs load_byte (λ x. x ≡ va) m₂ m₃ → ReadsBy bs load_byte (λ x. x ≡ ms) m₃ m₄
-    → p ≡ moved c.load m₄ → v ≡ ms + 256 * (va + 256 * (np + 256 * nu)) → d.load.cursor ≡ p.cursor → Does (word v) (space p c.words c.text) (space_of d)
-    → Loads bs load_code ints d e → Loads bs (load_constants size4 (load_function size4 allowance)) repaired_constants e f → Loads bs (load_debug size4) repaired_debug_piece f ρ
-    → Loads bs (load_function size4 (suc allowance)) repaired_function σ ρ
+-- the parts, one after the other, and what ends it at each
+module _ {σ ρ : Loader} {x : Refusal} {k n : ℕ} (q : k ≡ suc n) where
+  pub source_refused : Loads (load_string σ.size_4) repaired_source_piece σ ρ (Err x) → Loads (load_function σ.size_4 k) repaired_function σ ρ (Err x)
+  unfolding load_function
+  source_refused h = rw q (loads_refused _ h)
+
+  module _ {a : Loader} (h₁ : Loads (load_string σ.size_4) repaired_source_piece σ a (Ok tt)) where
+    pub line_refused : Loads load_int word a ρ (Err x) → Loads (load_function σ.size_4 k) repaired_function σ ρ (Err x)
+    unfolding load_function
+    line_refused h = rw q (loads_then _ h₁ (λ i d. loads_refused _ h))
+
+    module _ {b : Loader} (h₂ : Loads load_int word a b (Ok tt)) where
+      pub last_line_refused : Loads load_int word b ρ (Err x) → Loads (load_function σ.size_4 k) repaired_function σ ρ (Err x)
+      unfolding load_function
+      last_line_refused h = rw q (loads_then _ h₁ (λ i d. loads_then _ h₂ (λ j e. loads_refused _ h)))
+
+      module _ {c : Loader} (h₃ : Loads load_int word b c (Ok tt)) where
+        pub limits_refused : Loads load_limits limits_piece c ρ (Err x) → Loads (load_function σ.size_4 k) repaired_function σ ρ (Err x)
+        unfolding load_function
+        limits_refused h = rw q (loads_then _ h₁ (λ i d. loads_then _ h₂ (λ j e. loads_then _ h₃ (λ l f. limits_then _ (loads_refused _ h)))))
+
+        module _ {d : Loader} (h₄ : Loads load_limits limits_piece c d (Ok tt)) where
+          pub code_refused : Loads load_code ints d ρ (Err x) → Loads (load_function σ.size_4 k) repaired_function σ ρ (Err x)
+          unfolding load_function
+          code_refused h = rw q (loads_then _ h₁ (λ i e. loads_then _ h₂ (λ j f. loads_then _ h₃ (λ l g. limits_then _ (loads_then _ h₄ (λ m u. loads_refused _ h))))))
+
+          module _ {e : Loader} (h₅ : Loads load_code ints d e (Ok tt)) where
+            pub constants_refused : Loads (load_constants e.size_4 (load_function e.size_4 n)) repaired_constants e ρ (Err x) → Loads (load_function σ.size_4 k) repaired_function σ ρ (Err x)
+            unfolding load_function
+            constants_refused h =
+                let s = same_then h₁.same (same_then h₂.same (same_then h₃.same (same_then h₄.same h₅.same))) in
+                rw q (loads_then _ h₁ (λ i f. loads_then _ h₂ (λ j g. loads_then _ h₃ (λ l u. limits_then _ (loads_then _ h₄ (λ m v. loads_then _ h₅ (λ o w. loads_refused _ (at_width (λ w. load_constants w (load_function w n)) s h))))))))
+
+pub function_loaded : {σ a b c d e f ρ : Loader} {r : Result (Unit {0}) Refusal} {k n : ℕ} → k ≡ suc n → Loads (load_string σ.size_4) repaired_source_piece σ a (Ok tt)
+    → Loads load_int word a b (Ok tt) → Loads load_int word b c (Ok tt) → Loads load_limits limits_piece c d (Ok tt) → Loads load_code ints d e (Ok tt)
+    → Loads (load_constants e.size_4 (load_function e.size_4 n)) repaired_constants e f (Ok tt) → Loads (load_debug f.size_4) repaired_debug_piece f ρ r
+    → Loads (load_function σ.size_4 k) repaired_function σ ρ r
 unfolding load_function repaired function_piece
-function_loaded {c = c} {d = d} {m₄ = m₄} {nu = nu} {np = np} {va = va} {ms = ms} {v = v} size4 allowance h₁ h₂ h₃ b₁ b₂ b₃ b₄ at-m₄ is-v at_p put h₄ h₅ h₆ =
-    let q : d.load.cursor ≡ m₄ = at_p ∙ rw at-m₄ in
-    let w : Does (word v) (space_of c) (space_of d) = rw at-m₄ at put in
-    let k₅ = h₆.stays in
-    let k₄ = stays_then h₅.stays k₅ in
-    let c₄ = stays_then (rw q at h₄.stays) k₄ in
-    let c₃ = stays_then b₄.stays c₄ in
-    let c₂ = stays_then b₃.stays c₃ in
-    let c₁ = stays_then b₂.stays c₂ in
-    let k₃ = stays_then b₁.stays c₁ in
-    let k₂ = stays_then h₃.stays k₃ in
-    let k₁ = stays_then h₂.stays k₂ in
-    let p : v ≡ ((nu * 256 + np) * 256 + va) * 256 + ms = is-v ∙ omega arith in
-    bind _ h₁ k₁ (λ src d₁.
-    bind _ h₂ k₂ (λ ld d₂.
-    bind _ h₃ k₃ (λ lld d₃.
-    bind _ b₁ c₁ (λ x₁ e₁.
-    bind _ b₂ c₂ (λ x₂ e₂.
-    bind _ b₃ c₃ (λ x₃ e₃.
-    bind _ b₄ c₄ (λ x₄ e₄.
-    bind _ (rw q at h₄) k₄ (λ code d₅.
-    bind _ h₅ k₅ (λ ks d₆.
-    bind _ h₆ (λ z. refl) (λ de d₇.
-    done _ (rw (e₁, e₂, e₃, e₄, ← p) (join d₁ (join d₂ (join d₃ (join w (join d₅ (regroup (list constant_piece ks.constants) (children_piece (repaired_all ks.functions)) (repaired_debug_piece de) (join d₆ d₇))))))))))))))))))
+function_loaded {n = n} q h₁ h₂ h₃ h₄ h₅ h₆ h₇ =
+    let s = same_then h₁.same (same_then h₂.same (same_then h₃.same (same_then h₄.same h₅.same))) in
+    rw q
+    (loads_then _ h₁ (λ src d₁.
+    loads_then _ h₂ (λ ld d₂.
+    loads_then _ h₃ (λ lld d₃.
+    limits_then _ (loads_then _ h₄ (λ l d₄.
+    loads_then _ h₅ (λ code d₅.
+    loads_then _ (at_width (λ w. load_constants w (load_function w n)) s h₆) (λ ks d₆.
+    loads_mapped _ (λ de u d₇.
+    join d₁ (join d₂ (join d₃ (join d₄ (join d₅ (regroup (list constant_piece ks.constants) (children_piece (repaired_all ks.functions)) (repaired_debug_piece de) (join d₆ d₇)))))))
+    (at_width load_debug (same_then s h₆.same) h₇)))))))))

@@ -1,111 +1,105 @@
-// The lists of a function whose items are read one by one, each after its count. The width of sizes is passed along.
-ghost use Rattle.std.specs.Prelude.{◌≡◌, cond};
-ghost use Rattle.format.specs.Read.{load_list, load_text, load_local, load_constant};
-ghost use Rattle.format.specs.Store.{constant_piece};
+// The lists of a function whose items are read one by one, each list after its count.
+ghost use Rattle.std.specs.Prelude.{Bool, List, ℕ};
+ghost use Rattle.format.specs.Tree.{Local};
+ghost use Rattle.format.specs.Tree.{Constant as TreeConstant};
+ghost use Rattle.format.specs.Read.{Reader, load_text, load_local, load_constant};
+ghost use Rattle.format.specs.Read.{load_list as list_reader};
+ghost use Rattle.format.specs.Store.{Piece, constant_piece};
 ghost use Rattle.format.specs.Store.{list as list_piece};
 ghost use Rattle.format.specs.Constants.{value_of, LiesIn};
-ghost use Rattle.load.specs.Loads.{space, world, Does, Loads};
-ghost use Rattle.load_function.specs.Repaired.{repaired_local_piece, repaired_locals, repaired_names};
+ghost use Rattle.load.specs.Loads.{Stores, Loads, repaired_name};
+ghost use Rattle.load_function.specs.Repaired.{repaired_local_piece};
 
-use format::Constant;
+use format::{Constant, Refusal};
+use load::Loader;
 use load::cursor::load_constant;
-use load::{Load, at, copy_count, copy_int, load_name, put_tagged, put3};
 
-fn bit(b: bool) -> u32
-    ensures { result ≡ cond b 1 0 }
-{
-    if b { 1 } else { 0 }
+// What the items of a list are.
+pub trait Item {
+    ghost Value: { Type 0 };
+
+    ghost reader: { Bool → Reader Value };
+
+    ghost piece: { Value → Piece };
+
+    fn load(s: &mut Loader) -> Result<(), Refusal>
+        ensures { Loads (reader s.old.size_4) piece s.old s.new result };
 }
+
+// A list of them: its count, and one by one.
+pub fn load_list<T: Item>(s: &mut Loader) -> Result<(), Refusal>
+    ensures { Loads (list_reader (T.reader s.old.size_4)) (list_piece T.piece) s.old s.new result }
+{
+    let n = s.copy_count()?;
+    for _i in 0..n {
+        T::load(s)?;
+    }
+    Ok(())
+}
+
+// Constants.
+pub struct Pool;
 
 // A constant that was read goes to the store.
-fn put_constant(chunk: &[u8], words: &mut [u32], text: &mut [u8], s: Load, k: Constant) -> Load
-    requires { LiesIn chunk.now k }
-    ensures { (result.cursor ≡ s.cursor) × Does (constant_piece (value_of chunk.now k)) (space s words.old text.old) (space result words.new text.new) }
+fn put_constant(s: &mut Loader, k: Constant)
+    requires { LiesIn s.old.reader.chunk.now k }
+    ensures { Stores (constant_piece (value_of s.old.reader.chunk.now k)) s.old s.new }
 {
     match k {
-        Constant::Nil => put3(words, s, 0, 0, 0),
-        Constant::Bool(b) => put3(words, s, 1, bit(b), 0),
-        Constant::Num(high, low) => put3(words, s, 3, high, low),
+        Constant::Nil => s.put3(0, 0, 0),
+        Constant::Bool(b) => s.put3(1, u32::from(b), 0),
+        Constant::Num(high, low) => s.put3(3, high, low),
         Constant::String(start, len) => {
+            let chunk = s.reader.chunk;
             let end = start + len;
-            let t = lent::put_bytes(text, s.text, &chunk[start..end]);
-            put_tagged(words, s, 4, t)
+            s.put_str(&chunk[start..end]);
         }
     }
 }
 
-fn copy_constant(chunk: &[u8], words: &mut [u32], text: &mut [u8], s: Load, size_4: bool) -> Load
-    ensures { Loads chunk.now (load_constant size_4) constant_piece (world s words.old text.old) (world result words.new text.new) }
-{
-    let z = load_constant(chunk, s.cursor, size_4);
-    let k = z.constant;
-    put_constant(chunk, words, text, at(s, z.cursor), k)
+impl Item for Pool {
+    ghost Value = { TreeConstant };
+
+    ghost reader = { load_constant };
+
+    ghost piece = { constant_piece };
+
+    fn load(s: &mut Loader) -> Result<(), Refusal> {
+        let z = load_constant(s.reader, s.size_4)?;
+        s.reader.pos = z.next;
+        put_constant(s, z.constant);
+        Ok(())
+    }
 }
 
-pub fn load_pool(chunk: &[u8], words: &mut [u32], text: &mut [u8], s: Load, size_4: bool) -> Load
-    ensures { Loads chunk.now (load_list (load_constant size_4)) (list_piece constant_piece) (world s words.old text.old) (world result words.new text.new) }
-{
-    let c = copy_count(chunk, words, s);
-    let n = c.n;
-    let mut p = c.load;
-    if 0 < p.cursor.refusal {
-        return p;
+// Locals: each a name and two integers.
+pub struct Locals;
+
+impl Item for Locals {
+    ghost Value = { Local };
+
+    ghost reader = { load_local };
+
+    ghost piece = { repaired_local_piece };
+
+    fn load(s: &mut Loader) -> Result<(), Refusal> {
+        s.load_name()?;
+        s.copy_int()?;
+        s.copy_int()
     }
-    let mut i: u32 = 0;
-    while i < n {
-        p = copy_constant(chunk, words, text, p, size_4);
-        if 0 < p.cursor.refusal {
-            return p;
-        }
-        i += 1;
-    }
-    p
 }
 
-fn load_local(chunk: &[u8], words: &mut [u32], text: &mut [u8], s: Load, size_4: bool) -> Load
-    ensures { Loads chunk.now (load_local size_4) repaired_local_piece (world s words.old text.old) (world result words.new text.new) }
-{
-    let p = load_name(chunk, words, text, s, size_4);
-    let q = copy_int(chunk, words, p);
-    copy_int(chunk, words, q)
-}
+// Names of upvalues.
+pub struct Names;
 
-pub fn load_locals(chunk: &[u8], words: &mut [u32], text: &mut [u8], s: Load, size_4: bool) -> Load
-    ensures { Loads chunk.now (load_list (load_local size_4)) repaired_locals (world s words.old text.old) (world result words.new text.new) }
-{
-    let c = copy_count(chunk, words, s);
-    let n = c.n;
-    let mut p = c.load;
-    if 0 < p.cursor.refusal {
-        return p;
-    }
-    let mut i: u32 = 0;
-    while i < n {
-        p = load_local(chunk, words, text, p, size_4);
-        if 0 < p.cursor.refusal {
-            return p;
-        }
-        i += 1;
-    }
-    p
-}
+impl Item for Names {
+    ghost Value = { List ℕ };
 
-pub fn load_names(chunk: &[u8], words: &mut [u32], text: &mut [u8], s: Load, size_4: bool) -> Load
-    ensures { Loads chunk.now (load_list (load_text size_4)) repaired_names (world s words.old text.old) (world result words.new text.new) }
-{
-    let c = copy_count(chunk, words, s);
-    let n = c.n;
-    let mut p = c.load;
-    if 0 < p.cursor.refusal {
-        return p;
+    ghost reader = { load_text };
+
+    ghost piece = { repaired_name };
+
+    fn load(s: &mut Loader) -> Result<(), Refusal> {
+        s.load_name()
     }
-    let mut i: u32 = 0;
-    while i < n {
-        p = load_name(chunk, words, text, p, size_4);
-        if 0 < p.cursor.refusal {
-            return p;
-        }
-        i += 1;
-    }
-    p
 }

@@ -1,15 +1,12 @@
 -- What reading a byte or a number gives at a place of the chunk.
-use Rattle.lent.proofs.Prelude.{ℕ, ◌+◌, ◌*◌, ◌-◌, ◌≤◌, ◌<◌, ◌≡◌, sym, ◌∙◌, List, ◌∷◌, arith, add-zero, length, take, drop, get_or, length-drop, drop-drop, drop_of_length-le, le-leb, lt-leb}
+use Rattle.std.specs.Prelude.{Ok}
+use Rattle.lent.proofs.Prelude.{refl, ℕ, ◌+◌, ◌*◌, ◌-◌, ◌≤◌, ◌<◌, ◌≡◌, sym, ◌∙◌, List, ◌∷◌, arith, add-zero, length, take, drop, get_or, length-drop, drop-drop, le-leb, lt-leb}
 use Rattle.lent.proofs.Lists.{drop_more}
-use Rattle.format.specs.Read.{Reader, got, refused, load_byte, load_block, load_number, load_int, little_endian}
-use Rattle.load_state.specs.declared.cursor.Cursor.{Cursor}
+use Rattle.format.specs.Read.{got, refused, load_byte, load_block, load_number, load_int, little_endian}
 use Rattle.load_state.specs.ReadAt.{four_at, ReadAt}
 
 pub byte_got : (bs : List ℕ) (at : ℕ) → at < length bs → load_byte (drop at bs) ≡ got (get_or bs at 0) (drop (at + 1) bs)
 byte_got bs at h = rw (drop_more bs at h)
-
-pub byte_none : (bs : List ℕ) (at : ℕ) → length bs ≤ at → load_byte (drop at bs) ≡ refused 2
-byte_none bs at h = rw (drop_of_length-le bs h)
 
 -- the four bytes from a place on
 pub four : (bs : List ℕ) (at : ℕ) → at + 4 ≤ length bs → drop at bs ≡ get_or bs at 0 ∷ get_or bs (at + 1) 0 ∷ get_or bs (at + 2) 0 ∷ get_or bs (at + 3) 0 ∷ drop (at + 4) bs
@@ -55,27 +52,11 @@ eight_is : (bs : List ℕ) (at : ℕ) → 8 ≤ length bs - at → four_at bs at
 unfolding little_endian
 eight_is bs at h = rw (four bs at (omega arith), four bs (at + 4) (omega arith)) (eight _ _ _ _ _ _ _ _)
 
--- ---- as a cursor: a value that was read, or a refusal that was met
+-- ---- as an answer
 
-module _ {bs : List ℕ} {R : Reader ℕ} {at v : ℕ} {r : Cursor} where
-  taken : {a : ℕ} {rest : List ℕ} → R (drop at bs) ≡ got a rest → r.refusal ≡ 0 → rest ≡ drop r.next bs → v ≡ a → ReadAt bs R at v r
-  taken e f g p = record { ends = rw e (f, g, sym p) }
+module _ {bs : List ℕ} {at v : ℕ} where
+  pub int_taken : 4 ≤ length bs - at → v ≡ four_at bs at → ReadAt bs load_int at (Ok (record { value = v; next = at + 4 }))
+  int_taken h e = record { ends = rw (int_got bs at h) (refl, sym e) }
 
-  missing : {k : ℕ} → R (drop at bs) ≡ refused k → r.refusal ≡ k → 0 < k → ReadAt bs R at v r
-  missing e f h = record { ends = rw e (f, h) }
-
-module _ {bs : List ℕ} {at v : ℕ} {r : Cursor} where
-  pub byte_taken : at < length bs → v ≡ get_or bs at 0 → r.refusal ≡ 0 → r.next ≡ at + 1 → ReadAt bs load_byte at v r
-  byte_taken h e f g = taken (byte_got bs at h) f (rw g) e
-
-  pub byte_missing : length bs ≤ at → r.refusal ≡ 2 → ReadAt bs load_byte at v r
-  byte_missing h e = missing (byte_none bs at h) e (omega arith)
-
-  pub number_missing : {width : ℕ} → length bs - at < width → r.refusal ≡ 2 → ReadAt bs (load_number width) at v r
-  number_missing {width} h e = missing (number_none width bs at h) e (omega arith)
-
-  pub int_taken : 4 ≤ length bs - at → v ≡ four_at bs at → r.refusal ≡ 0 → r.next ≡ at + 4 → ReadAt bs load_int at v r
-  int_taken h e f g = taken (int_got bs at h) f (rw g) e
-
-  pub size_taken : 8 ≤ length bs - at → v ≡ four_at bs at + 4294967296 * four_at bs (at + 4) → r.refusal ≡ 0 → r.next ≡ at + 8 → ReadAt bs (load_number 8) at v r
-  size_taken h e f g = taken (number_got 8 bs at h) f (rw g) (e ∙ eight_is bs at h)
+  pub size_taken : 8 ≤ length bs - at → v ≡ four_at bs at + 4294967296 * four_at bs (at + 4) → ReadAt bs (load_number 8) at (Ok (record { value = v; next = at + 8 }))
+  size_taken h e = record { ends = rw (number_got 8 bs at h) (refl, sym (e ∙ eight_is bs at h)) }

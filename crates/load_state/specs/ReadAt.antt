@@ -1,16 +1,24 @@
--- What reading at a place of the chunk gives, as a cursor.
-use Rattle.std.specs.Prelude.{ℕ, ◌+◌, ◌*◌, ◌<◌, ◌≡◌, List, drop, get_or}
+-- What reading at a place of the chunk gives.
+use Rattle.std.specs.Prelude.{ℕ, ◌+◌, ◌*◌, ◌≡◌, List, drop, get_or, Result, Ok, Err}
 use Rattle.format.specs.Read.{Read, Reader, got, refused}
-use Rattle.load_state.specs.declared.cursor.Cursor.{Cursor}
+use Rattle.format.specs.Refusal.{number}
+use Rattle.format.specs.declared.Refusal.{Refusal}
+use Rattle.load_state.specs.declared.cursor.Got.{Got}
 
--- the reading x ends at the cursor r, with P of its value, or with its refusal
-abbrev pub Ends : {A : Type 0} → List ℕ → Read A → (A → Type 0) → Cursor → Type 0
-Ends bs (got a rest) P r = (r.refusal ≡ 0) × (rest ≡ drop r.next bs) × P a
-Ends bs (refused k) P r = (r.refusal ≡ k) × (0 < k)
+-- the reading x ends as the answer r says: with P of its value, the bytes left and r's value, or with its refusal
+abbrev pub Ends : {A B : Type 0} → Read A → (A → List ℕ → B → Type 0) → Result B Refusal → Type 0
+Ends (got a rest) P (Ok b) = P a rest b
+Ends (got a rest) P (Err e) = ⊥
+Ends (refused k) P (Ok b) = ⊥
+Ends (refused k) P (Err e) = number e ≡ k
 
--- the reader R gives v from a place on and ends at r, or with its refusal
-pub record ReadAt (bs : List ℕ) (R : Reader ℕ) (at v : ℕ) (r : Cursor) : Type 0 where
-  pub ends : Ends bs (R (drop at bs)) (λ a. a ≡ v) r
+-- the reader R from a place on: what it gives and r's value meet P, and r says the next place; or r is its refusal
+pub record ReadsBy {A B : Type 0} (bs : List ℕ) (R : Reader A) (P : A → B → Type 0) (next : B → ℕ) (at : ℕ) (r : Result B Refusal) : Type 0 where
+  pub ends : Ends (R (drop at bs)) (λ a rest b. (rest ≡ drop (next b) bs) × P a b) r
+
+-- the reader R gives r's value from a place on and ends at r's next place, or with r's refusal
+abbrev pub ReadAt : {A : Type 0} → List ℕ → Reader A → ℕ → Result (Got A) Refusal → Type 0
+ReadAt bs R at r = ReadsBy bs R (λ a g. a ≡ g.value) (λ g. g.next) at r
 
 -- the number that four bytes from a place on stand for, low byte first
 abbrev pub four_at : List ℕ → ℕ → ℕ

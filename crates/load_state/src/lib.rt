@@ -3,11 +3,11 @@
 
 pub mod cursor;
 
-ghost use Rattle.std.specs.Prelude.{◌≡◌};
 ghost use Rattle.format.specs.Read.{load_byte, load_number, load_int};
 ghost use Rattle.load_state.specs.ReadAt.{ReadAt};
 
-use cursor::{Byte, Int, Size, byte_at, int_at, size_at};
+use cursor::{Got, byte_at, int_at, size_at};
+use format::Refusal;
 
 // The chunk, and the place of the next byte.
 #[derive(Clone, Copy)]
@@ -16,46 +16,22 @@ pub struct LoadState<'a> {
     pub pos: usize,
 }
 
-// The reader at a place.
-pub fn state<'a>(chunk: &'a [u8], pos: usize) -> LoadState<'a>
-    ensures { (result.chunk ≡ chunk.entry) × (result.pos ≡ pos) }
-{
-    LoadState { chunk, pos }
-}
+impl<'a> LoadState<'a> {
+    pub fn load_byte(self) -> Result<Got<u8>, Refusal>
+        ensures { ReadAt self.entry.chunk.now load_byte self.entry.pos result }
+    {
+        byte_at(self.chunk, self.pos)
+    }
 
-pub fn load_byte<'a>(s: LoadState<'a>) -> Byte
-    ensures { ReadAt s.entry.chunk.now load_byte s.entry.pos result.value result.cursor }
-{
-    byte_at(s.chunk, s.pos)
-}
+    pub fn load_int(self) -> Result<Got<u32>, Refusal>
+        ensures { ReadAt self.entry.chunk.now load_int self.entry.pos result }
+    {
+        int_at(self.chunk, self.pos)
+    }
 
-pub fn load_int<'a>(s: LoadState<'a>) -> Int
-    ensures { ReadAt s.entry.chunk.now load_int s.entry.pos result.value result.cursor }
-{
-    int_at(s.chunk, s.pos)
-}
-
-pub fn load_size<'a>(s: LoadState<'a>) -> Size
-    ensures { ReadAt s.entry.chunk.now (load_number 8) s.entry.pos result.value result.cursor }
-{
-    size_at(s.chunk, s.pos)
-}
-
-// The same with plain parameters, for callers that hold no reader.
-pub fn read_byte(chunk: &[u8], pos: usize) -> Byte
-    ensures { ReadAt chunk.now load_byte pos result.value result.cursor }
-{
-    load_byte(state(chunk, pos))
-}
-
-pub fn read_int(chunk: &[u8], pos: usize) -> Int
-    ensures { ReadAt chunk.now load_int pos result.value result.cursor }
-{
-    load_int(state(chunk, pos))
-}
-
-pub fn read_size(chunk: &[u8], pos: usize) -> Size
-    ensures { ReadAt chunk.now (load_number 8) pos result.value result.cursor }
-{
-    load_size(state(chunk, pos))
+    pub fn load_size(self) -> Result<Got<u64>, Refusal>
+        ensures { ReadAt self.entry.chunk.now (load_number 8) self.entry.pos result }
+    {
+        size_at(self.chunk, self.pos)
+    }
 }

@@ -1,6 +1,8 @@
 -- get_local_name_in: the lookup of get_local_name in a lent slice of records.
-use Rattle.std.specs.Prelude.{ℕ, ◌+◌, List, cond, length, eqb, leb}
+use Rattle.std.specs.Prelude.{ℕ, ◌+◌, List, cond, length, eqb, leb, Result, Ok, Err}
 use Rattle.format.specs.Tree.{Local, Function, parts_of}
+use Rattle.format.specs.Refusal.{number}
+use Rattle.format.specs.declared.Refusal.{Refusal}
 use Rattle.proto.specs.Walk.{to_locals}
 use Rattle.proto.specs.Places.{on_place}
 use Rattle.debug_info.specs.Names.{active_local, get_local_name}
@@ -40,13 +42,18 @@ local_named_in records words text place n pc out =
 
 -- ---- before the records are filled
 
-abbrev pub no_locals : ℕ → Locals
-no_locals r = record { refusal = r; at = 0; count = 0 }
+-- an answer, with a refusal as its number
+abbrev pub numbered : {A : Type 0} → Result A Refusal → Result A ℕ
+numbered (Ok a) = Ok a
+numbered (Err e) = Err (number e)
 
--- the refusal for so many records and so much space, and where the locals stand
-unfoldable pub locals_for : List ℕ → List ℕ → ℕ → ℕ → ℕ → ℕ → ℕ → Locals
+abbrev pub no_locals : ℕ → Result Locals ℕ
+no_locals r = Err r
+
+-- the refusal for so many records and so much space, or where the locals stand
+unfoldable pub locals_for : List ℕ → List ℕ → ℕ → ℕ → ℕ → ℕ → ℕ → Result Locals ℕ
 locals_for words text place n pc records space =
     on_place no_locals
     (λ x. cond (leb (length (locals_of x.function)) records)
-    (cond (leb (length (active_local (locals_of x.function) n pc).name) space) (record { refusal = 0; at = locals_at place x.function; count = length (locals_of x.function) }) (no_locals 11))
+    (cond (leb (length (active_local (locals_of x.function) n pc).name) space) (Ok (record { at = locals_at place x.function; count = length (locals_of x.function) })) (no_locals 11))
     (no_locals 8)) words text place

@@ -1,10 +1,11 @@
 -- Records of locals: filled from the words of a store, and searched.
-use Rattle.std.specs.Prelude.{ℕ, zero, suc, ◌+◌, ◌-◌, List, [], ◌∷◌, ◌++◌, cond, get_or, drop, eqb, ltb}
+use Rattle.std.specs.Prelude.{ℕ, zero, suc, ◌+◌, List, [], ◌∷◌, ◌++◌, get_or, drop, Option, Some, None}
 use Rattle.debug_info.specs.declared.name.Name.TheVariants.{Text}
+use Rattle.debug_info.specs.declared.name.Kind.TheVariants.{Local}
 use Rattle.debug_info.specs.declared.name.Known.{Known}
+use Rattle.debug_info.specs.declared.list.Seen.{Seen}
+use Rattle.debug_info.specs.Seen.{look, after}
 use Rattle.local_records.specs.declared.record.LocalRecord.{LocalRecord}
-use Rattle.local_records.specs.declared.record.Seen.{Seen}
-use Rattle.local_records.specs.declared.record.Seen.TheVariants.{Nothing, Found, Left}
 
 -- the record of the local whose four words stand at a place
 abbrev pub record_at : List ℕ → ℕ → LocalRecord
@@ -21,21 +22,16 @@ records_filled records words at n = records_at words at n ++ drop n records
 
 -- ---- the search
 
-abbrev pub unnamed : Known
-unnamed = record { kind = 0; name = Text 0 0 }
+abbrev pub unnamed : Option Known
+unnamed = None
 
-abbrev pub text_named : ℕ → ℕ → Known
-text_named place n = record { kind = 1; name = Text place n }
+abbrev pub text_named : ℕ → ℕ → Option Known
+text_named place n = Some (record { kind = Local; name = Text place n })
 
 -- what a record tells of the search for number n, from it on, of those active at pc
 abbrev pub look_at : LocalRecord → ℕ → ℕ → Seen
-look_at r n pc = cond (ltb pc r.start) Nothing (cond (ltb pc r.end) (cond (eqb n 1) (Found r.place r.len) (Left (n - 1))) (Left n))
+look_at r n pc = look r.start r.end n pc
 
-abbrev pub after : Seen → (ℕ → Known) → Known
-after Nothing more = unnamed
-after (Found place n) more = text_named place n
-after (Left n) more = more n
-
-unfoldable pub active_in : List LocalRecord → ℕ → ℕ → Known
+unfoldable pub active_in : List LocalRecord → ℕ → ℕ → Option Known
 active_in [] n pc = unnamed
-active_in (r ∷ l) n pc = after (look_at r n pc) (λ m. active_in l m pc)
+active_in (r ∷ l) n pc = after (look_at r n pc) unnamed (text_named r.place r.len) (λ m. active_in l m pc)

@@ -3,109 +3,87 @@
 
 pub mod record;
 
-ghost use Rattle.std.specs.Prelude.{◌≡◌, ◌+◌, ◌*◌, ◌<◌, ◌≤◌, length, take};
-ghost use Rattle.lent.specs.Memory.{far};
-ghost use Rattle.local_records.specs.Records.{records_filled, active_in};
-ghost use Rattle.local_records.specs.Lookup.{no_locals, locals_for, lookup_left, local_named_in};
+ghost use Rattle.std.specs.Prelude.{[], ◌≡◌, ◌+◌, ◌*◌, ◌<◌, ◌≤◌, length};
+ghost use Rattle.lent.specs.Memory.{far, Puts};
+ghost use Rattle.debug_info.specs.Known.{object_of};
+ghost use Rattle.local_records.specs.Records.{records_at, active_in};
+ghost use Rattle.local_records.specs.Lookup.{numbered, locals_for, lookup_left, local_named_in};
 
 use debug_info::answer::Named;
-use debug_info::list::active_local;
+use debug_info::list::{Seen, active_local, look};
 use debug_info::name::{Known, name_len};
 use debug_info::{PCS, give};
+use format::Refusal;
 use proto::lists::lists_at;
-use proto::place::place_refusal;
+use proto::store::Store;
 use proto::walk::{skip, word_at};
-use record::{LocalRecord, Seen, look, nothing, record_at, text_name};
+use record::{LocalRecord, record_at};
 
-// The refusal of a lookup, 0 for none; then where the function's locals stand in the words, behind their count, and how many there are.
+// Where a function's locals stand in the words, behind their count, and how many there are.
 #[derive(Clone, Copy)]
 struct Locals {
-    refusal: u32,
     at: usize,
     count: usize,
 }
 
-// None, and why.
-fn no_locals(refusal: u32) -> Locals
-    ensures { result ≡ no_locals refusal }
+// How many bytes the name of what is known has, none where nothing is.
+fn known_len(text: &[u8], v: Option<Known>) -> usize
+    ensures { Puts (object_of text.now v).name 0 [] result [] }
 {
-    Locals {
-        refusal,
-        at: 0,
-        count: 0,
-    }
+    v.map_or(0, |known| name_len(text, known.name))
 }
 
 // Those of the function at a place, for a lookup with so many records and so much space: refused by 10, 12, 8, 11.
 fn locals_for(
-    words: &[u32],
-    text: &[u8],
+    store: Store,
     place: usize,
     local_number: usize,
     pc: u32,
     records: usize,
     space: usize,
-) -> Locals
+) -> Result<Locals, Refusal>
     requires { space < far }
-    ensures { result ≡ locals_for words.now text.now place local_number pc records space }
+    ensures { numbered result ≡ locals_for store.entry.words.now store.entry.text.now place local_number pc records space }
 {
-    let refusal = place_refusal(words, text, place);
-    if 0 < refusal {
-        return no_locals(refusal);
-    }
-    let locals = lists_at(words, place).locals;
-    let count = word_at(words, locals) as usize;
+    store.has_function(place)?;
+    let locals = lists_at(store.words, place).locals;
+    let count = word_at(store.words, locals) as usize;
     if records < count {
-        return no_locals(8);
+        return Err(Refusal::TooFewWords);
     }
-    let v = active_local(words, locals, local_number, pc);
-    let name = v.name;
-    if space < name_len(text, name) {
-        return no_locals(11);
+    let v = active_local(store.words, locals, local_number, pc);
+    if space < known_len(store.text, v) {
+        return Err(Refusal::TooLittleOutput);
     }
-    Locals {
-        refusal: 0,
-        at: skip(words, locals, 1),
+    Ok(Locals {
+        at: skip(store.words, locals, 1),
         count,
-    }
+    })
 }
 
-// Fills the first n records with the locals from a place on.
-fn fill(records: &mut [LocalRecord], words: &[u32], locals: usize, n: usize)
-    requires { (n ≤ length records.old) × (locals + 4 * n ≤ length words.now) }
-    ensures { records.new ≡ records_filled records.old words.now locals n }
+// Fills records with the locals from a place on.
+fn fill(records: &mut [LocalRecord], words: &[u32], locals: usize)
+    requires { locals + 4 * length records.old ≤ length words.now }
+    ensures { records.new ≡ records_at words.now locals (length records.old) }
 {
-    let mut at = locals;
-    let mut i = 0;
-    while i < n {
-        records[i] = record_at(words, at);
-        at += 4;
-        i += 1;
+    for (i, r) in records.iter_mut().enumerate() {
+        *r = record_at(words, locals + 4 * i);
     }
 }
 
-// The local that is number local_number of those active at pc, among the first n records.
-fn find(records: &[LocalRecord], n: usize, local_number: usize, pc: u32) -> Known
-    requires { n ≤ length records.now }
-    ensures { result ≡ active_in (take n records.now) local_number pc }
+// The local that is number local_number of those active at pc, among the records.
+fn find(records: &[LocalRecord], local_number: usize, pc: u32) -> Option<Known>
+    ensures { result ≡ active_in records.now local_number pc }
 {
     let mut remaining = local_number;
-    let mut i = 0;
-    while i < n {
-        match look(records[i], remaining, pc) {
-            Seen::Nothing => {
-                return nothing();
-            }
-            Seen::Found(place, len) => {
-                return text_name(place, len);
-            }
-            Seen::Left(left) => {
-                remaining = left;
-            }
+    for r in records {
+        match look(r.start, r.end, remaining, pc) {
+            Seen::Nothing => return None,
+            Seen::Found => return Some(r.known()),
+            Seen::Left(left) => remaining = left,
         }
-        i += 1;
     }
-    nothing()
+    None
 }
 
 // The name of local number local_number, from 1, of those active at pc, looked up in records, one for each local of the function.
@@ -123,22 +101,13 @@ pub fn get_local_name_in(
     ensures { lookup_left result records.new out.new ≡ local_named_in records.old words.now text.now place local_number pc out.old }
 {
     let last = (pc % PCS) as u32;
-    let v = locals_for(
-        words,
-        text,
-        place,
-        local_number,
-        last,
-        records.len(),
-        out.len(),
-    );
-    if 0 < v.refusal {
-        return Named {
-            refusal: v.refusal,
-            kind: 0,
-            len: 0,
-        };
+    let store = Store { words, text };
+    match locals_for(store, place, local_number, last, records.len(), out.len()) {
+        Ok(locals) => {
+            let filled = &mut records[..locals.count];
+            fill(filled, words, locals.at);
+            give(text, find(filled, local_number, last), out)
+        }
+        Err(e) => Named::refused(e),
     }
-    fill(records, words, v.at, v.count);
-    give(text, find(records, v.count, local_number, last), out)
 }

@@ -1,5 +1,10 @@
 -- Steps of the check, one after the other: words, strings and lists.
-use Rattle.lent.proofs.Prelude.{ℕ, suc, zero-le, ◌+◌, ◌-◌, ◌*◌, ◌≤◌, ◌<◌, ◌^◌, ◌≡◌, refl, sym, ap, ◌∙◌, List, [], ◌∷◌, Bool, true, false, not, arith, dec_lt, add-zero, add_assoc, length, drop, get_or, length-append, length-drop, length-take, get_or-eq_default, get_or-take, get_or-drop, length-take-le, T, ltb, leb, ltb→lt, leb→le, not-true, not-false}
+use Rattle.lent.proofs.Prelude.{append-nil, ℕ, suc, zero-le, ◌+◌, ◌-◌, ◌*◌, ◌≤◌, ◌<◌, ◌^◌, ◌≡◌, refl, sym, ap, ◌∙◌, List, [], ◌∷◌, Bool, true, false, not, arith, dec_lt, add-zero, add_assoc, length, drop, get_or, length-append, length-drop, length-take, get_or-eq_default, get_or-take, get_or-drop, length-take-le, T, ltb, leb, ltb→lt, leb→le, not-false}
+use Rattle.std.specs.Prelude.{Option as Answer, Some, None}
+use Rattle.std.specs.List.{slice_range}
+use Rattle.std.proofs.lemmas.List.Folds.{drop_split}
+use Rattle.std.proofs.Math.Seq.{drop-length}
+use Rattle.std.proofs.lemmas.Option.{none-some, same_Some}
 use mir.Val.{Fits}
 use mir.Syntax.{w64}
 use Rattle.lent.specs.Memory.{Every, Word, Bytes}
@@ -11,10 +16,10 @@ use Rattle.format.specs.Store.{Piece, word, ◌⊕◌, string, pieces, list, int
 use Rattle.format.specs.Stored.{part, Here}
 use Rattle.format.specs.Valid.{Name, ValidList}
 use Rattle.format.proofs.Stored.{here_left, here_part}
-use Rattle.format.proofs.Loops.{Loop, loop_start, loop_turn, loop_stop, loop_end}
-use Rattle.proto.specs.declared.formed.Checked.{Checked}
+use Rattle.format.proofs.Loops.{Loop, loop_turn, loop_stop, loop_end}
+use Rattle.proto.specs.declared.formed.Reached.{Reached}
 use Rattle.proto.specs.Walk.{Stands}
-use Rattle.proto.specs.Formed.{Passed, Check, Room, Within, three, Three}
+use Rattle.proto.specs.Formed.{Found, behind, Both, beside, Check, Room, Within, three, Three}
 use Rattle.proto.proofs.Sublists.{here_length, here_item, here_get, here_none, here_one, here_two, here_three, here_join, here_take}
 use Rattle.proto.proofs.Pieces.{Same, same_refl, stands_same, same_sym, stands_left, stands_right, stands_join}
 
@@ -47,176 +52,172 @@ pub record As {A : Type 0} (ok : A → Type 0) (piece : A → Piece) (p : Piece)
   pub valid : ok value
   pub same : Same (piece value) p
 
-passed_same : {p q : Piece} {s r : Checked} → Same p q → Passed p s r → Passed q s r
-passed_same {s = s} e h = record { ok = h.ok; at = rw (← e.words s.to) h.at; to = rw (← e.text) h.to }
+-- ---- the words from a place on
+
+-- as a slice's get gives them
+abbrev pub Rest : List ℕ → ℕ → List ℕ → Type 0
+Rest words at l = (at ≤ length words) × (length words ≤ length words) × (l ≡ slice_range words at (length words)) × (length l + at ≡ length words)
+
+module _ (words l : List ℕ) (at : ℕ) (h : Rest words at l) where
+  rest_item : (i : ℕ) → get_or words (at + i) 0 ≡ get_or l i 0
+  rest_item i =
+      let d : drop at words ≡ l = drop_split words at (length words) h.0 ∙ rw (drop-length words) (append-nil _) ∙ sym h.2 in
+      rw (← d) (sym (get_or-drop at words i 0))
+
+  rest_first : get_or words at 0 ≡ get_or l 0 0
+  rest_first = rw (add-zero at) at (rest_item 0)
+
+-- no answer is a place
+pub no_answer : {A : Type 0} {q : Reached} → None ≡ Some q → A
+no_answer {q = q} e = absurd (none-some q e)
+
+behind_same : {p q : Piece} → Same p q → (s : Reached) → behind p s ≡ behind q s
+behind_same e s = rw (e.words s.to, e.text)
 
 module _ {words text : List ℕ} where
   module _ {A : Type 0} {ok : A → Type 0} {piece : A → Piece} where
-    -- what is not well formed stays so
-    pub check_stopped : {s : Checked} → s.ok ≡ false → Check words text ok piece s s
-    check_stopped e = record { sound = λ h. absurd (never h e); complete = λ h a k t. absurd (never h e) }
-
-    pub check_wrong : {s r : Checked} → r.ok ≡ false → (s.ok ≡ true → (a : A) → ok a → Stands words text s.at s.to (piece a) → ⊥) → Check words text ok piece s r
-    check_wrong e f = record { sound = λ h. absurd (never h e); complete = λ h a k t. absurd (f h a k t) }
-
-    pub check_room : {b : Bool} {n : ℕ} {s r : Checked} → r.ok ≡ false → Room b (length words) s.at n → not b ≡ true → ((a : A) → length ((piece a).words s.to) ≡ n) → Check words text ok piece s r
-    check_room {b} e h z k = check_wrong e (λ o a v t. h.not (not-true b z) (omega (arith, here_length _ t.in_words, k a)))
+    pub check_wrong : {s : Reached} → ((a : A) → ok a → Stands words text s.at s.to (piece a) → ⊥) → Check words text ok piece s None
+    check_wrong f = record { sound = λ q e. no_answer e; complete = λ a k t. absurd (f a k t) }
 
     -- a value stands there, and any that does is passed
-    check_good : {s r : Checked} (a : A) → s.ok ≡ true → ok a → Stands words text s.at s.to (piece a) → ((b : A) → Stands words text s.at s.to (piece b) → Passed (piece b) s r) → Check words text ok piece s r
-    check_good a e v t pass = record { sound = λ h. (e, record { value = a; valid = v; stands = t }); complete = λ h b w u. pass b u }
+    pub check_good : {s r : Reached} (a : A) → ok a → Stands words text s.at s.to (piece a) → ((b : A) → ok b → Stands words text s.at s.to (piece b) → r ≡ behind (piece b) s) → Check words text ok piece s (Some r)
+    check_good a v t pass = record { sound = λ q e. record { value = a; valid = v; stands = t }; complete = λ b w u. rw (pass b w u) }
 
-    -- past what was found
-    pub check_passed : {s r : Checked} (c : Check words text ok piece s r) → (e : r.ok ≡ true) → Passed (piece (c.sound e).1.value) s r
-    check_passed c e = let x = c.sound e in c.complete x.0 x.1.value x.1.valid x.1.stands
+    -- what was found, and past it
+    pub found : {s r : Reached} → Check words text ok piece s (Some r) → Found words text ok piece s
+    found {r = r} c = c.sound r refl
+
+    pub passed : {s r : Reached} → Check words text ok piece s (Some r) → (a : A) → ok a → Stands words text s.at s.to (piece a) → r ≡ behind (piece a) s
+    passed c a k t = same_Some _ _ (c.complete a k t)
+
+    pub check_passed : {s r : Reached} (c : Check words text ok piece s (Some r)) → r ≡ behind (piece (found c).value) s
+    check_passed c = let x = found c in passed c x.value x.valid x.stands
 
   module _ {A B : Type 0} {ok : A → Type 0} {ok' : B → Type 0} {p : A → Piece} {q : B → Piece} where
     -- the same check of other values
-    pub check_as : {s r : Checked} → ((a : A) → ok a → As ok' q (p a)) → ((b : B) → ok' b → Stands words text s.at s.to (q b) → As ok p (q b)) → Check words text ok p s r → Check words text ok' q s r
-    check_as f g c =
+    pub check_as : {s : Reached} {r : Answer Reached} → ((a : A) → ok a → As ok' q (p a)) → ((b : B) → ok' b → Stands words text s.at s.to (q b) → As ok p (q b)) → Check words text ok p s r → Check words text ok' q s r
+    check_as {s} f g c =
         record {
-          sound = λ h.
-              let x = c.sound h in
-              let y = f x.1.value x.1.valid in
-              (x.0, record { value = y.value; valid = y.valid; stands = stands_same (same_sym y.same) x.1.stands });
-          complete = λ h b k t.
-              let y = g b k t in
-              passed_same y.same (c.complete h y.value y.valid (stands_same (same_sym y.same) t));
+          sound = λ z e. let x = c.sound z e in let y = f x.value x.valid in record { value = y.value; valid = y.valid; stands = stands_same (same_sym y.same) x.stands };
+          complete = λ b k t. let y = g b k t in rw (← behind_same y.same s) (c.complete y.value y.valid (stands_same (same_sym y.same) t));
         }
 
     -- the same, where the values are told by what was checked
-    pub check_of : {s r : Checked} → Check words text ok p s r → ((a : A) → ok a → As ok' q (p a)) → ((b : B) → ok' b → Stands words text s.at s.to (q b) → As ok p (q b)) → Check words text ok' q s r
+    pub check_of : {s : Reached} {r : Answer Reached} → Check words text ok p s r → ((a : A) → ok a → As ok' q (p a)) → ((b : B) → ok' b → Stands words text s.at s.to (q b) → As ok p (q b)) → Check words text ok' q s r
     check_of c f g = check_as f g c
 
-    pub check_then : {s m r : Checked} → Check words text ok p s m → Check words text ok' q m r → Check {A = A × B} words text (λ v. ok v.0 × ok' v.1) (λ v. p v.0 ⊕ q v.1) s r
+    -- one behind the other
+    pub check_then : {s m : Reached} {r : Answer Reached} → Check words text ok p s (Some m) → Check words text ok' q m r → Check words text (Both ok ok') (beside p q) s r
+    unfolding Both beside
     check_then {s} {m} {r} c d =
         record {
-          sound = λ h.
-              let y = d.sound h in
-              let x = c.sound y.0 in
-              let e = check_passed c y.0 in
-              let t = stands_join (p x.1.value) (q y.1.value) x.1.stands (rw (e.at, e.to) at y.1.stands) in
-              (x.0, record { value = (x.1.value, y.1.value); valid = (x.1.valid, y.1.valid); stands = t });
-          complete = λ h v k t.
-              let e = c.complete h v.0 k.0 (stands_left (p v.0) (q v.1) t) in
-              let u : Stands words text m.at m.to (q v.1) = rw (e.at, e.to) (stands_right (p v.0) (q v.1) t) in
-              let g = d.complete e.ok v.1 k.1 u in
-              record {
-                ok = g.ok;
-                at = g.at ∙ rw (e.at, e.to, length-append ((p v.0).words s.to) ((q v.1).words (s.to + length (p v.0).text))) (add_assoc _ _ _);
-                to = g.to ∙ rw (e.to, length-append (p v.0).text (q v.1).text) (add_assoc _ _ _);
-              };
+          sound = λ z h.
+              let x = found c in
+              let y = d.sound z h in
+              record { value = (x.value, y.value); valid = (x.valid, y.valid); stands = stands_join (p x.value) (q y.value) x.stands (rw (check_passed c) at y.stands) };
+          complete = λ v k t.
+              let e = passed c v.0 k.0 (stands_left (p v.0) (q v.1) t) in
+              let u : Stands words text m.at m.to (q v.1) = rw e (stands_right (p v.0) (q v.1) t) in
+              let g : behind (q v.1) m ≡ behind (p v.0 ⊕ q v.1) s = rw (e, length-append ((p v.0).words s.to) ((q v.1).words (s.to + length (p v.0).text)), length-append (p v.0).text (q v.1).text, add_assoc s.at _ _, add_assoc s.to _ _) in
+              d.complete v.1 k.1 u ∙ rw g;
         }
+
+  -- what is not well formed is not so beside any other
+  pub check_stop : {A B : Type 0} {ok : A → Type 0} {p : A → Piece} (ok' : B → Type 0) (q : B → Piece) {s : Reached} → Check words text ok p s None → Check words text (Both ok ok') (beside p q) s None
+  unfolding Both beside
+  check_stop ok' q c = check_wrong (λ v k t. no_answer (c.complete v.0 k.0 (stands_left _ (q v.1) t)))
 
   -- ---- a word
 
-  module _ {s : Checked} {low high : ℕ} where
-    pub word_good : s.ok ≡ true → s.at < length words → low ≤ get_or words s.at 0 → get_or words s.at 0 ≤ high
-        → Check words text (Within low high) word s (record { ok = true; at = s.at + 1; to = s.to })
-    word_good e h l k = check_good _ e (record { above = l; below = k }) (record { in_words = here_one h; in_text = here_none }) (λ v t. record { ok = refl; at = refl; to = sym (add-zero _) })
+  module _ {s : Reached} {low high : ℕ} where
+    pub word_good : s.at < length words → low ≤ get_or words s.at 0 → get_or words s.at 0 ≤ high → Check words text (Within low high) word s (Some (record { at = s.at + 1; to = s.to }))
+    word_good h l k = check_good _ (record { above = l; below = k }) (record { in_words = here_one h; in_text = here_none }) (λ v k t. rw add-zero)
 
-    pub word_bad : {r : Checked} → r.ok ≡ false → (s.at < length words → low ≤ get_or words s.at 0 → get_or words s.at 0 ≤ high → ⊥) → Check words text (Within low high) word s r
-    word_bad e f =
-        check_wrong e
-        (λ o v k t.
+    pub word_bad : (s.at < length words → low ≤ get_or words s.at 0 → get_or words s.at 0 ≤ high → ⊥) → Check words text (Within low high) word s None
+    word_bad f =
+        check_wrong
+        (λ v k t.
         let g : get_or words s.at 0 ≡ v = here_get v [] t.in_words in
         f (omega (arith, here_length (v ∷ []) t.in_words)) (omega (arith, k.above)) (omega (arith, k.below)))
 
-  pub any_word : {s r : Checked} → Check words text (Within 0 4294967295) word s r → Check words text Word word s r
-  any_word c =
-      check_as (λ v k. record { value = v; valid = omega (arith, k.below); same = same_refl }) (λ v k t. record { value = v; valid = record { above = zero-le; below = omega arith }; same = same_refl }) c
+  module _ {s : Reached} {l : List ℕ} (h : Rest words s.at l) where
+    -- ---- two words, whatever they are
 
-  -- ---- two words, whatever they are
+    pub pair_good : ((i : ℕ) → get_or words i 0 < 2 ^ 32) → 2 ≤ length l → Check words text (Both Word Word) (beside word word) s (Some (record { at = s.at + 2; to = s.to }))
+    unfolding Both beside
+    pair_good w k =
+        check_good (get_or words s.at 0, get_or words (s.at + 1) 0) (w s.at, w (s.at + 1)) (record { in_words = here_two (omega arith); in_text = here_none }) (λ v k t. rw add-zero)
 
-  module _ {s : Checked} where
-    pub pair_good : ((i : ℕ) → get_or words i 0 < 2 ^ 32) → s.ok ≡ true → s.at + 2 ≤ length words
-        → Check {A = ℕ × ℕ} words text (λ v. Word v.0 × Word v.1) (λ v. word v.0 ⊕ word v.1) s (record { ok = true; at = s.at + 2; to = s.to })
-    pair_good w e h =
-        check_good (get_or words s.at 0, get_or words (s.at + 1) 0) e (w s.at, w (s.at + 1)) (record { in_words = here_two h; in_text = here_none })
-        (λ v t. record { ok = refl; at = refl; to = sym (add-zero _) })
+    -- ---- three words
 
-  -- ---- three words
-
-  module _ {s : Checked} {kind x y : ℕ} where
-    pub three_good : s.ok ≡ true → s.at + 3 ≤ length words → get_or words s.at 0 ≡ kind → get_or words (s.at + 1) 0 ≤ x → get_or words (s.at + 2) 0 ≤ y
-        → Check words text (Three kind x y) three s (record { ok = true; at = s.at + 3; to = s.to })
-    three_good e h i j k =
-        check_good (record { first = get_or words s.at 0; second = get_or words (s.at + 1) 0; third = get_or words (s.at + 2) 0 }) e (record { is = i; second = j; third = k })
-        (record { in_words = here_three h; in_text = here_none }) (λ v t. record { ok = refl; at = refl; to = sym (add-zero _) })
-
-    pub three_bad : {r : Checked} → r.ok ≡ false → (get_or words s.at 0 ≡ kind → get_or words (s.at + 1) 0 ≤ x → get_or words (s.at + 2) 0 ≤ y → ⊥) → Check words text (Three kind x y) three s r
-    three_bad e f =
-        check_wrong e
-        (λ o v k t.
-        let l = v.first ∷ v.second ∷ v.third ∷ [] in
-        let i : get_or words (s.at + 1) 0 ≡ v.second = here_item l 1 (omega arith) t.in_words in
-        let j : get_or words (s.at + 2) 0 ≡ v.third = here_item l 2 (omega arith) t.in_words in
-        f (here_get v.first _ t.in_words ∙ k.is) (omega (arith, k.second)) (omega (arith, k.third)))
+    pub three_good : {kind x y : ℕ} → 3 ≤ length l → get_or l 0 0 ≡ kind → get_or l 1 0 ≤ x → get_or l 2 0 ≤ y → Check words text (Three kind x y) three s (Some (record { at = s.at + 3; to = s.to }))
+    three_good k u v w =
+        check_good (record { first = get_or words s.at 0; second = get_or words (s.at + 1) 0; third = get_or words (s.at + 2) 0 })
+        (record { is = rest_first words l s.at h ∙ u; second = rw (rest_item words l s.at h 1) v; third = rw (rest_item words l s.at h 2) w }) (record { in_words = here_three (omega arith); in_text = here_none }) (λ v k t. rw add-zero)
 
 -- ---- lists
 
 -- n items
-pub record CheckAll {A : Type 0} (words text : List ℕ) (P : A → Type 0) (piece : A → Piece) (n : ℕ) (s r : Checked) : Type 0 where
+pub record CheckAll {A : Type 0} (words text : List ℕ) (P : A → Type 0) (piece : A → Piece) (n : ℕ) (s : Reached) (r : Answer Reached) : Type 0 where
   pub all : Check words text (λ l. (length l ≡ n) × Every P l) (pieces piece) s r
 
 module _ {A : Type 0} {words text : List ℕ} {P : A → Type 0} {piece : A → Piece} where
-  all_none : {s : Checked} → CheckAll words text P piece 0 s s
+  all_none : {s : Reached} → CheckAll words text P piece 0 s (Some s)
   unfolding pieces Every
-  all_none =
+  all_none {s} =
       record {
         all = record {
-          sound = λ h. (h, record { value = []; valid = (refl, tt); stands = record { in_words = here_none; in_text = here_none } });
-          complete = λ h. elim [ [] ↦ λ k t. record { ok = h; at = sym (add-zero _); to = sym (add-zero _) } | a ∷ l ↦ λ k t. absurd (omega (arith, k.0)) ];
+          sound = λ q e. record { value = []; valid = (refl, tt); stands = record { in_words = here_none; in_text = here_none } };
+          complete = elim [ [] ↦ λ k t. rw (add-zero s.at, add-zero s.to) | a ∷ l ↦ λ k t. absurd (omega (arith, k.0)) ];
         };
       }
 
-  all_more : {s m : Checked} → Check words text P piece s m → (n : ℕ) (r : Checked) → CheckAll words text P piece n m r → CheckAll words text P piece (suc n) s r
-  unfolding pieces Every
-  all_more c n r d =
+  -- an item, and the others
+  more_of : {s : Reached} {r : Answer Reached} {n : ℕ} → Check words text (Both P (λ l. (length l ≡ n) × Every P l)) (beside piece (pieces piece)) s r → CheckAll words text P piece (suc n) s r
+  unfolding pieces Every Both beside
+  more_of c =
       record {
         all = check_as (λ v k. record { value = v.0 ∷ v.1; valid = (ap suc k.1.0, (k.0, k.1.1)); same = same_refl })
             (elim [ [] ↦ λ k t. absurd (omega (arith, k.0)) | a ∷ l ↦ λ k t. record { value = (a, l); valid = (k.1.0, (omega (arith, k.0), k.1.1)); same = same_refl } ])
-            (check_then c d.all);
+            c;
       }
 
+  all_more : {s m : Reached} → Check words text P piece s (Some m) → (n : ℕ) (r : Answer Reached) → CheckAll words text P piece n m r → CheckAll words text P piece (suc n) s r
+  all_more c n r d = more_of (check_then c d.all)
+
+  all_stop : {s : Reached} → Check words text P piece s None → (n : ℕ) → CheckAll words text P piece (suc n) s None
+  all_stop c n = more_of (check_stop _ (pieces piece) c)
+
   -- a count, and as many items
-  counted : {n : ℕ} {s m r : Checked} → n ≡ get_or words s.at 0 → Check words text (Within 0 limit) word s m → CheckAll words text P piece n m r → Check words text (ValidList P) (list piece) s r
+  counted : {n : ℕ} {s m : Reached} {r : Answer Reached} → n ≡ get_or words s.at 0 → Check words text (Within 0 limit) word s (Some m) → CheckAll words text P piece n m r → Check words text (ValidList P) (list piece) s r
+  unfolding Both beside
   counted {n} {s} {m} {r} e c d =
       let w = check_then c d.all in
       record {
-        sound = λ h.
-            let x = w.sound h in
-            let v = x.1.value in
-            let k = x.1.valid in
-            let g : v.0 ≡ length v.1 = sym (here_get v.0 _ x.1.stands.in_words) ∙ sym e ∙ sym k.1.0 in
-            let u : Stands words text s.at s.to (list piece v.1) = rw g at x.1.stands in
-            (x.0, record { value = v.1; valid = record { items = k.1.1; short = rw g at k.0.below }; stands = u });
-        complete = λ h l k t.
+        sound = λ q h.
+            let x = w.sound q h in
+            let v = x.value in
+            let k = x.valid in
+            let g : v.0 ≡ length v.1 = sym (here_get v.0 _ x.stands.in_words) ∙ sym e ∙ sym k.1.0 in
+            let u : Stands words text s.at s.to (list piece v.1) = rw g at x.stands in
+            record { value = v.1; valid = record { items = k.1.1; short = rw g at k.0.below }; stands = u };
+        complete = λ l k t.
             let g : length l ≡ n = sym (here_get (length l) _ t.in_words) ∙ sym e in
-            w.complete h (length l, l) (record { above = zero-le; below = k.short }, (g, k.items)) t;
+            w.complete (length l, l) (record { above = zero-le; below = k.short }, (g, k.items)) t;
       }
 
-  -- the loop over the items: one more, none left, and one, or the count, that is not well formed
-  pub items_turn : {n i : ℕ} {s m r : Checked} → i < n → Loop (CheckAll words text P piece) n s i m → Check words text P piece m r → Loop (CheckAll words text P piece) n s (i + 1) r
+  pub items_turn : {n i : ℕ} {s m r : Reached} → i < n → Loop (CheckAll words text P piece) n s i m → Check words text P piece m (Some r) → Loop (CheckAll words text P piece) n s (i + 1) r
   items_turn h l c = loop_turn h l (all_more c)
 
-  module _ {n i : ℕ} {s m r : Checked} (e : n ≡ get_or words s.at 0) (c : (t : List ℕ) → Check words t (Within 0 limit) word s m) (l : Loop (CheckAll words text P piece) n m i r) where
-    pub items_end : n ≤ i → Check words text (ValidList P) (list piece) s r
-    items_end h = counted e (c text) (loop_end h l all_none)
+  module _ {n i : ℕ} {s m r : Reached} (e : n ≡ get_or words s.at 0) (c : Check words text (Within 0 limit) word s (Some m)) (l : Loop (CheckAll words text P piece) n m i r) where
+    pub items_end : n ≤ i → Check words text (ValidList P) (list piece) s (Some r)
+    items_end h = counted e c (loop_end h l all_none)
 
-    pub items_stop : not r.ok ≡ true → Check words text (ValidList P) (list piece) s r
-    items_stop o = elim (dec_lt i n) [
-      | yes h ↦ counted e (c text) (loop_stop h l (λ k. record { all = check_stopped (not-true _ o) }))
-      | no h ↦ items_end (omega arith)
-    ]
+    pub item_wrong : i < n → Check words text P piece r None → Check words text (ValidList P) (list piece) s None
+    item_wrong h d = counted e c (loop_stop h l (all_stop d))
 
-  module _ {n : ℕ} {s m : Checked} (e : n ≡ get_or words s.at 0) (c : (t : List ℕ) → Check words t (Within 0 limit) word s m) where
-    pub item_wrong : {i : ℕ} {q r : Checked} → i < n → Loop (CheckAll words text P piece) n m i q → Check words text P piece q r → not r.ok ≡ true → Check words text (ValidList P) (list piece) s r
-    item_wrong h l d o = items_stop e c (items_turn h l d) o
-
-pub count_wrong : {A : Type 0} {words text : List ℕ} {P : A → Type 0} {n : ℕ} {s m : Checked} (piece : A → Piece) → n ≡ get_or words s.at 0
-    → ((t : List ℕ) → Check words t (Within 0 limit) word s m) → not m.ok ≡ true → Check words text (ValidList P) (list piece) s m
-count_wrong piece e c o = items_stop {piece = piece} e c loop_start o
+pub count_wrong : {A : Type 0} {words text : List ℕ} {P : A → Type 0} (piece : A → Piece) {s : Reached} → Check words text (Within 0 limit) word s None → Check words text (ValidList P) (list piece) s None
+count_wrong piece c = check_wrong (λ l k t. no_answer (c.complete (length l) (record { above = zero-le; below = k.short }) (stands_left (word (length l)) (pieces piece l) t)))
 
 -- ---- words and bytes as they stand
 
@@ -233,78 +234,82 @@ part_below b xs place n f = every_below b (part xs place n) (λ i. elim (dec_lt 
 ])
 
 -- words after their count
-module _ {words : List ℕ} (text : List ℕ) {s m : Checked} {n : ℕ} (e : n ≡ get_or words s.at 0) (c : (t : List ℕ) → Check words t (Within 0 limit) word s m) where
-  counted_at : m.ok ≡ true → (m.at ≡ s.at + 1) × (m.to ≡ s.to) × (s.at < length words) × (n ≤ limit)
-  counted_at o =
-      let p = check_passed (c text) o in
-      let x = ((c text).sound o).1 in
+module _ {words text : List ℕ} {s m : Reached} {n : ℕ} (e : n ≡ get_or words s.at 0) (c : Check words text (Within 0 limit) word s (Some m)) where
+  counted_at : (m.at ≡ s.at + 1) × (m.to ≡ s.to) × (s.at < length words) × (n ≤ limit)
+  counted_at =
+      let p = check_passed c in
+      let x = found c in
       let g = here_get x.value [] x.stands.in_words in
-      (p.at, omega (arith, p.to), omega (arith, here_length (x.value ∷ []) x.stands.in_words), omega (arith, x.valid.below))
+      (rw p refl, rw p (add-zero _), omega (arith, here_length (x.value ∷ []) x.stands.in_words), omega (arith, x.valid.below))
 
-  pub ints_within : m.ok ≡ true → m.at ≤ length words
-  ints_within o = omega (arith, counted_at o)
+  pub ints_within : m.at ≤ length words
+  ints_within = omega (arith, counted_at)
 
-  pub ints_good : ((i : ℕ) → get_or words i 0 < 2 ^ 32) → m.ok ≡ true → n ≤ length words - m.at → Check words text (ValidList Word) ints s (record { ok = true; at = m.at + n; to = m.to })
-  ints_good w o h =
-      let k = counted_at o in
+  pub ints_good : ((i : ℕ) → get_or words i 0 < 2 ^ 32) → n ≤ length words - m.at → Check words text (ValidList Word) ints s (Some (record { at = m.at + n; to = m.to }))
+  ints_good w h =
+      let k = counted_at in
       let l = part words (s.at + 1) n in
       let g : length l ≡ n = length-take-le n (drop (s.at + 1) words) (rw length-drop (omega arith)) in
       let u : Here words s.at (length l ∷ l) = rw g (rw (← e) at (here_join (get_or words s.at 0 ∷ []) l (here_one k.2) (here_take n))) in
-      check_good l ((c text).sound o).0 (record { items = part_below (2 ^ 32) words (s.at + 1) n w; short = omega arith }) (record { in_words = u; in_text = here_none })
-      (λ x t. let q = here_get (length x) x t.in_words in record { ok = refl; at = omega arith; to = omega arith })
+      check_good l (record { items = part_below (2 ^ 32) words (s.at + 1) n w; short = omega arith }) (record { in_words = u; in_text = here_none })
+      (λ x z t.
+      let q = here_get (length x) x t.in_words in
+      let a : m.at + n ≡ s.at + length (length x ∷ x) = omega arith in
+      let b : m.to ≡ s.to + 0 = omega arith in
+      rw (a, b))
 
-  pub ints_bad : {r : Checked} → r.ok ≡ false → (m.ok ≡ true → n ≤ length words - m.at → ⊥) → Check words text (ValidList Word) ints s r
-  ints_bad o f =
-      check_wrong o
-      (λ h l v t.
-      let p = (c text).complete h (length l) (record { above = zero-le; below = v.short }) (record { in_words = here_left (length l ∷ []) l t.in_words; in_text = here_none }) in
+  pub ints_bad : length words - m.at < n → Check words text (ValidList Word) ints s None
+  ints_bad h =
+      check_wrong
+      (λ l v t.
       let q = here_get (length l) l t.in_words in
-      f p.ok (omega (arith, here_length (length l ∷ l) t.in_words, p.at)))
+      omega (arith, here_length (length l ∷ l) t.in_words, counted_at))
+
+pub ints_short : {words text : List ℕ} {s : Reached} → Check words text (Within 0 limit) word s None → Check words text (ValidList Word) ints s None
+ints_short c = check_wrong (λ l v t. no_answer (c.complete (length l) (record { above = zero-le; below = v.short }) (record { in_words = here_left (length l ∷ []) l t.in_words; in_text = here_none })))
 
 -- ---- strings
 
-module _ {words text : List ℕ} {s : Checked} where
-  pub string_good : ((i : ℕ) → get_or text i 0 < 256) → s.ok ≡ true → s.at + 2 ≤ length words → get_or words s.at 0 ≡ s.to → get_or words (s.at + 1) 0 ≤ length text - s.to
-      → Check words text Bytes string s (record { ok = true; at = s.at + 2; to = s.to + get_or words (s.at + 1) 0 })
-  string_good y o h p q =
-      let n = get_or words (s.at + 1) 0 in
-      let l = part text s.to n in
-      let g : length l ≡ n = length-take-le n (drop s.to text) (rw length-drop q) in
-      check_good l o (part_below 256 text s.to n y) (record { in_words = rw g (rw p at (here_two {xs = words} {at = s.at} h)); in_text = here_take n })
-      (λ x t. let i = here_item (s.to ∷ length x ∷ []) 1 (omega arith) t.in_words in record { ok = refl; at = refl; to = omega (arith, i) })
+module _ {words text : List ℕ} {s : Reached} where
+  module _ {rest : List ℕ} (h : Rest words s.at rest) (two : 2 ≤ length rest) where
+    pub string_good : ((i : ℕ) → get_or text i 0 < 256) → get_or rest 0 0 ≡ s.to → get_or rest 1 0 ≤ length text - s.to → Check words text Bytes string s (Some (record { at = s.at + 2; to = s.to + get_or rest 1 0 }))
+    string_good y p q =
+        let n = get_or rest 1 0 in
+        let l = part text s.to n in
+        let g : length l ≡ n = length-take-le n (drop s.to text) (rw length-drop q) in
+        let w : Here words s.at (s.to ∷ length l ∷ []) = rw (g, ← p) (rw (rest_first words rest s.at h, rest_item words rest s.at h 1) at (here_two {xs = words} {at = s.at} (omega arith))) in
+        check_good l (part_below 256 text s.to n y) (record { in_words = w; in_text = here_take n }) (λ x z t. rw (second x t))
+      where
+        second : (x : List ℕ) → Stands words text s.at s.to (string x) → get_or rest 1 0 ≡ length x
+        second x t = sym (rest_item words rest s.at h 1) ∙ here_item (s.to ∷ length x ∷ []) 1 (omega arith) t.in_words
 
-  pub string_bad : {r : Checked} → r.ok ≡ false → (get_or words s.at 0 ≡ s.to → get_or words (s.at + 1) 0 ≤ length text - s.to → ⊥) → Check words text Bytes string s r
-  string_bad e f =
-      check_wrong e
-      (λ o x v t.
-      let i : get_or words (s.at + 1) 0 ≡ length x = here_item (s.to ∷ length x ∷ []) 1 (omega arith) t.in_words in
-      f (here_get s.to _ t.in_words) (omega (arith, here_length x t.in_text)))
+    pub string_bad : (get_or rest 0 0 ≡ s.to → get_or rest 1 0 ≤ length text - s.to → ⊥) → Check words text Bytes string s None
+    string_bad f =
+        check_wrong
+        (λ x v t.
+        let i : get_or rest 1 0 ≡ length x = sym (rest_item words rest s.at h 1) ∙ here_item (s.to ∷ length x ∷ []) 1 (omega arith) t.in_words in
+        f (sym (rest_first words rest s.at h) ∙ here_get s.to _ t.in_words) (omega (arith, here_length x t.in_text)))
 
-module _ {words text : List ℕ} {s r : Checked} (c : Check words text Bytes string s r) where
-  pub string_within : r.ok ≡ true → s.to ≤ r.to
-  string_within o = omega (arith, (check_passed c o).to)
-
+module _ {words text : List ℕ} {s r : Reached} (c : Check words text Bytes string s (Some r)) where
   -- a string that is a name
-  named : ((l : List ℕ) → Stands words text s.at s.to (string l) → Passed (string l) s r → Name l) → Check words text (λ n. Name n) string s r
+  named : ((l : List ℕ) → Stands words text s.at s.to (string l) → r ≡ behind (string l) s → Name l) → Check words text (λ n. Name n) string s (Some r)
   named f =
-      record {
-        sound = λ h. let x = c.sound h in (x.0, record { value = x.1.value; valid = f x.1.value x.1.stands (check_passed c h); stands = x.1.stands });
-        complete = λ h l v t. c.complete h l (utf8_bytes l v) t;
-      }
+      let x = found c in
+      check_good x.value (f x.value x.stands (check_passed c)) x.stands (λ l v t. passed c l (utf8_bytes l v) t)
 
   module _ {b : List ℕ} {u : Bool} (e : u ≡ is_utf8 b) (f : b ≡ part text s.to (r.to - s.to)) where
-    string_is : (l : List ℕ) → Stands words text s.at s.to (string l) → Passed (string l) s r → b ≡ l
-    string_is l t p = let n : r.to - s.to ≡ length l = omega (arith, p.to) in f ∙ rw n (here_part l t.in_text)
+    string_is : (l : List ℕ) → Stands words text s.at s.to (string l) → r ≡ behind (string l) s → b ≡ l
+    string_is l t p = let n : r.to - s.to ≡ length l = rw p (omega arith) in f ∙ rw n (here_part l t.in_text)
 
-    pub name_good : u ≡ true → Check words text (λ n. Name n) string s r
+    pub name_good : u ≡ true → Check words text (λ n. Name n) string s (Some r)
     name_good k = named (λ l t p. rw (string_is l t p) at (sym e ∙ k))
 
-    pub name_bad : {q : Checked} → q.ok ≡ false → u ≡ false → Check words text (λ n. Name n) string s q
-    name_bad k z = check_wrong k (λ h l v t. never (e ∙ rw (string_is l t (c.complete h l (utf8_bytes l v) t)) v) z)
-
-  pub name_stopped : {q : Checked} → r.ok ≡ false → q.ok ≡ false → Check words text (λ n. Name n) string s q
-  name_stopped o k = check_wrong k (λ h l v t. never (c.complete h l (utf8_bytes l v) t).ok o)
+    pub name_bad : u ≡ false → Check words text (λ n. Name n) string s None
+    name_bad z = check_wrong (λ l v t. never (e ∙ rw (string_is l t (passed c l (utf8_bytes l v) t)) v) z)
 
   -- each name is text where all of the text is ASCII
-  pub ascii_name : is_ascii text ≡ true → Check words text (λ n. Name n) string s r
+  pub ascii_name : is_ascii text ≡ true → Check words text (λ n. Name n) string s (Some r)
   ascii_name h = named (λ l t p. utf8_ascii l (rw (here_part l t.in_text) at (part_below 0x80 text s.to (length l) (ascii_at text h))))
+
+pub name_stopped : {words text : List ℕ} {s : Reached} → Check words text Bytes string s None → Check words text (λ n. Name n) string s None
+name_stopped c = check_wrong (λ l v t. no_answer (c.complete l (utf8_bytes l v) t))

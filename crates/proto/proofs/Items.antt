@@ -1,5 +1,8 @@
 -- What stands at the places that walking finds: the lists of a function, their counts, their items, strings and constants.
-use Rattle.lent.proofs.Prelude.{ℕ, zero, suc, ◌+◌, ◌-◌, ◌*◌, ◌/◌, ◌%◌, ◌≤◌, ◌<◌, min, ◌≡◌, refl, sym, ap, ◌∙◌, List, [], ◌∷◌, ◌++◌, Bool, true, false, cond, not, none, some, arith, add-zero, mul-suc, mul-zero, length, take, drop, get_or, length-take-le, eqb, ne_eqb, not-true}
+use Rattle.lent.proofs.Prelude.{ℕ, zero, suc, ◌+◌, ◌*◌, ◌≤◌, ◌<◌, ◌≡◌, refl, sym, ap, ◌∙◌, List, [], ◌∷◌, ◌++◌, true, false, cond, not, none, some, arith, add-zero, mul-suc, mul-zero, length, take, get_or, length-take-le, eqb, ne_eqb}
+use Rattle.std.specs.Int.{to_be_bytes}
+use Rattle.std.proofs.lemmas.Nat.{be_bytes_4}
+use mir.Syntax.{w32}
 use Rattle.format.specs.Tree.{Constant as Value, Source, Parts, Function, Functions, filled}
 use Rattle.format.specs.Store.{Piece, word, ◌⊕◌, string, pieces, list, ints, source_piece, constant_piece, local_piece, debug_piece, packed, function_piece, children_piece}
 use Rattle.format.specs.Stored.{part, Here}
@@ -7,13 +10,12 @@ use Rattle.format.specs.Constants.{value_of, constant_words}
 use Rattle.format.specs.declared.Constant.{Constant}
 use Rattle.format.specs.declared.Constant.TheVariants.{Nil, Bool as Truth, Num, String}
 use Rattle.format.specs.Valid.{ValidParts}
-use Rattle.format.proofs.Stored.{here_left, here_right, here_part, unpacked}
+use Rattle.format.proofs.Stored.{here_left, here_right, here_part}
 use Rattle.proto.specs.Walk.{Stands, StandsAt, item, Skips, Past, to_code, to_constants, to_functions, to_lines, to_locals, to_upvalues}
 use Rattle.proto.specs.Constants.{ConstantAt}
 use Rattle.proto.specs.Head.{head_of}
-use Rattle.proto.specs.Formed.{Room}
-use Rattle.proto.proofs.Sublists.{here_length, here_get, here_item, here_front, skip_item, part_clamped}
-use Rattle.proto.proofs.Pieces.{Same, same_sym, same_assoc, function_debug, stands_same, stands_left, stands_right, constant_words_law, pieces_words}
+use Rattle.proto.proofs.Sublists.{here_get, here_item, here_front, skip_item}
+use Rattle.proto.proofs.Pieces.{Same, same_sym, same_assoc, function_debug, stands_same, stands_left, stands_right, pieces_words}
 use Rattle.proto.proofs.Walks.{past_stands}
 
 -- ---- the lists of a function
@@ -132,14 +134,13 @@ module _ {words text : List ℕ} where
       let g : r ≡ at + 1 + k * i = w.skips (take (1 + k * i) m) n (here_front (1 + k * i) m s.in_words) ∙ omega arith in
       rw g x.1
 
-  -- the items of a list of words, cut out of the words
-  pub ints_here : {at to x a b e : ℕ} {r : List ℕ} (l : List ℕ) → Stands words text at to (ints l) → x ≡ get_or words at 0 → Skips words 1 at a → b ≡ min a (length words) → e ≡ min x (length words - b)
-      → r ≡ take (b + e - b) (drop b words) → r ≡ l
-  ints_here {at} {x = x} {a = a} {b = b} {e = e} l h g s p q k =
+  -- the items of a list of words, a part of the words
+  pub ints_here : {at to x a : ℕ} {r : List ℕ} (l : List ℕ) → Stands words text at to (ints l) → x ≡ get_or words at 0 → Skips words 1 at a → r ≡ part words a x → r ≡ l
+  ints_here {at} {x = x} {a = a} l h g s q =
       let w = h.in_words in
       let u : x ≡ length l = g ∙ here_get (length l) l w in
       let v : a ≡ at + 1 = s.skips (length l ∷ []) refl (here_left (length l ∷ []) l w) in
-      k ∙ part_clamped words a x b e p q ∙ rw (u, v) (here_part l (here_right (length l ∷ []) l w))
+      q ∙ rw (u, v) (here_part l (here_right (length l ∷ []) l w))
 
   -- ---- strings and sources
 
@@ -162,13 +163,6 @@ module _ {words text : List ℕ} where
       q s (to + 0) (rw k (stands_right (word 1) (string s) h))
 
 -- ---- constants
-
--- where there is no room for three words, none stands there
-pub constant_none : {words : List ℕ} {at : ℕ} {b : Bool} {r : Constant} → Room b (length words) at 3 → not b ≡ true → ConstantAt words at r
-constant_none {words} {at} {b} room e = record { value = λ k text to h. absurd (none k to h.in_words); numbered = λ k text to h. absurd (none k to h.in_words) }
-  where
-    none : (k : Value) (to : ℕ) → Here words at ((constant_piece k).words to) → ⊥
-    none k to h = room.not (not-true b e) (omega (arith, here_length ((constant_piece k).words to) h, constant_words_law k to))
 
 -- the place n words on
 pub skips_on : {words : List ℕ} {n at : ℕ} → Skips words n at (at + n)
@@ -197,12 +191,6 @@ module _ {words : List ℕ} {at : ℕ} where
   constant_is : {r : Constant} → constant_from (get_or words at 0) (get_or words (at + 1) 0) (get_or words (at + 2) 0) ≡ r → ConstantAt words at r
   constant_is q = record { value = λ k text to h. rw q at (constant_from_law k text to h).0; numbered = λ k text to h. rw q at (constant_from_law k text to h).1 }
 
-  pub constant_nil : get_or words at 0 ≡ 0 → ConstantAt words at Nil
-  constant_nil n = constant_is (rw n)
-
-  pub constant_bool : get_or words at 0 ≡ 1 → ConstantAt words at (Truth (not (eqb (get_or words (at + 1) 0) 0)))
-  constant_bool n = constant_is (rw n)
-
   pub constant_num : get_or words at 0 ≡ 3 → ConstantAt words at (Num (get_or words (at + 1) 0) (get_or words (at + 2) 0))
   constant_num n = constant_is (rw n)
 
@@ -216,14 +204,25 @@ head_items : (s : Source) (to a b c : ℕ) → let l = (source_piece s).words to
 head_items Source.inherited to a b c = (refl, refl, refl, refl)
 head_items (Source.own s) to a b c = (refl, refl, refl, refl)
 
-pub head_here : {words : List ℕ} {at a b c x y z : ℕ} → Skips words 3 at a → x ≡ get_or words a 0 → Skips words 4 at b → y ≡ get_or words b 0 → Skips words 5 at c → z ≡ get_or words c 0
+-- four bytes
+bytes_below : (a b c d : ℕ) → a < 256 → b < 256 → c < 256 → d < 256 → (i : ℕ) → get_or (a ∷ b ∷ c ∷ d ∷ []) i 0 < 256
+bytes_below a b c d ha hb hc hd zero = ha
+bytes_below a b c d ha hb hc hd (suc zero) = hb
+bytes_below a b c d ha hb hc hd (suc (suc zero)) = hc
+bytes_below a b c d ha hb hc hd (suc (suc (suc zero))) = hd
+bytes_below a b c d ha hb hc hd (suc (suc (suc (suc i)))) = omega arith
+
+packed_bytes : (p : Parts) → ValidParts p → to_be_bytes w32 (packed p) ≡ p.num_upvalues ∷ p.num_params ∷ p.is_vararg ∷ p.max_stack_size ∷ []
+packed_bytes p v = be_bytes_4 _ _ refl (bytes_below p.num_upvalues p.num_params p.is_vararg p.max_stack_size v.num_upvalues v.num_params v.is_vararg v.max_stack_size) (omega arith)
+
+pub head_here : {words : List ℕ} {at a b c x y z : ℕ} {l : List ℕ} → Skips words 3 at a → x ≡ get_or words a 0 → Skips words 4 at b → y ≡ get_or words b 0 → Skips words 5 at c → z ≡ get_or words c 0 → l ≡ to_be_bytes w32 z
     → (p : Parts) (fs : Functions) (t : List ℕ) → ValidParts p → StandsAt words t at (function_piece (Function.function p fs))
-    → record { line_defined = x; last_line_defined = y; num_upvalues = z / 16777216; num_params = z / 65536 % 256; is_vararg = z / 256 % 256; max_stack_size = z % 256 } ≡ head_of p
-head_here {x = x} {y = y} {z = z} f i g j k l p fs t v stands =
+    → record { line_defined = x; last_line_defined = y; num_upvalues = get_or l 0 0; num_params = get_or l 1 0; is_vararg = get_or l 2 0; max_stack_size = get_or l 3 0 } ≡ head_of p
+head_here {x = x} {y = y} {z = z} {l = l} f i g j k m q p fs t v stands =
     let h = (head_stands p fs stands.stands).in_words in
     let w = head_items p.source stands.to p.line_defined p.last_line_defined (packed p) in
     let e : x ≡ p.line_defined = skip_item _ (omega (arith, w.0)) h f i ∙ w.1 in
     let e' : y ≡ p.last_line_defined = skip_item _ (omega (arith, w.0)) h g j ∙ w.2 in
-    let o : z ≡ packed p = skip_item _ (omega (arith, w.0)) h k l ∙ w.3 in
-    let u = unpacked p v in
-    rw (e, e', o, u.0, u.1, u.2, u.3)
+    let o : z ≡ packed p = skip_item _ (omega (arith, w.0)) h k m ∙ w.3 in
+    let u : l ≡ p.num_upvalues ∷ p.num_params ∷ p.is_vararg ∷ p.max_stack_size ∷ [] = q ∙ rw o (packed_bytes p v) in
+    rw (e, e', u)

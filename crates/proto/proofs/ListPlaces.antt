@@ -1,10 +1,13 @@
 -- Where the lists of a function stand: each behind the one before it, the lines behind the functions; and what is kept of lines.
 use Rattle.lent.proofs.Prelude.{ℕ, zero, suc, ◌+◌, ◌*◌, ◌-◌, ◌<◌, ◌≡◌, refl, sym, ◌∙◌, List, arith, ℕ_discrete, length, get_or, set, replicate, get_or-set_same, get_or-set_other}
+use Rattle.std.specs.Prelude.{Option, None, Some}
+use Rattle.std.proofs.lemmas.Option.{none-some, same_Some}
 use Rattle.format.specs.Tree.{Parts, Function, Functions, Debug, count}
 use Rattle.format.specs.Store.{list, ints, local_piece, debug_piece, function_piece}
 use Rattle.format.specs.Valid.{ValidAll}
 use Rattle.proto.specs.declared.walk.Next.{Next}
 use Rattle.proto.specs.declared.lists.Lists.{Lists}
+use Rattle.proto.specs.declared.lists.Kept.{Kept}
 use Rattle.proto.specs.Walk.{StandsAt, Skips, Past, PassesAll, to_code, to_constants, to_functions, to_lines, to_locals}
 use Rattle.proto.specs.Lists.{ListsAt, ListsFound, LinesAt, LinesKept, WalksToLines}
 use Rattle.proto.proofs.Walks.{past_then, past_ints, past_list, skip_items, all_none, all_more, passes_past, none_deep, pass_inside}
@@ -41,21 +44,23 @@ lists_stand p fs h l =
       upvalues = somewhere (upvalues_stand p fs s l.upvalues);
     }
 
+none_at : (n k : ℕ) → get_or {A = Option Kept} (replicate n None) k None ≡ None
+none_at zero k = refl
+none_at (suc n) zero = refl
+none_at (suc n) (suc k) = none_at n k
+
 -- ---- what is kept of lines: nothing at first, and one thing more
 
-get_d_zeros : (n k : ℕ) → ◌≡◌ {A = ℕ} (get_or (replicate n 0) k 0) 0
-get_d_zeros zero k = refl
-get_d_zeros (suc n) zero = refl
-get_d_zeros (suc n) (suc k) = get_d_zeros n k
+pub kept_none : {words : List ℕ} (n : ℕ) → LinesKept words (replicate n None)
+kept_none n = record { kept = λ k x h. absurd (none-some x (sym (none_at n k) ∙ h)) }
 
-pub kept_none : {words : List ℕ} (n m : ℕ) → LinesKept words (replicate n 0) (replicate m 0)
-kept_none n m = record { kept = λ k h. absurd (h (get_d_zeros m k)) }
-
-pub kept_more : {words begins lines : List ℕ} {k at r : ℕ} → k < length begins → k < length lines → LinesKept words begins lines → LinesAt words k at r → LinesKept words (set begins k at) (set lines k r)
-kept_more {begins = begins} {lines = lines} {k = k} {at = at} {r = r} hb hl w l = record {
-  kept = λ j h. elim (ℕ_discrete j k) [
-    | yes e ↦ rw (e, get_or-set_same begins k at 0 hb, get_or-set_same lines k r 0 hl) l
-    | no n ↦ let y = get_or-set_other lines k j r 0 n in rw (get_or-set_other begins k j at 0 n, y) (w.kept j (λ z. h (y ∙ z)))
+pub kept_more : {words : List ℕ} {kept : List (Option Kept)} {k at r : ℕ} → k < length kept → LinesKept words kept → LinesAt words k at r → LinesKept words (set kept k (Some (record { begin = at; lines = r })))
+kept_more {kept = kept} {k} {at} {r} h w l = record {
+  kept = λ j x e. elim (ℕ_discrete j k) [
+    | yes q ↦
+        let d = same_Some _ _ (sym (get_or-set_same kept k (Some (record { begin = at; lines = r })) None h) ∙ rw q at e) in
+        rw (q, ← d) l
+    | no n ↦ w.kept j x (sym (get_or-set_other kept k j (Some (record { begin = at; lines = r })) None n) ∙ e)
   ];
 }
 
@@ -65,9 +70,9 @@ pub walked : {words : List ℕ} {allowance : ℕ} {s r : Next} → WalksToLines 
 walked w = record { past = λ p fs v. passes_past (w p fs v) }
 
 -- and they are kept
-pub walked_kept : {words begins lines begins' lines' : List ℕ} {allowance : ℕ} {s r : Next} → ((ws : List ℕ) → LinesKept ws begins lines → LinesAt ws allowance s.at r.at → LinesKept ws begins' lines')
-    → LinesKept words begins lines → WalksToLines words allowance s r → WalksToLines words allowance s r × LinesKept words begins' lines'
-walked_kept keep k w = (w, keep _ k (walked w))
+pub walked_kept : {words : List ℕ} {kept kept' : List (Option Kept)} {allowance : ℕ} {s r : Next} → ((ws : List ℕ) → LinesKept ws kept → LinesAt ws allowance s.at r.at → LinesKept ws kept')
+    → LinesKept words kept → WalksToLines words allowance s r → WalksToLines words allowance s r × LinesKept words kept'
+walked_kept keeps k w = (w, keeps _ k (walked w))
 
 pub all_zero : {words : List ℕ} {i n : ℕ} {s : Next} → i ≡ 0 → PassesAll words n i s s
 all_zero e = rw e all_none

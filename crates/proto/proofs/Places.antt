@@ -1,5 +1,6 @@
 -- The search for the function at a place: what is found in one function, in those behind it, and in those in it.
-use Rattle.lent.proofs.Prelude.{ℕ, suc, ◌+◌, ◌-◌, ◌≤◌, ◌<◌, ◌≡◌, refl, sym, ◌∙◌, List, [], ◌∷◌, ◌++◌, true, false, cond, Option, none, some, arith, add-zero, add_assoc, length, get_or, length-append, eqb, eq-eqb, ne_eqb}
+use Rattle.lent.proofs.Prelude.{ℕ, suc, ◌+◌, ◌-◌, ◌≤◌, ◌<◌, ◌≡◌, refl, sym, ap, ◌∙◌, List, [], ◌∷◌, ◌++◌, true, false, cond, Option, none, some, arith, add-zero, add_assoc, length, get_or, length-append, eqb, eq-eqb, ne_eqb}
+use Rattle.std.specs.Prelude.{Result, Ok, Err}
 use Rattle.format.specs.Tree.{Source, Debug, Parts, Function, Functions, count, filled}
 use Rattle.format.specs.Store.{source_piece, debug_piece, function_piece, function_pieces, children_piece}
 use Rattle.format.specs.Valid.{Valid, ValidAll}
@@ -7,22 +8,16 @@ use Rattle.format.specs.Stored.{Here}
 use Rattle.format.proofs.Stored.{here_left, here_right}
 use Rattle.format.proofs.Loops.{Loop, loop_stop, loop_end}
 use Rattle.proto.specs.declared.place.Span.{Span}
-use Rattle.proto.specs.declared.place.Sought.{Sought}
 use Rattle.proto.specs.Walk.{Skips, Past, to_functions, to_lines}
 use Rattle.proto.specs.Places.{span_of, Placed, placed, placed_all, begins_at, Seeks, Search}
 use Rattle.proto.proofs.Sublists.{here_get, skip_item}
 use Rattle.proto.proofs.Pieces.{function_debug}
 use Rattle.proto.proofs.Walks.{valid_inside}
-use Rattle.proto.proofs.Checks.{never}
 
 -- ---- the source of a function
 
-pub span_inherited : {words : List ℕ} {at x : ℕ} (around : Span) (s : Source) (to : ℕ) → Here words at ((source_piece s).words to) → x ≡ get_or words at 0 → x ≡ 0 → around ≡ span_of around to s
-span_inherited around Source.inherited to h e z = refl
-span_inherited around (Source.own l) to h e z = absurd (omega (arith, here_get 1 _ h))
-
 pub span_own : {words : List ℕ} {at x a b y z : ℕ} (around : Span) (s : Source) (to : ℕ) → Here words at ((source_piece s).words to) → x ≡ get_or words at 0 → (x ≡ 0 → ⊥)
-    → Skips words 1 at a → y ≡ get_or words a 0 → Skips words 2 at b → z ≡ get_or words b 0 → record { in_text = 1; start = y; end = y + z } ≡ span_of around to s
+    → Skips words 1 at a → y ≡ get_or words a 0 → Skips words 2 at b → z ≡ get_or words b 0 → record { in_text = true; start = y; end = y + z } ≡ span_of around to s
 span_own around Source.inherited to h e n k f l g = absurd (n (e ∙ here_get 0 _ h))
 span_own {y = y} {z} around (Source.own s) to h e n k f l g =
     let u : y ≡ to + 0 = skip_item (1 ∷ (to + 0) ∷ length s ∷ []) (omega arith) h k f in
@@ -41,40 +36,44 @@ begins_append place [] b = refl
 begins_append place (x ∷ a) b =
     elim (eqb place x.place) as (λ t. cond t (some x) (begins_at place (a ++ b)) ≡ or_else (cond t (some x) (begins_at place a)) (begins_at place b)) [ true ↦ refl | false ↦ begins_append place a b ]
 
+same_Err : (a b : ℕ) → ◌≡◌ {A = Result Span ℕ} (Err a) (Err b) → a ≡ b
+same_Err a b e = cc
+
 -- of n functions, whichever they are
-pub record SearchAll (words : List ℕ) (place : ℕ) (around : Span) (allowance n at : ℕ) (r : Sought) : Type 0 where
+pub record SearchAll (words : List ℕ) (place : ℕ) (around : Span) (allowance n at : ℕ) (r : Result Span ℕ) : Type 0 where
   pub seeks : (fs : Functions) (to : ℕ) (bytes : List ℕ) → ValidAll fs allowance → count fs ≡ n → Here words at ((function_pieces fs).words to)
       → Seeks (begins_at place (placed_all fs at to (record { bytes = bytes; span = around }))) (at + length ((function_pieces fs).words to)) r
 
 module _ {words : List ℕ} {place : ℕ} {around : Span} {allowance : ℕ} where
-  search_none : {at : ℕ} {s : Span} → SearchAll words place around allowance 0 at (record { found = false; at = at; source = s })
+  search_none : {at : ℕ} → SearchAll words place around allowance 0 at (Err at)
   unfolding count function_pieces placed_all begins_at
-  search_none {at} = record { seeks = elim [ Functions.none ↦ λ to bytes v e h. (refl, sym (add-zero at)) | Functions.more f fs ↦ λ to bytes v e h. absurd (omega arith) ] }
+  search_none {at} = record { seeks = elim [ Functions.none ↦ λ to bytes v e h. rw (add-zero at) | Functions.more f fs ↦ λ to bytes v e h. absurd (omega arith) ] }
 
-  module _ {at : ℕ} {r : Sought} (one : (f : Function) → Valid f allowance → Search words place around f at r) where
-    -- it is in the first one, or may be behind it
-    search_next : (n : ℕ) (q : Sought) → (r.found ≡ true → r ≡ q) → (r.found ≡ false → SearchAll words place around allowance n r.at q) → SearchAll words place around allowance (suc n) at q
-    unfolding count function_pieces placed_all ValidAll
-    search_next n q here rest = record { seeks = go }
-      where
-        go : (fs : Functions) (to : ℕ) (bytes : List ℕ) → ValidAll fs allowance → count fs ≡ suc n → Here words at ((function_pieces fs).words to)
-            → Seeks (begins_at place (placed_all fs at to (record { bytes = bytes; span = around }))) (at + length ((function_pieces fs).words to)) q
-        go Functions.none to bytes v c h = absurd (omega arith)
-        go (Functions.more f fs) to bytes v c h =
-            rw begins_append (by (begins_at place (placed f at to (record { bytes = bytes; span = around }))) ((one f v.0).seeks to bytes (here_left ((function_piece f).words to) _ h)))
-          where
-            by : (o : Option Placed) → Seeks o (at + length ((function_piece f).words to)) r
-                → Seeks (or_else o (begins_at place (placed_all fs (at + length ((function_piece f).words to)) (to + length (function_piece f).text) (record { bytes = bytes; span = around }))))
-                (at + length ((function_piece f).words to ++ (function_pieces fs).words (to + length (function_piece f).text))) q
-            by (some x) k = rw (here k.0) at k
-            by none k =
-                let to' = to + length (function_piece f).text in
-                let i : at + length ((function_piece f).words to ++ (function_pieces fs).words to') ≡ r.at + length ((function_pieces fs).words to') =
-                rw (k.1, length-append ((function_piece f).words to) ((function_pieces fs).words to')) (sym (add_assoc _ _ _)) in
-                rw (i, ← k.1) ((rest k.0).seeks fs to' bytes v.1 (omega arith) (rw k.1 (here_right ((function_piece f).words to) _ h)))
+  -- it is in the first one, or may be behind it
+  search_next : {at : ℕ} {r : Result Span ℕ} → ((f : Function) → Valid f allowance → Search words place around f at r) → (n : ℕ) (q : Result Span ℕ) → ((z : Span) → r ≡ Ok z → r ≡ q)
+      → ((b : ℕ) → r ≡ Err b → SearchAll words place around allowance n b q) → SearchAll words place around allowance (suc n) at q
+  unfolding count function_pieces placed_all ValidAll
+  search_next {at} {r} one n q here rest = record { seeks = go }
+    where
+      go : (fs : Functions) (to : ℕ) (bytes : List ℕ) → ValidAll fs allowance → count fs ≡ suc n → Here words at ((function_pieces fs).words to)
+          → Seeks (begins_at place (placed_all fs at to (record { bytes = bytes; span = around }))) (at + length ((function_pieces fs).words to)) q
+      go Functions.none to bytes v c h = absurd (omega arith)
+      go (Functions.more f fs) to bytes v c h =
+          rw begins_append (by (begins_at place (placed f at to (record { bytes = bytes; span = around }))) ((one f v.0).seeks to bytes (here_left ((function_piece f).words to) _ h)))
+        where
+          by : (o : Option Placed) → Seeks o (at + length ((function_piece f).words to)) r
+              → Seeks (or_else o (begins_at place (placed_all fs (at + length ((function_piece f).words to)) (to + length (function_piece f).text) (record { bytes = bytes; span = around }))))
+              (at + length ((function_piece f).words to ++ (function_pieces fs).words (to + length (function_piece f).text))) q
+          by (some x) k = sym (here _ k) ∙ k
+          by none k =
+              let to' = to + length (function_piece f).text in
+              let i : at + length ((function_piece f).words to ++ (function_pieces fs).words to') ≡ at + length ((function_piece f).words to) + length ((function_pieces fs).words to') =
+              rw (length-append ((function_piece f).words to) ((function_pieces fs).words to')) (sym (add_assoc _ _ _)) in
+              rw i ((rest _ k).seeks fs to' bytes v.1 (omega arith) (here_right ((function_piece f).words to) _ h))
 
-    pub search_more : r.found ≡ false → (n : ℕ) (q : Sought) → SearchAll words place around allowance n r.at q → SearchAll words place around allowance (suc n) at q
-    search_more e n q rest = search_next n q (λ t. absurd (never t e)) (λ t. rest)
+  pub search_more : {at m : ℕ} → ((f : Function) → Valid f allowance → Search words place around f at (Err m)) → (n : ℕ) (q : Result Span ℕ) → SearchAll words place around allowance n m q
+      → SearchAll words place around allowance (suc n) at q
+  search_more one n q rest = search_next one n q (λ z e. absurd cc) (λ b e. let d = same_Err _ _ e in rw (← d) rest)
 
 -- ---- in one function
 
@@ -85,13 +84,13 @@ own_here s p fs to h = s p.source to (here_left ((source_piece p.source).words t
 
 module _ {words : List ℕ} {place at : ℕ} {around own : Span} (s : (s : Source) (to : ℕ) → Here words at ((source_piece s).words to) → own ≡ span_of around to s) where
   -- it is this one
-  pub search_here : {r : Sought} → place ≡ at → r.found ≡ true → r.source ≡ own → (f : Function) → Search words place around f at r
+  pub search_here : place ≡ at → (f : Function) → Search words place around f at (Ok own)
   unfolding placed begins_at
-  search_here e o i (Function.function p fs) = record { seeks = λ to bytes h. rw (eq-eqb place at e) (o, i ∙ own_here s p fs to h) }
+  search_here e (Function.function p fs) = record { seeks = λ to bytes h. rw (eq-eqb place at e, own_here s p fs to h) }
 
   module _ {a q n allowance i b : ℕ} (o : allowance ≡ 0 → ⊥) (z : place ≡ at → ⊥) (w : (p : Parts) (fs : Functions) → Past words (to_functions p fs) at a) (e : n ≡ get_or words a 0) (k : Skips words 1 a q)
       (l : Loop (SearchAll words place own (allowance - 1)) n q i b) where
-    inside : {r : Sought} → SearchAll words place own (allowance - 1) n q r → (p : Parts) (fs : Functions) (to : ℕ) (bytes : List ℕ) → ValidAll fs (allowance - 1) → Here words at ((function_piece (Function.function p fs)).words to)
+    inside : {r : Result Span ℕ} → SearchAll words place own (allowance - 1) n q r → (p : Parts) (fs : Functions) (to : ℕ) (bytes : List ℕ) → ValidAll fs (allowance - 1) → Here words at ((function_piece (Function.function p fs)).words to)
         → Seeks (begins_at place (placed (Function.function p fs) at to (record { bytes = bytes; span = around }))) (at + length ((to_lines p fs).words to)) r
     unfolding placed begins_at
     inside all p fs to bytes v h =
@@ -107,27 +106,28 @@ module _ {words : List ℕ} {place at : ℕ} {around own : Span} (s : (s : Sourc
         rw (ne_eqb place at z, b, ← d, ← j, ← own_here s p fs to h) (all.seeks fs to' (filled bytes p.source) v c g)
 
     -- the loop finds it before item i + 1
-    pub search_inside : {r : Sought} → i < n → ((f : Function) → Valid f (allowance - 1) → Search words place own f b r) → r.found ≡ true → (f : Function) → Valid f allowance → Search words place around f at r
-    search_inside {r} h one t (Function.function p fs) v =
-        let all : SearchAll words place own (allowance - 1) n q r = loop_stop h l (λ m. search_next one m r (λ j. refl) (λ j. absurd (never t j))) in
+    pub search_inside : {z : Span} → i < n → ((f : Function) → Valid f (allowance - 1) → Search words place own f b (Ok z)) → (f : Function) → Valid f allowance → Search words place around f at (Ok z)
+    search_inside {z} h one (Function.function p fs) v =
+        let all : SearchAll words place own (allowance - 1) n q (Ok z) = loop_stop h l (λ m. search_next one m (Ok z) (λ y e. refl) (λ b e. absurd cc)) in
         record { seeks = λ to bytes h. by (begins_at place (placed (Function.function p fs) at to (record { bytes = bytes; span = around }))) _ _ (inside all p fs to bytes (valid_inside o p fs v) h) }
       where
-        by : (x : Option Placed) (end end' : ℕ) → Seeks x end r → Seeks x end' r
-        by none end end' y = absurd (never t y.0)
+        by : (x : Option Placed) (end end' : ℕ) → Seeks x end (Ok z) → Seeks x end' (Ok z)
+        by none end end' y = absurd cc
         by (some x) end end' y = y
 
     -- it finds it in none
-    pub search_outside : {x : Sought} → n ≤ i → x.found ≡ false → ((d : Debug) → Past words (debug_piece d) b x.at) → (f : Function) → Valid f allowance → Search words place around f at x
-    search_outside {x} h t g (Function.function p fs) v =
+    pub search_outside : {x : ℕ} → n ≤ i → ((d : Debug) → Past words (debug_piece d) b x) → (f : Function) → Valid f allowance → Search words place around f at (Err x)
+    search_outside {x} h g (Function.function p fs) v =
         record {
           seeks = λ to bytes j. by to j (begins_at place (placed (Function.function p fs) at to (record { bytes = bytes; span = around }))) (inside (loop_end h l search_none) p fs to bytes (valid_inside o p fs v) j);
         }
       where
-        by : (to : ℕ) → Here words at ((function_piece (Function.function p fs)).words to) → (y : Option Placed) → Seeks y (at + length ((to_lines p fs).words to)) (record { found = false; at = b; source = own })
-            → Seeks y (at + length ((function_piece (Function.function p fs)).words to)) x
-        by to h (some y) k = absurd (never k.0 refl)
+        by : (to : ℕ) → Here words at ((function_piece (Function.function p fs)).words to) → (y : Option Placed) → Seeks y (at + length ((to_lines p fs).words to)) (Err b)
+            → Seeks y (at + length ((function_piece (Function.function p fs)).words to)) (Err x)
+        by to h (some y) k = absurd cc
         by to h none k =
             let to' = to + length (to_lines p fs).text in
+            let m : b ≡ at + length ((to_lines p fs).words to) = same_Err _ _ k in
             let l : Here words at ((to_lines p fs).words to ++ (debug_piece p.debug).words to') = rw ((function_debug p fs).words to) at h in
-            let e₁ : x.at ≡ b + length ((debug_piece p.debug).words to') = (g p.debug).past to' (rw k.1 (here_right ((to_lines p fs).words to) _ l)) in
-            (t, e₁ ∙ rw (k.1, (function_debug p fs).words to, length-append ((to_lines p fs).words to) ((debug_piece p.debug).words to')) (add_assoc _ _ _))
+            let e : x ≡ b + length ((debug_piece p.debug).words to') = (g p.debug).past to' (rw m (here_right ((to_lines p fs).words to) _ l)) in
+            ap Err (e ∙ rw (m, (function_debug p fs).words to, length-append ((to_lines p fs).words to) ((debug_piece p.debug).words to')) (add_assoc _ _ _))

@@ -1,5 +1,7 @@
 -- Each function that function_at finds stands in the store, well formed, and its source stands where its span says. So source_at and source answer as defined.
-use Rattle.lent.proofs.Prelude.{ℕ, zero, suc, ◌+◌, ◌-◌, ◌≤◌, ◌<◌, ◌≡◌, refl, sym, ◌∙◌, List, [], ◌∷◌, Bool, true, false, cond, not, none, some, arith, add-zero, length, take-length, eqb, eqb-true, eq-eqb, ne_eqb, not-true, not-false}
+use Rattle.lent.proofs.Prelude.{ℕ, zero, suc, ◌+◌, ◌-◌, ◌≤◌, ◌<◌, ◌≡◌, refl, sym, ap, ◌∙◌, List, [], ◌∷◌, Bool, true, false, cond, none, some, arith, add-zero, length, take-length, eqb, eqb-true, eq-eqb, ne_eqb}
+use Rattle.std.specs.Prelude.{Result, Ok, Err}
+use mir.Val.{bool_byte}
 use Rattle.lent.specs.Memory.{Every}
 use Rattle.lent.proofs.Lists.{every_append}
 use Rattle.format.specs.Tree.{Source, Parts, Function, Functions, count}
@@ -9,13 +11,12 @@ use Rattle.format.specs.Undump.{name_ok}
 use Rattle.format.specs.Valid.{depth, Valid, ValidAll, Holds}
 use Rattle.format.specs.Dump.{on_tree}
 use Rattle.format.proofs.Stored.{here_part, tree_holds, holds_tree}
-use Rattle.proto.specs.declared.place.Sought.{Sought}
+use Rattle.proto.specs.declared.place.Span.{Span}
 use Rattle.proto.specs.declared.place.SourceAt.{SourceAt}
 use Rattle.proto.specs.Walk.{Stands, to_functions, to_lines}
 use Rattle.proto.specs.Formed.{is_held}
-use Rattle.proto.specs.Places.{Filled, filled_in, chunk_name, Placed, placed, placed_all, begins_at, function_at, Seeks, Search, on_function, on_place, place_refusal, no_source, span_answer, source_answer, source_part}
+use Rattle.proto.specs.Places.{Filled, filled_in, chunk_name, Placed, placed, placed_all, begins_at, function_at, Seeks, Search, on_function, on_place, place_refusal, no_source, span_answer, found_answer, source_answer, source_part}
 use Rattle.proto.proofs.Pieces.{function_debug, stands_same, stands_left, stands_right}
-use Rattle.proto.proofs.Checks.{never}
 use Rattle.proto.proofs.Stores.{held_tree, no_tree}
 use Rattle.proto.proofs.Items.{source_stands}
 use Rattle.proto.proofs.Calls.{root_stands}
@@ -23,8 +24,8 @@ use Rattle.proto.proofs.Calls.{root_stands}
 -- ---- what stands in a store
 
 -- the bytes at a span
-abbrev pub at_span : List ℕ → List ℕ → ℕ → ℕ → ℕ → List ℕ
-at_span text name in_text start end = cond (eqb in_text 1) (part text start (end - start)) (part name start (end - start))
+abbrev pub at_span : List ℕ → List ℕ → Bool → ℕ → ℕ → List ℕ
+at_span text name in_text start end = cond in_text (part text start (end - start)) (part name start (end - start))
 
 -- a source stands where its span says
 pub record Sourced (text name : List ℕ) (s : Filled) : Type 0 where
@@ -105,6 +106,19 @@ function_stands name {f} place x h e =
 
 -- ---- the calls
 
+pub bool_bit : (b : Bool) → bool_byte b ≡ cond b 1 0
+bool_bit true = refl
+bool_bit false = refl
+
+bit_is : (b : Bool) → eqb (cond b 1 0) 1 ≡ b
+bit_is true = refl
+bit_is false = refl
+
+-- the answer for what the search finds
+abbrev pub sought_answer : Result Span ℕ → SourceAt
+sought_answer (Ok z) = span_answer z
+sought_answer (Err behind) = no_source 12
+
 -- a call on a function of a store
 abbrev called : {A : Type 0} → (ℕ → A) → (Placed → A) → List ℕ → List ℕ → List ℕ → ℕ → A
 called refuse answer words text name place = on_tree refuse (λ f. on_function refuse answer (function_at f name place)) (tree_of words text)
@@ -120,32 +134,33 @@ called_by words text name place {P} refused found = (elim (tree_of words text) a
   ]) refl
 ]) refl
 
--- what it gives, from what is shown of the tree and of what the search finds in it
-module _ {A : Type 0} (refuse : ℕ → A) (answer : Placed → A) (words text name : List ℕ) (place : ℕ) {b : Bool} (h : b ≡ is_held (tree_of words text)) where
-  call_10 : not b ≡ true → refuse 10 ≡ called refuse answer words text name place
-  call_10 e = no_tree words text (λ t. refuse 10 ≡ on_tree refuse (λ f. on_function refuse answer (function_at f name place)) t) (sym h ∙ not-true b e) refl
+module _ (words text name : List ℕ) (place : ℕ) {b : Bool} (h : b ≡ is_held (tree_of words text)) where
+  pub find_10 : b ≡ false → no_source 10 ≡ found_answer words text name place
+  unfolding found_answer
+  find_10 e = no_tree words text (λ t. no_source 10 ≡ on_tree no_source (λ f. on_function no_source (λ x. span_answer x.source.span) (function_at f name place)) t) (sym h ∙ e) refl
 
-  call_sought : {r : Sought} → not b ≡ false → ((f : Function) → Valid f depth → Search words place (chunk_name name).span f 0 r) → (x : A)
-      → (r.found ≡ false → x ≡ refuse 12) → (r.found ≡ true → (y : Placed) → r.source ≡ y.source.span → x ≡ answer y) → x ≡ called refuse answer words text name place
-  call_sought {r} e s x none_found found =
-      held_tree words text (λ t. x ≡ on_tree refuse (λ f. on_function refuse answer (function_at f name place)) t) (sym h ∙ not-false b e)
+  -- what the search finds
+  pub find_sought : {r : Result Span ℕ} → b ≡ true → ((f : Function) → Valid f depth → Search words place (chunk_name name).span f 0 r) → sought_answer r ≡ found_answer words text name place
+  unfolding found_answer
+  find_sought {r} e s =
+      held_tree words text (λ t. sought_answer r ≡ on_tree no_source (λ f. on_function no_source (λ x. span_answer x.source.span) (function_at f name place)) t) (sym h ∙ e)
       (λ f t.
-      (elim (function_at f name place) as (λ o. Seeks o (0 + length ((function_piece f).words 0)) r → x ≡ on_function refuse answer o) [ none ↦ λ k. none_found k.0 | some y ↦ λ k. found k.0 y k.1 ])
+      (elim (function_at f name place) as (λ o. Seeks o (0 + length ((function_piece f).words 0)) r → sought_answer r ≡ on_function no_source (λ x. span_answer x.source.span) o) [
+        | none ↦ λ k. rw k
+        | some y ↦ λ k. rw k
+      ])
       ((s f t.valid).seeks 0 name (root_stands t).in_words))
 
-module _ (words text : List ℕ) (place : ℕ) {b : Bool} (h : b ≡ is_held (tree_of words text)) where
-  pub place_10 : not b ≡ true → 10 ≡ place_refusal words text place
-  unfolding place_refusal
-  place_10 e = call_10 (λ n. n) (λ x. 0) words text [] place h e
+-- the refusal of a call on a place
+place_found : (words text : List ℕ) (place : ℕ) → (found_answer words text [] place).refusal ≡ place_refusal words text place
+unfolding found_answer place_refusal
+place_found words text place =
+    called_by words text [] place
+    (λ n h k. rw (k SourceAt no_source (λ x. span_answer x.source.span), k ℕ (λ n. n) (λ x. 0)))
+    (λ f x h b. rw (holds_tree h, b))
 
-  module _ {r : Sought} (e : not b ≡ false) (s : (f : Function) → Valid f depth → Search words place (chunk_name []).span f 0 r) where
-    pub place_12 : r.found ≡ false → 12 ≡ place_refusal words text place
-    unfolding place_refusal
-    place_12 z = call_sought (λ n. n) (λ x. 0) words text [] place h e s 12 (λ k. refl) (λ k. absurd (never k z))
-
-    pub place_0 : r.found ≡ true → 0 ≡ place_refusal words text place
-    unfolding place_refusal
-    place_0 z = call_sought (λ n. n) (λ x. 0) words text [] place h e s 0 (λ k. absurd (never z k)) (λ k y i. refl)
+pub place_refused : (words text : List ℕ) (place : ℕ) {a : SourceAt} → a ≡ found_answer words text [] place → a.refusal ≡ place_refusal words text place
+place_refused words text place e = ap (λ a. a.refusal) e ∙ place_found words text place
 
 -- what a call on the function at a place finds, where it is not refused
 pub record On (words text : List ℕ) (place : ℕ) : Type 0 where
@@ -175,39 +190,27 @@ module _ {A : Type 0} (refuse : ℕ → A) (answer : Placed → A) where
 
 module _ (words text name : List ℕ) (place : ℕ) where
   module _ {n : Bool} (k : n ≡ name_ok name) where
-    pub source_1 : {a : SourceAt} → not n ≡ true → a ≡ no_source 1 → a ≡ source_answer words text name place
+    pub source_1 : n ≡ false → no_source 1 ≡ source_answer words text name place
     unfolding source_answer
-    source_1 e q = q ∙ rw (sym k ∙ not-true n e)
+    source_1 e = rw (sym k ∙ e)
 
-    module _ {b : Bool} (ok : not n ≡ false) (h : b ≡ is_held (tree_of words text)) where
-      pub source_10 : {a : SourceAt} → not b ≡ true → a ≡ no_source 10 → a ≡ source_answer words text name place
-      unfolding source_answer
-      source_10 e q = q ∙ rw (sym k ∙ not-false n ok) (call_10 no_source (λ x. span_answer x.source.span) words text name place h e)
-
-      module _ {r : Sought} (e : not b ≡ false) (s : (f : Function) → Valid f depth → Search words place (chunk_name name).span f 0 r) where
-        sought : (x : SourceAt) → (r.found ≡ false → x ≡ no_source 12) → (r.found ≡ true → x ≡ span_answer r.source) → x ≡ source_answer words text name place
-        unfolding source_answer
-        sought x refused found = rw (sym k ∙ not-false n ok) (call_sought no_source (λ x. span_answer x.source.span) words text name place h e s x refused (λ z y i. found z ∙ rw i))
-
-        pub source_12 : {a : SourceAt} → not r.found ≡ true → a ≡ no_source 12 → a ≡ source_answer words text name place
-        source_12 z q = sought _ (λ t. q) (λ t. absurd (never t (not-true _ z)))
-
-        pub source_found : not r.found ≡ false → span_answer r.source ≡ source_answer words text name place
-        source_found z = sought _ (λ t. absurd (never (not-false _ z) t)) (λ t. refl)
+    pub source_found : {a : SourceAt} → n ≡ true → a ≡ found_answer words text name place → a ≡ source_answer words text name place
+    unfolding source_answer
+    source_found e q = q ∙ rw (sym k ∙ e)
 
   -- what source_at answers leads to what source gives
   source_part_law : (a : SourceAt) → a ≡ source_answer words text name place
-      → (a.start ≤ a.end) × (at_span text name a.in_text a.start a.end ≡ source_part words text name place)
-  unfolding source_answer source_part
+      → (a.start ≤ a.end) × (at_span text name (eqb a.in_text 1) a.start a.end ≡ source_part words text name place)
+  unfolding found_answer source_answer source_part
   source_part_law a e = rw e (by_name (name_ok name))
     where
       by_name : (b : Bool) → let a = cond b (called no_source (λ x. span_answer x.source.span) words text name place) (no_source 1) in
-          (a.start ≤ a.end) × (at_span text name a.in_text a.start a.end ≡ cond b (called (λ n. []) (λ x. x.source.bytes) words text name place) [])
+          (a.start ≤ a.end) × (at_span text name (eqb a.in_text 1) a.start a.end ≡ cond b (called (λ n. []) (λ x. x.source.bytes) words text name place) [])
       by_name false = (omega arith, refl)
       by_name true =
           called_by words text name place
           (λ n h k. rw (k SourceAt no_source (λ x. span_answer x.source.span), k (List ℕ) (λ n. []) (λ x. x.source.bytes)) (omega arith, refl))
-          (λ f x h b. let s = (function_stands name place x h b).0.sourced in rw (holds_tree h, b) (s.ordered, s.is))
+          (λ f x h b. let s = (function_stands name place x h b).0.sourced in rw (holds_tree h, b, bit_is x.source.span.in_text) (s.ordered, s.is))
 
   module _ {a : SourceAt} (e : a ≡ source_answer words text name place) where
     pub source_ordered : a.start ≤ a.end

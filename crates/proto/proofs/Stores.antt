@@ -1,18 +1,21 @@
 -- What the check of each part of a function finds, and of a whole store: it holds where, and only where, the store holds a tree.
-use Rattle.lent.proofs.Prelude.{ℕ, zero, suc, zero-le, ◌+◌, ◌-◌, ◌*◌, ◌/◌, ◌%◌, ◌≤◌, ◌<◌, ◌≡◌, refl, sym, ap, ◌∙◌, List, [], ◌∷◌, Bool, true, false, cond, Option, none, some, arith, ℕ_discrete, length, get_or, eqb, eq-eqb, ne_eqb}
+use Rattle.lent.proofs.Prelude.{zero-add, ℕ, zero, suc, zero-le, ◌+◌, ◌-◌, ◌*◌, ◌/◌, ◌%◌, ◌≤◌, ◌≡◌, refl, sym, ap, ◌∙◌, List, [], ◌∷◌, Bool, true, false, cond, Option, none, some, arith, ℕ_discrete, length, get_or, eqb, eq-eqb, ne_eqb}
+use Rattle.std.specs.Prelude.{Option as Answer, Some, None, ◌&&◌}
+use Rattle.std.specs.Option.{option_eq}
+use Rattle.std.proofs.lemmas.Option.{same_Some}
 use Rattle.lent.specs.Memory.{Every, Word, Bytes}
 use Rattle.format.specs.Tree.{Constant, Source, Debug, Parts, Function, Functions, count}
-use Rattle.format.specs.Store.{word, ◌⊕◌, string, pieces, list, ints, source_piece, constant_piece, local_piece, debug_piece, packed, function_piece, function_pieces, words_of, text_of, children_piece}
+use Rattle.format.specs.Store.{word, string, pieces, list, ints, source_piece, constant_piece, local_piece, debug_piece, packed, function_piece, function_pieces, words_of, text_of, children_piece}
 use Rattle.format.specs.Stored.{tree_of}
 use Rattle.format.specs.Valid.{depth, most, Name, ValidSource, ValidConstant, ValidLocal, ValidList, ValidDebug, ValidParts, Valid, ValidAll, Holds}
 use Rattle.format.proofs.Stored.{holds_tree, tree_holds}
-use Rattle.proto.specs.declared.formed.Checked.{Checked}
+use Rattle.proto.specs.declared.formed.Reached.{Reached}
 use Rattle.proto.specs.Walk.{Stands, children}
-use Rattle.proto.specs.Formed.{is_held, Check, Within, three, Three, ValidChildren}
+use Rattle.proto.specs.Formed.{is_held, behind, Both, beside, Check, Within, three, Three, ValidChildren}
 use Rattle.proto.proofs.Sublists.{here_get, here_whole, whole_here}
 use Rattle.proto.proofs.Pieces.{same_refl, same_is}
 use Rattle.proto.proofs.Walks.{none_deep}
-use Rattle.proto.proofs.Checks.{never, As, check_wrong, check_as, check_of, check_then, check_passed, any_word}
+use Rattle.proto.proofs.Checks.{never, no_answer, As, check_wrong, check_as, check_of}
 
 -- the first word of a constant
 abbrev kind_of : Constant → ℕ
@@ -33,7 +36,7 @@ bit_small false = omega arith
 module _ {words text : List ℕ} where
   -- ---- sources
 
-  pub source_inherited : {x : ℕ} {s r : Checked} → x ≡ get_or words s.at 0 → x ≡ 0 → ((t : List ℕ) → Check words t (Three 0 0 0) three s r) → Check words text ValidSource source_piece s r
+  pub source_inherited : {x : ℕ} {s : Reached} {r : Answer Reached} → x ≡ get_or words s.at 0 → x ≡ 0 → Check words text (Three 0 0 0) three s r → Check words text ValidSource source_piece s r
   source_inherited e z c =
       check_as
       (λ w k.
@@ -44,16 +47,17 @@ module _ {words text : List ℕ} where
         | Source.inherited ↦ λ k h. record { value = record { first = 0; second = 0; third = 0 }; valid = record { is = refl; second = zero-le; third = zero-le }; same = same_refl }
         | Source.own l ↦ λ k h. absurd (omega (arith, here_get 1 _ h.in_words))
       ])
-      (c text)
+      c
 
-  pub source_own : {x : ℕ} {s a r : Checked} → x ≡ get_or words s.at 0 → (x ≡ 0 → ⊥) → ((t : List ℕ) → Check words t (Within 1 1) word s a) → Check words text (λ n. Name n) string a r → Check words text ValidSource source_piece s r
-  source_own e z c d =
+  pub source_own : {x : ℕ} {s : Reached} {r : Answer Reached} → x ≡ get_or words s.at 0 → (x ≡ 0 → ⊥) → Check words text (Both (Within 1 1) (λ n. Name n)) (beside word string) s r → Check words text ValidSource source_piece s r
+  unfolding Both beside
+  source_own e z c =
       check_as (λ v k. let g : v.0 ≡ 1 = omega (arith, k.0.above, k.0.below) in record { value = Source.own v.1; valid = k.1; same = rw g same_refl })
       (elim [
         | Source.inherited ↦ λ k h. absurd (z (e ∙ here_get 0 _ h.in_words))
         | Source.own l ↦ λ k h. record { value = (1, l); valid = (record { above = omega arith; below = omega arith }, k); same = same_refl }
       ])
-      (check_then (c text) d)
+      c
 
   -- ---- constants
 
@@ -63,10 +67,10 @@ module _ {words text : List ℕ} where
   kind_here (Constant.num high low) h = here_get 3 _ h.in_words
   kind_here (Constant.str s) h = here_get 4 _ h.in_words
 
-  module _ {x : ℕ} {s r : Checked} (e : x ≡ get_or words s.at 0) where
+  module _ {x : ℕ} {s : Reached} {r : Answer Reached} (e : x ≡ get_or words s.at 0) where
     -- nil and false take no second word but 0, and true takes 1
-    pub constant_plain : x ≤ 1 → ((t : List ℕ) → Check words t (Three x x 0) three s r) → Check words text ValidConstant constant_piece s r
-    constant_plain h c = check_as (λ w k. let z : w.third ≡ 0 = omega (arith, k.third) in rw z (to w.first w.second (omega (arith, k.is)) (omega (arith, k.is, k.second)))) from (c text)
+    pub constant_plain : x ≤ 1 → Check words text (Three x x 0) three s r → Check words text ValidConstant constant_piece s r
+    constant_plain h c = check_as (λ w k. let z : w.third ≡ 0 = omega (arith, k.third) in rw z (to w.first w.second (omega (arith, k.is)) (omega (arith, k.is, k.second)))) from c
       where
         to : (u v : ℕ) → u ≤ 1 → v ≤ u → As ValidConstant constant_piece (three (record { first = u; second = v; third = 0 }))
         to zero v h l = let z : v ≡ 0 = omega arith in rw z (record { value = Constant.nil; valid = tt; same = same_refl })
@@ -82,7 +86,7 @@ module _ {words text : List ℕ} where
         from (Constant.num high low) k t = absurd (omega (arith, kind_here (Constant.num high low) t))
         from (Constant.str l) k t = absurd (omega (arith, kind_here (Constant.str l) t))
 
-    pub constant_num : x ≡ 3 → ((t : List ℕ) → Check words t (Three 3 4294967295 4294967295) three s r) → Check words text ValidConstant constant_piece s r
+    pub constant_num : x ≡ 3 → Check words text (Three 3 4294967295 4294967295) three s r → Check words text ValidConstant constant_piece s r
     constant_num z c =
         check_as (λ w k. record { value = Constant.num w.second w.third; valid = (omega (arith, k.second), omega (arith, k.third)); same = rw k.is same_refl })
         (elim [
@@ -91,30 +95,30 @@ module _ {words text : List ℕ} where
           | Constant.num high low ↦ λ k h. record { value = record { first = 3; second = high; third = low }; valid = record { is = refl; second = omega (arith, k.0); third = omega (arith, k.1) }; same = same_refl }
           | Constant.str l ↦ λ k h. absurd (omega (arith, kind_here (Constant.str l) h))
         ])
-        (c text)
+        c
 
-  -- none of the kinds above
-  pub constant_str : {x : ℕ} {s a r : Checked} → x ≡ get_or words s.at 0 → 1 < x → (x ≡ 3 → ⊥) → ((t : List ℕ) → Check words t (Within 4 4) word s a) → Check words text Bytes string a r
-      → Check words text ValidConstant constant_piece s r
-  constant_str e h n₃ c d =
-      check_as (λ v k. let g : v.0 ≡ 4 = omega (arith, k.0.above, k.0.below) in record { value = Constant.str v.1; valid = k.1; same = rw g same_refl })
-      (elim [
-        | Constant.nil ↦ λ k t. absurd (omega (arith, kind_here Constant.nil t))
-        | Constant.bool b ↦ λ k t. absurd (omega (arith, kind_here (Constant.bool b) t))
-        | Constant.num high low ↦ λ k t. absurd (n₃ (e ∙ kind_here (Constant.num high low) t))
-        | Constant.str l ↦ λ k t. record { value = (4, l); valid = (record { above = omega arith; below = omega arith }, k); same = same_refl }
-      ])
-      (check_then (c text) d)
+    -- none of the kinds above
+    pub constant_str : (x ≡ 0 → ⊥) → (x ≡ 1 → ⊥) → (x ≡ 3 → ⊥) → Check words text (Both (Within 4 4) Bytes) (beside word string) s r → Check words text ValidConstant constant_piece s r
+    unfolding Both beside
+    constant_str n₀ n₁ n₃ c =
+        check_as (λ v k. let g : v.0 ≡ 4 = omega (arith, k.0.above, k.0.below) in record { value = Constant.str v.1; valid = k.1; same = rw g same_refl })
+        (elim [
+          | Constant.nil ↦ λ k t. absurd (n₀ (e ∙ kind_here Constant.nil t))
+          | Constant.bool b ↦ λ k t. absurd (n₁ (e ∙ kind_here (Constant.bool b) t))
+          | Constant.num high low ↦ λ k t. absurd (n₃ (e ∙ kind_here (Constant.num high low) t))
+          | Constant.str l ↦ λ k t. record { value = (4, l); valid = (record { above = omega arith; below = omega arith }, k); same = same_refl }
+        ])
+        c
 
   -- ---- locals
 
-  pub local_checked : {s a r : Checked} → Check words text (λ n. Name n) string s a → ((t : List ℕ) → Check {A = ℕ × ℕ} words t (λ v. Word v.0 × Word v.1) (λ v. word v.0 ⊕ word v.1) a r)
-      → Check words text ValidLocal local_piece s r
-  local_checked c d =
+  pub local_checked : {s : Reached} {r : Answer Reached} → Check words text (Both (λ n. Name n) (Both Word Word)) (beside string (beside word word)) s r → Check words text ValidLocal local_piece s r
+  unfolding Both beside
+  local_checked c =
       check_as
       (λ v k. record { value = record { name = v.0; start = v.1.0; end = v.1.1 }; valid = record { name = k.0; start = k.1.0; end = k.1.1 }; same = same_refl })
       (λ v k h. record { value = (v.name, (v.start, v.end)); valid = (k.name, (k.start, k.end)); same = same_refl })
-      (check_then c (d text))
+      c
 
 -- ---- the functions in a function
 
@@ -151,7 +155,7 @@ pub children_list : (fs : Functions) → list function_piece (children fs) ≡ c
 children_list fs = rw (children_count fs, children_pieces fs)
 
 module _ {words text : List ℕ} where
-  pub children_checked : {s r : Checked} {n : ℕ} → Check words text (ValidList (λ f. Valid f n)) (list function_piece) s r → Check words text (ValidChildren n) children_piece s r
+  pub children_checked : {s : Reached} {r : Answer Reached} {n : ℕ} → Check words text (ValidList (λ f. Valid f n)) (list function_piece) s r → Check words text (ValidChildren n) children_piece s r
   children_checked {n = n} c =
       check_as
       (λ l k.
@@ -168,13 +172,17 @@ module _ {words text : List ℕ} where
 -- ---- functions
 
 module _ {words text : List ℕ} where
-  pub debug_checked : {s a b r : Checked} → Check words text (ValidList Word) ints s a → Check words text (ValidList ValidLocal) (list local_piece) a b → Check words text (ValidList (λ n. Name n)) (list string) b r
+  pub debug_checked : {s : Reached} {r : Answer Reached} → Check words text (Both (ValidList Word) (Both (ValidList ValidLocal) (ValidList (λ n. Name n)))) (beside ints (beside (list local_piece) (list string))) s r
       → Check words text ValidDebug debug_piece s r
-  debug_checked c d f =
+  unfolding Both beside
+  debug_checked c =
       check_as
       (λ v k. record { value = record { lines = v.0; locals = v.1.0; upvalues = v.1.1 }; valid = record { lines = k.0; locals = k.1.0; upvalues = k.1.1 }; same = same_refl })
       (λ v k h. record { value = (v.lines, (v.locals, v.upvalues)); valid = (k.lines, (k.locals, k.upvalues)); same = same_refl })
-      (check_then c (check_then d f))
+      c
+
+abbrev pub AnyWord : ℕ → Type 0
+AnyWord = Within 0 4294967295
 
 -- a function, with the four bytes of its packed word
 abbrev parts_from : Source → ℕ → ℕ → ℕ → List ℕ → List Constant → Debug → Parts
@@ -195,30 +203,34 @@ parts_from source first last w code constants debug =
 packed_word : (w : ℕ) → Word w → ((w / 16777216 * 256 + w / 65536 % 256) * 256 + w / 256 % 256) * 256 + w % 256 ≡ w
 packed_word w h = omega arith
 
+any : {w : ℕ} → Word w → AnyWord w
+any h = record { above = zero-le; below = omega arith }
+
 word_packed : (p : Parts) → ValidParts p → Word (packed p)
 word_packed p v = omega arith
 
 module _ {words text : List ℕ} where
   -- its parts, one behind the other
-  pub function_checked : {allowance : ℕ} {s a b c d e f g h i r : Checked} → (allowance ≡ 0 → ⊥) → Check words text ValidSource source_piece s a
-      → ((t : List ℕ) → Check words t (Within 0 4294967295) word a b) → ((t : List ℕ) → Check words t (Within 0 4294967295) word b c) → ((t : List ℕ) → Check words t (Within 0 4294967295) word c d)
-      → ((t : List ℕ) → Check words t (ValidList Word) ints d e) → Check words text (ValidList ValidConstant) (list constant_piece) e f → Check words text (ValidChildren (allowance - 1)) children_piece f g
-      → ((t : List ℕ) → Check words t (ValidList Word) ints g h) → Check words text (ValidList ValidLocal) (list local_piece) h i → Check words text (ValidList (λ n. Name n)) (list string) i r
+  pub function_checked : {allowance : ℕ} {s : Reached} {r : Answer Reached} → (allowance ≡ 0 → ⊥)
+      → Check words text
+      (Both ValidSource (Both AnyWord (Both AnyWord (Both AnyWord (Both (ValidList Word) (Both (ValidList ValidConstant) (Both (ValidChildren (allowance - 1)) ValidDebug)))))))
+      (beside source_piece (beside word (beside word (beside word (beside ints (beside (list constant_piece) (beside children_piece debug_piece)))))))
+      s r
       → Check words text (λ k. Valid k allowance) function_piece s r
-  unfolding Valid function_piece
-  function_checked {allowance} z c₁ c₂ c₃ c₄ c₅ c₆ c₇ c₈ c₉ c₁₀ =
+  unfolding Valid function_piece Both beside
+  function_checked {allowance} z c =
       let y : allowance ≡ suc (allowance - 1) = omega arith in
       rw y
       (check_of
-      (check_then c₁ (check_then (any_word (c₂ text)) (check_then (any_word (c₃ text)) (check_then (any_word (c₄ text)) (check_then (c₅ text) (check_then c₆ (check_then c₇ (debug_checked (c₈ text) c₉ c₁₀))))))))
+      c
       (λ v k. record {
         value = Function.function (parts_from v.0 v.1.0 v.1.1.0 v.1.1.1.0 v.1.1.1.1.0 v.1.1.1.1.1.0 v.1.1.1.1.1.1.1) v.1.1.1.1.1.1.0;
         valid = (
           record {
             source = k.0;
-            line_defined = k.1.0;
-            last_line_defined = k.1.1.0;
-            num_upvalues = omega (arith, k.1.1.1.0);
+            line_defined = omega (arith, k.1.0.below);
+            last_line_defined = omega (arith, k.1.1.0.below);
+            num_upvalues = omega (arith, k.1.1.1.0.below);
             num_params = omega arith;
             is_vararg = omega arith;
             max_stack_size = omega arith;
@@ -229,21 +241,21 @@ module _ {words text : List ℕ} where
           k.1.1.1.1.1.1.0.short,
           k.1.1.1.1.1.1.0.all,
         );
-        same = rw (packed_word v.1.1.1.0 k.1.1.1.0) same_refl;
+        same = rw (packed_word v.1.1.1.0 (omega (arith, k.1.1.1.0.below))) same_refl;
       })
       (elim [
         | Function.function p fs ↦ λ k h. record {
           value = (p.source, (p.line_defined, (p.last_line_defined, (packed p, (p.code, (p.constants, (fs, p.debug)))))));
           valid = (
             k.0.source,
-            (k.0.line_defined, (k.0.last_line_defined, (word_packed p k.0, (k.0.code, (k.0.constants, (record { short = k.1; all = k.2 }, k.0.debug)))))),
+            (any k.0.line_defined, (any k.0.last_line_defined, (any (word_packed p k.0), (k.0.code, (k.0.constants, (record { short = k.1; all = k.2 }, k.0.debug)))))),
           );
           same = same_refl;
         }
       ]))
 
-  pub function_deep : {n : ℕ} {s r : Checked} → n ≡ 0 → r.ok ≡ false → Check words text (λ f. Valid f n) function_piece s r
-  function_deep e o = check_wrong o (λ h f k t. none_deep e f k)
+  pub function_deep : {n : ℕ} {s : Reached} → n ≡ 0 → Check words text (λ f. Valid f n) function_piece s None
+  function_deep e = check_wrong (λ f k t. none_deep e f k)
 
 -- ---- a whole store
 
@@ -260,21 +272,39 @@ pub held_no : (words text : List ℕ) → ((f : Function) → Holds words text f
 held_no words text k =
     (elim (tree_of words text) as (λ x. tree_of words text ≡ x → false ≡ is_held x) [ none ↦ λ e. refl | some f ↦ λ e. absurd (k f (tree_holds words text f e)) ]) refl
 
-module _ {words text : List ℕ} {r : Checked} (c : Check words text (λ f. Valid f depth) function_piece (record { ok = true; at = 0; to = 0 }) r) where
+module _ {words text : List ℕ} {r : Answer Reached} (c : Check words text (λ f. Valid f depth) function_piece (record { at = 0; to = 0 }) r) where
   -- what holds a tree is passed to its end
-  pub store_passed : (f : Function) → Holds words text f → (r.ok ≡ true) × (r.at ≡ length words) × (r.to ≡ length text)
+  pub store_passed : (f : Function) → Holds words text f → r ≡ Some (record { at = length words; to = length text })
   store_passed f h =
-      let p = c.complete refl f h.valid (record { in_words = whole_here (words_of f) words h.words_are; in_text = whole_here (text_of f) text h.text_is }) in
-      (p.ok, p.at ∙ rw h.words_are (omega arith), p.to ∙ rw h.text_is (omega arith))
+      c.complete f h.valid (record { in_words = whole_here (words_of f) words h.words_are; in_text = whole_here (text_of f) text h.text_is }) ∙ rw (h.words_are, h.text_is, zero-add (length words), zero-add (length text))
 
   -- what is passed to its end holds a tree
-  pub store_held : r.ok ≡ true → r.at ≡ length words → length words ≤ most → length text ≤ most → eqb r.to (length text) ≡ is_held (tree_of words text)
-  store_held o e k l = elim (ℕ_discrete r.to (length text)) [
-    | yes h ↦
-        let x = (c.sound o).1 in
-        let p = check_passed c o in
-        let w : words_of x.value ≡ words = here_whole words (words_of x.value) x.stands.in_words (omega (arith, p.at)) in
-        let t : text_of x.value ≡ text = here_whole text (text_of x.value) x.stands.in_text (omega (arith, p.to)) in
-        eq-eqb r.to (length text) h ∙ rw (holds_tree (record { valid = x.valid; words_are = w; text_is = t; words_fit = k; text_fits = l }))
-    | no h ↦ ne_eqb r.to (length text) h ∙ held_no words text (λ f g. h (store_passed f g).2)
-  ]
+  pub store_held : r ≡ Some (record { at = length words; to = length text }) → length words ≤ most → length text ≤ most → true ≡ is_held (tree_of words text)
+  store_held o k l =
+      let x = c.sound _ o in
+      let p : record { at = length words; to = length text } ≡ behind (function_piece x.value) (record { at = 0; to = 0 }) = same_Some _ _ (sym o ∙ c.complete x.value x.valid x.stands) in
+      let a : length words ≡ 0 + length (words_of x.value) = ap (λ q. q.at) p in
+      let b : length text ≡ 0 + length (text_of x.value) = ap (λ q. q.to) p in
+      let w : words_of x.value ≡ words = here_whole words (words_of x.value) x.stands.in_words (omega arith) in
+      let t : text_of x.value ≡ text = here_whole text (text_of x.value) x.stands.in_text (omega arith) in
+      rw (holds_tree (record { valid = x.valid; words_are = w; text_is = t; words_fit = k; text_fits = l }))
+
+  pub store_no : (r ≡ Some (record { at = length words; to = length text }) → ⊥) → false ≡ is_held (tree_of words text)
+  store_no n = held_no words text (λ f h. n (store_passed f h))
+
+  -- the answer of the test that it is passed to its end, by a test of places
+  pub store_answer : {b : Bool} (E : Reached → Reached → Bool) → ((x y : Reached) → E x y ≡ (eqb x.at y.at && eqb x.to y.to)) → b ≡ option_eq E r (Some (record { at = length words; to = length text }))
+      → length words ≤ most → length text ≤ most → b ≡ is_held (tree_of words text)
+  store_answer E d e k l = e ∙ go r refl
+    where
+      go : (x : Answer Reached) → r ≡ x → option_eq E x (Some (record { at = length words; to = length text })) ≡ is_held (tree_of words text)
+      go None h = store_no (λ z. no_answer (sym h ∙ z))
+      go (Some q) h =
+          rw d
+          (elim (ℕ_discrete q.at (length words)) [
+            | no a ↦ rw (ne_eqb q.at (length words) a) (store_no (λ z. a (ap (λ p. p.at) (same_Some _ _ (sym h ∙ z)))))
+            | yes a ↦ elim (ℕ_discrete q.to (length text)) [
+              | no t ↦ rw (eq-eqb q.at (length words) a, ne_eqb q.to (length text) t) (store_no (λ z. t (ap (λ p. p.to) (same_Some _ _ (sym h ∙ z)))))
+              | yes t ↦ rw (eq-eqb q.at (length words) a, eq-eqb q.to (length text) t) (store_held (h ∙ rw (a, t)) k l)
+            ]
+          ])

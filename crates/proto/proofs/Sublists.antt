@@ -1,6 +1,6 @@
 -- A list that stands at a place of another: its length, its items, and two of them one behind the other.
-use Rattle.lent.proofs.Prelude.{ℕ, ◌+◌, ◌-◌, ◌≤◌, ◌<◌, min, ◌≡◌, refl, sym, ap, ◌∙◌, List, [], ◌∷◌, ◌++◌, append_assoc, append-nil, arith, length, take, drop, get_or, length-append, length-drop, take-append-drop, drop_of_length-le, get_or-append, drop_at, drop-drop, get_or-drop, take_all, take-length, length-take-le, drop-length, dec_le}
-use Rattle.format.specs.Stored.{part, Here}
+use Rattle.lent.proofs.Prelude.{ℕ, ◌+◌, ◌-◌, ◌≤◌, ◌<◌, ◌≡◌, refl, sym, ap, ◌∙◌, List, [], ◌∷◌, ◌++◌, append_assoc, append-nil, arith, length, take, drop, get_or, length-append, length-drop, take-append-drop, get_or-append, drop_at, drop-drop, get_or-drop, length-take-le}
+use Rattle.format.specs.Stored.{Here}
 use Rattle.lent.proofs.Lists.{drop_more}
 use Rattle.format.proofs.Stored.{here_left}
 use Rattle.proto.specs.Walk.{Skips}
@@ -58,23 +58,3 @@ here_whole xs l h e =
 
 pub whole_here : (l xs : List ℕ) → l ≡ xs → Here xs 0 l
 whole_here l xs e = record { more = []; is = sym e ∙ sym (append-nil l) }
-
--- ---- a part that goes no farther than the list
-
-take_min : (n : ℕ) (l : List ℕ) → take (min n (length l)) l ≡ take n l
-take_min n l = elim (dec_le n (length l)) [
-  | yes h ↦ let e : min n (length l) ≡ n = omega arith in rw e
-  | no h ↦ let e : min n (length l) ≡ length l = omega arith in rw (e, take_all n l (omega arith)) (take-length l)
-]
-
-drop_min : (n : ℕ) (l : List ℕ) → drop (min n (length l)) l ≡ drop n l
-drop_min n l = elim (dec_le n (length l)) [
-  | yes h ↦ let e : min n (length l) ≡ n = omega arith in rw e
-  | no h ↦ let e : min n (length l) ≡ length l = omega arith in rw (e, drop-length l) (sym (drop_of_length-le l {i = n} (omega arith)))
-]
-
-pub part_clamped : (l : List ℕ) (start n a e : ℕ) → a ≡ min start (length l) → e ≡ min n (length l - a) → take (a + e - a) (drop a l) ≡ part l start n
-part_clamped l start n a e p q =
-    let d : drop a l ≡ drop start l = rw p (drop_min start l) in
-    let g : a + e - a ≡ min n (length (drop a l)) = rw length-drop (omega arith) in
-    rw g (take_min n (drop a l)) ∙ ap (take n) d

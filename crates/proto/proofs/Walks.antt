@@ -2,15 +2,15 @@
 use Rattle.lent.proofs.Prelude.{ℕ, suc, ◌+◌, ◌-◌, ◌*◌, ◌≤◌, min, ◌≡◌, refl, sym, ◌∙◌, List, [], ◌∷◌, arith, add-zero, add_assoc, length, get_or, length-append}
 use Rattle.lent.specs.Memory.{far}
 use Rattle.format.specs.Tree.{Debug, Parts, Function, Functions, count}
-use Rattle.format.specs.Store.{Piece, plain, word, ◌⊕◌, string, pieces, list, ints, source_piece, local_piece, debug_piece, function_piece, function_pieces, children_piece}
+use Rattle.format.specs.Store.{Piece, plain, word, ◌⊕◌, string, pieces, list, ints, local_piece, debug_piece, function_piece, function_pieces, children_piece}
 use Rattle.format.specs.Valid.{Valid, ValidAll}
 use Rattle.format.specs.Stored.{Here}
 use Rattle.format.proofs.Stored.{here_left, here_right}
-use Rattle.proto.specs.Walk.{Stands, Skips, SkipsItems, Past, total, total_all, Passes, PassesAll, to_code, to_functions}
+use Rattle.proto.specs.Walk.{Stands, Skips, SkipsItems, Past, total, total_all, Passes, PassesAll, to_functions}
 use Rattle.proto.specs.Lists.{WalksToLines}
 use Rattle.proto.specs.declared.walk.Next.{Next}
 use Rattle.proto.proofs.Sublists.{here_get}
-use Rattle.proto.proofs.Pieces.{Same, same_sym, same_assoc, function_debug, stands_left, stands_right, source_words, pieces_words}
+use Rattle.proto.proofs.Pieces.{Same, same_sym, same_assoc, function_debug, stands_left, stands_right, pieces_words}
 
 module _ {words : List ℕ} where
   pub past_none : {at : ℕ} → Past words (plain []) at at
@@ -57,9 +57,6 @@ module _ {words : List ℕ} where
             let n : length ((pieces piece l).words (to + 0)) ≡ k * length l = pieces_words piece k e l (to + 0) in
             s.skips (length l) ((pieces piece l).words (to + 0)) n h ∙ omega arith;
       }
-
-  pub past_head : {at r : ℕ} (p : Parts) (fs : Functions) → Skips words 6 at r → Past words (to_code p fs) at r
-  past_head p fs s = past_words 6 (to_code p fs) (λ to. length-append ((source_piece p.source).words to) _ ∙ rw (source_words p.source to)) s
 
   -- ---- functions
 

@@ -1,12 +1,12 @@
 -- Whether a store is well formed, and what a step of the check answers.
-use Rattle.std.specs.Prelude.{ℕ, ◌+◌, ◌-◌, ◌≤◌, ◌≡◌, List, [], ◌∷◌, Bool, true, false, length}
+use Rattle.std.specs.Prelude.{ℕ, ◌+◌, ◌-◌, ◌≤◌, ◌≡◌, List, [], ◌∷◌, Bool, true, false, Option as Answer, Some, length}
 use Rattle.std.proofs.Math.Option.{Option, none, some}
 use Rattle.format.specs.Tree.{Function, Functions, count}
 use Rattle.format.specs.Read.{limit}
-use Rattle.format.specs.Store.{Piece, plain}
+use Rattle.format.specs.Store.{Piece, ◌⊕◌, plain}
 use Rattle.format.specs.Valid.{ValidAll}
 use Rattle.proto.specs.Walk.{Stands}
-use Rattle.proto.specs.declared.formed.Checked.{Checked}
+use Rattle.proto.specs.declared.formed.Reached.{Reached}
 
 -- whether there is a tree
 abbrev pub is_held : Option Function → Bool
@@ -16,21 +16,19 @@ is_held (some f) = true
 -- ---- a step of the check
 
 -- a valid value, whose piece stands there
-pub record Found {A : Type 0} (words text : List ℕ) (ok : A → Type 0) (piece : A → Piece) (s : Checked) : Type 0 where
+pub record Found {A : Type 0} (words text : List ℕ) (ok : A → Type 0) (piece : A → Piece) (s : Reached) : Type 0 where
   pub value : A
   pub valid : ok value
   pub stands : Stands words text s.at s.to (piece value)
 
--- from s to r past a piece
-pub record Passed (p : Piece) (s r : Checked) : Type 0 where
-  pub ok : r.ok ≡ true
-  pub at : r.at ≡ s.at + length (p.words s.to)
-  pub to : r.to ≡ s.to + length p.text
+-- the places behind a piece
+abbrev pub behind : Piece → Reached → Reached
+behind p s = record { at = s.at + length (p.words s.to); to = s.to + length p.text }
 
--- from s to r: past a valid value where one stands, and else not well formed
-pub record Check {A : Type 0} (words text : List ℕ) (ok : A → Type 0) (piece : A → Piece) (s r : Checked) : Type 0 where
-  pub sound : r.ok ≡ true → (s.ok ≡ true) × Found words text ok piece s
-  pub complete : s.ok ≡ true → (a : A) → ok a → Stands words text s.at s.to (piece a) → Passed (piece a) s r
+-- what a step from s answers: the places behind a valid value where one stands, and else None
+pub record Check {A : Type 0} (words text : List ℕ) (ok : A → Type 0) (piece : A → Piece) (s : Reached) (r : Answer Reached) : Type 0 where
+  pub sound : (q : Reached) → r ≡ Some q → Found words text ok piece s
+  pub complete : (a : A) → ok a → Stands words text s.at s.to (piece a) → r ≡ Some (behind (piece a) s)
 
 -- what a test of room says: n items from a place on are within so many, or they are not
 pub record Room (r : Bool) (len at n : ℕ) : Type 0 where
@@ -42,6 +40,13 @@ pub record Room (r : Bool) (len at n : ℕ) : Type 0 where
 pub record Within (low high w : ℕ) : Type 0 where
   pub above : low ≤ w
   pub below : w ≤ high
+
+-- one value beside another
+unfoldable pub Both : {A B : Type 0} → (A → Type 0) → (B → Type 0) → A × B → Type 0
+Both P Q v = P v.0 × Q v.1
+
+unfoldable pub beside : {A B : Type 0} → (A → Piece) → (B → Piece) → A × B → Piece
+beside p q v = p v.0 ⊕ q v.1
 
 -- three words: a kind, and two with their greatest values
 pub record Words : Type 0 where

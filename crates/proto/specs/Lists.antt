@@ -1,10 +1,11 @@
 -- Where the lists of a function stand.
-use Rattle.std.specs.Prelude.{ℕ, suc, ◌≡◌, List, get_or}
+use Rattle.std.specs.Prelude.{ℕ, suc, ◌≡◌, List, Option, None, Some, get_or}
 use Rattle.format.specs.Tree.{Parts, Functions}
 use Rattle.format.specs.Store.{list, ints, string, constant_piece, local_piece, children_piece}
 use Rattle.format.specs.Valid.{ValidAll}
 use Rattle.proto.specs.Walk.{StandsAt, Past, Passes, total_all, to_code, to_constants, to_functions, to_lines, to_locals, to_upvalues}
 use Rattle.proto.specs.declared.lists.Lists.{Lists}
+use Rattle.proto.specs.declared.lists.Kept.{Kept}
 use Rattle.proto.specs.declared.walk.Next.{Next}
 
 -- the lists of a function stand at their places
@@ -31,9 +32,9 @@ pub record ListsFound (words : List ℕ) (at : ℕ) (p : Parts) (fs : Functions)
 pub record LinesAt (words : List ℕ) (allowance at r : ℕ) : Type 0 where
   pub past : (p : Parts) (fs : Functions) → ValidAll fs allowance → Past words (to_lines p fs) at r
 
--- for each allowance the place of a function and of its lines, which is 0 where none is kept
-pub record LinesKept (words begins lines : List ℕ) : Type 0 where
-  pub kept : (k : ℕ) → (get_or lines k 0 ≡ 0 → ⊥) → LinesAt words k (get_or begins k 0) (get_or lines k 0)
+-- what is kept, for each allowance, is the place of a function and that of its lines
+pub record LinesKept (words : List ℕ) (all : List (Option Kept)) : Type 0 where
+  pub kept : (k : ℕ) (x : Kept) → get_or all k None ≡ Some x → LinesAt words k x.begin x.lines
 
 -- what a walk through the functions in a function finds
 abbrev pub WalksToLines : List ℕ → ℕ → Next → Next → Type 0

@@ -1,13 +1,14 @@
 -- The functions of a tree in its store: where each begins, and its source.
-use Rattle.std.specs.Prelude.{ℕ, ◌+◌, ◌≡◌, List, [], ◌∷◌, ◌++◌, true, false, cond, length, eqb}
+use Rattle.std.specs.Prelude.{ℕ, ◌+◌, ◌≡◌, List, [], ◌∷◌, ◌++◌, true, false, cond, length, eqb, Result, Ok, Err}
 use Rattle.std.proofs.Math.Option.{Option, none, some}
 use Rattle.format.specs.Tree.{Source, Function, Functions, filled}
 use Rattle.format.specs.Store.{function_piece}
 use Rattle.format.specs.Stored.{tree_of, Here}
 use Rattle.format.specs.Dump.{under_name, on_tree}
+use Rattle.format.specs.Refusal.{number}
+use Rattle.format.specs.declared.Refusal.{Refusal}
 use Rattle.proto.specs.Walk.{to_functions}
 use Rattle.proto.specs.declared.place.Span.{Span}
-use Rattle.proto.specs.declared.place.Sought.{Sought}
 use Rattle.proto.specs.declared.place.SourceAt.{SourceAt}
 
 -- ---- sources
@@ -15,7 +16,7 @@ use Rattle.proto.specs.declared.place.SourceAt.{SourceAt}
 -- where a function's source stands, its text being at a place: the one around it where it is inherited
 abbrev pub span_of : Span → ℕ → Source → Span
 span_of around to Source.inherited = around
-span_of around to (Source.own s) = record { in_text = 1; start = to; end = to + length s }
+span_of around to (Source.own s) = record { in_text = true; start = to; end = to + length s }
 
 -- a source filled in: its bytes, and where they stand
 pub record Filled : Type 0 where
@@ -27,7 +28,7 @@ filled_in around to s = record { bytes = filled around.bytes s; span = span_of a
 
 -- the chunk name, for which the root's stands where it is inherited
 abbrev pub chunk_name : List ℕ → Filled
-chunk_name name = record { bytes = name; span = record { in_text = 0; start = 0; end = length name } }
+chunk_name name = record { bytes = name; span = record { in_text = false; start = 0; end = length name } }
 
 -- ---- functions in preorder, each with the place where it begins
 
@@ -59,12 +60,12 @@ function_at f name place = begins_at place (placed f 0 0 (chunk_name name))
 
 -- ---- the search
 
--- what it answers: the function's source, or the place behind those searched
-abbrev pub Seeks : Option Placed → ℕ → Sought → Type 0
-Seeks none end r = (r.found ≡ false) × (r.at ≡ end)
-Seeks (some x) end r = (r.found ≡ true) × (r.source ≡ x.source.span)
+-- what it answers: where the function's source stands, or else the place behind those searched
+abbrev pub Seeks : Option Placed → ℕ → Result Span ℕ → Type 0
+Seeks none end r = r ≡ Err end
+Seeks (some x) end r = r ≡ Ok x.source.span
 
-pub record Search (words : List ℕ) (place : ℕ) (around : Span) (f : Function) (at : ℕ) (r : Sought) : Type 0 where
+pub record Search (words : List ℕ) (place : ℕ) (around : Span) (f : Function) (at : ℕ) (r : Result Span ℕ) : Type 0 where
   pub seeks : (to : ℕ) (bytes : List ℕ) → Here words at ((function_piece f).words to)
       → Seeks (begins_at place (placed f at to (record { bytes = bytes; span = around }))) (at + length ((function_piece f).words to)) r
 
@@ -87,12 +88,21 @@ abbrev pub no_source : ℕ → SourceAt
 no_source n = record { refusal = n; in_text = 0; start = 0; end = 0 }
 
 abbrev pub span_answer : Span → SourceAt
-span_answer z = record { refusal = 0; in_text = z.in_text; start = z.start; end = z.end }
+span_answer z = record { refusal = 0; in_text = cond z.in_text 1 0; start = z.start; end = z.end }
+
+-- the answer of a call that finds a source or is refused
+abbrev pub source_result : Result Span Refusal → SourceAt
+source_result (Ok z) = span_answer z
+source_result (Err e) = no_source (number e)
+
+-- where the source of the function at a place stands, under a chunk name that is good
+unfoldable pub found_answer : List ℕ → List ℕ → List ℕ → ℕ → SourceAt
+found_answer words text name place = on_tree no_source (λ f. on_function no_source (λ x. span_answer x.source.span) (function_at f name place)) (tree_of words text)
 
 -- source_at: where the source of the function at a place stands
 unfoldable pub source_answer : List ℕ → List ℕ → List ℕ → ℕ → SourceAt
 source_answer words text name place =
-    under_name no_source name (on_tree no_source (λ f. on_function no_source (λ x. span_answer x.source.span) (function_at f name place)) (tree_of words text))
+    under_name no_source name (found_answer words text name place)
 
 -- source: its bytes, none where source_at refuses
 unfoldable pub source_part : List ℕ → List ℕ → List ℕ → ℕ → List ℕ

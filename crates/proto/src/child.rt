@@ -4,9 +4,8 @@ ghost use Rattle.std.specs.Prelude.{◌≡◌, ℕ, ◌≤◌};
 ghost use Rattle.proto.specs.Children.{ChildAt};
 
 use crate::walk::{Next, pass_all, skip};
-use lent::further;
 
-// A function in a function: its index, the place where it begins, and its number in preorder.
+// A function in a function: its index, the place where it begins, and its number in preorder. Place and number are no Next, as all who hold a child read them; so the fields are copied.
 #[derive(Clone, Copy)]
 pub struct Child {
     pub index: u32,
@@ -21,7 +20,7 @@ pub fn first_child(words: &[u32], functions: usize, number: usize) -> Child
     Child {
         index: 0,
         at: skip(words, functions, 1),
-        number: further(number, 1),
+        number: number.saturating_add(1),
     }
 }
 

@@ -1,23 +1,19 @@
 // The constants of a store. Where none stands at the place asked the answer is open, since the calls check the store first.
 ghost use Rattle.proto.specs.Constants.{ConstantAt};
 
-use crate::formed::is_within;
 use format::Constant;
 
-// The constant at a place, a string by its place and length in the text.
+// The constant at a place, a string by its place and length in the text. Its kind by number: 0, 1, 3, 4 are the format's tags.
 pub fn constant_at(words: &[u32], at: usize) -> Constant
     ensures { ConstantAt words.now at result }
 {
-    if !is_within(words.len(), at, 3) {
+    let Some([kind, a, b, ..]) = words.get(at..) else {
         return Constant::Nil;
-    }
-    let kind = words[at];
-    let a = words[at + 1];
-    let b = words[at + 2];
-    match kind {
+    };
+    match *kind {
         0 => Constant::Nil,
-        1 => Constant::Bool(a != 0),
-        3 => Constant::Num(a, b),
-        _ => Constant::String(a as usize, b as usize),
+        1 => Constant::Bool(*a != 0),
+        3 => Constant::Num(*a, *b),
+        _ => Constant::String(*a as usize, *b as usize),
     }
 }

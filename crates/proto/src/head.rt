@@ -26,12 +26,13 @@ pub fn head_at(words: &[u32], at: usize) -> Head
     let line_defined = word_at(words, skip(words, at, 3));
     let last_line_defined = word_at(words, skip(words, at, 4));
     let packed = word_at(words, skip(words, at, 5));
+    let [num_upvalues, num_params, is_vararg, max_stack_size] = packed.to_be_bytes();
     Head {
         line_defined,
         last_line_defined,
-        num_upvalues: packed / 16777216,
-        num_params: packed / 65536 % 256,
-        is_vararg: packed / 256 % 256,
-        max_stack_size: packed % 256,
+        num_upvalues: u32::from(num_upvalues),
+        num_params: u32::from(num_params),
+        is_vararg: u32::from(is_vararg),
+        max_stack_size: u32::from(max_stack_size),
     }
 }

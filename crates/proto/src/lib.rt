@@ -7,4 +7,5 @@ pub mod formed;
 pub mod head;
 pub mod lists;
 pub mod place;
+pub mod store;
 pub mod walk;

@@ -1,29 +1,22 @@
 // The function that begins at a place of a store, and its source.
-ghost use Rattle.std.specs.Prelude.{◌≡◌, ℕ};
+ghost use Rattle.std.specs.Prelude.{◌≡◌, ℕ, false};
 ghost use Rattle.format.specs.Tree.{Source, Function};
 ghost use Rattle.format.specs.Store.{source_piece};
-ghost use Rattle.format.specs.Valid.{depth, Valid};
+ghost use Rattle.format.specs.Valid.{Valid};
+ghost use Rattle.format.specs.Refusal.{number, RefusedBy};
 ghost use Rattle.format.specs.Stored.{Here};
-ghost use Rattle.proto.specs.Places.{span_of, Search, place_refusal, no_source, source_answer, source_part};
+ghost use Rattle.proto.specs.Places.{span_of, Search, place_refusal, no_source, source_result, found_answer, source_answer, source_part};
 
-use crate::formed::{check_store, name_ok};
+use crate::store::Store;
 use crate::walk::{after_debug, functions_at, part, skip, word_at};
-use format::DEPTH;
+use format::{DEPTH, Refusal, name_ok};
 
-// Where a source stands: in the text, or in the chunk name where in_text is 0.
+// Where a source stands: in the text, or else in the chunk name. A flag beside the places, as both have both ends, and the answer for C has the flag.
 #[derive(Clone, Copy)]
 pub struct Span {
-    pub in_text: u32,
+    pub in_text: bool,
     pub start: usize,
     pub end: usize,
-}
-
-// The function looked for with its source, or else the place behind those searched.
-#[derive(Clone, Copy)]
-pub struct Sought {
-    pub found: bool,
-    pub at: usize,
-    pub source: Span,
 }
 
 // The answer of source_at.
@@ -46,82 +39,70 @@ fn own_span(words: &[u32], at: usize, around: Span) -> Span
     let start = word_at(words, skip(words, at, 1)) as usize;
     let len = word_at(words, skip(words, at, 2)) as usize;
     Span {
-        in_text: 1,
+        in_text: true,
         start,
         end: start + len,
     }
 }
 
-// Looks for the function that begins at a place, in the one that stands at another.
-fn seek(words: &[u32], at: usize, place: usize, around: Span, allowance: u32) -> Sought
+// Looks for the function that begins at a place, in the one that stands at another. Answers where its source stands, or the place behind those searched.
+fn seek(words: &[u32], at: usize, place: usize, around: Span, allowance: u32) -> Result<Span, usize>
     ensures { (f : Function) → Valid f allowance → Search words.now place around f at result }
 {
     if allowance == 0 {
-        return Sought {
-            found: false,
-            at,
-            source: around,
-        };
+        return Err(at);
     }
     let source = own_span(words, at, around);
     if place == at {
-        return Sought {
-            found: true,
-            at,
-            source,
-        };
+        return Ok(source);
     }
     let list = functions_at(words, at);
     let n = word_at(words, list);
     let mut next = skip(words, list, 1);
-    let mut i: u32 = 0;
-    while i < n {
-        let r = seek(words, next, place, source, allowance - 1);
-        if r.found {
-            return r;
+    for _ in 0..n {
+        match seek(words, next, place, source, allowance - 1) {
+            Ok(found) => return Ok(found),
+            Err(behind) => next = behind,
         }
-        next = r.at;
-        i += 1;
     }
-    Sought {
-        found: false,
-        at: after_debug(words, next),
-        source,
-    }
+    Err(after_debug(words, next))
 }
 
-// Looks for it in a whole store, whose chunk name has so many bytes.
-fn seek_root(words: &[u32], place: usize, name: usize) -> Sought
-    ensures { (f : Function) → Valid f depth → Search words.now place (record { in_text = 0; start = 0; end = name }) f 0 result }
-{
-    let around = Span {
-        in_text: 0,
-        start: 0,
-        end: name,
-    };
-    seek(words, 0, place, around, DEPTH)
-}
-
-// The refusal of a call on the function at a place: 10, 12, or 0 for none.
-pub fn place_refusal(words: &[u32], text: &[u8], place: usize) -> u32
-    ensures { result ≡ place_refusal words.now text.now place }
-{
-    if !check_store(words, text) {
-        return 10;
+impl<'a> Store<'a> {
+    // Where the source of the function at a place stands, under a chunk name: refused by 10, 12.
+    fn find(self, name: &[u8], place: usize) -> Result<Span, Refusal>
+        ensures { source_result result ≡ found_answer self.entry.words.now self.entry.text.now name.now place }
+    {
+        if !self.is_held() {
+            return Err(Refusal::BadStore);
+        }
+        let around = Span {
+            in_text: false,
+            start: 0,
+            end: name.len(),
+        };
+        // by match: tried map_err, whose promise is that of its closure, and the answer found did not follow from it
+        match seek(self.words, 0, place, around, DEPTH) {
+            Ok(source) => Ok(source),
+            Err(_) => Err(Refusal::NoFunction),
+        }
     }
-    if seek_root(words, place, 0).found {
-        0
-    } else {
-        12
+
+    // Whether it holds a tree, and a function begins at a place: refused by 10, 12.
+    pub fn has_function(self, place: usize) -> Result<(), Refusal>
+        ensures { RefusedBy (place_refusal self.entry.words.now self.entry.text.now place) result }
+    {
+        self.find(&[], place)?;
+        Ok(())
     }
 }
 
 // A refused answer.
-fn no_source(refusal: u32) -> SourceAt
-    ensures { result ≡ no_source refusal }
+fn no_source(refusal: Refusal) -> SourceAt
+    ensures { result ≡ no_source (number refusal) }
 {
     SourceAt {
-        refusal,
+        refusal: refusal.number(),
         in_text: 0,
         start: 0,
         end: 0,
@@ -133,21 +114,17 @@ pub fn source_at(words: &[u32], text: &[u8], name: &[u8], place: usize) -> Sourc
     ensures { result ≡ source_answer words.now text.now name.now place }
 {
     if !name_ok(name) {
-        return no_source(1);
+        return no_source(Refusal::BadName);
     }
-    if !check_store(words, text) {
-        return no_source(10);
-    }
-    let r = seek_root(words, place, name.len());
-    if !r.found {
-        return no_source(12);
-    }
-    let source = r.source;
-    SourceAt {
-        refusal: 0,
-        in_text: source.in_text,
-        start: source.start,
-        end: source.end,
+    let store = Store { words, text };
+    match store.find(name, place) {
+        Ok(source) => SourceAt {
+            refusal: 0,
+            in_text: u32::from(source.in_text),
+            start: source.start,
+            end: source.end,
+        },
+        Err(e) => no_source(e),
     }
 }
 

@@ -1,13 +1,12 @@
--- The tests of one instruction, the code's items, and the walk from one instruction to the next.
-use Rattle.lent.proofs.Prelude.{ℕ, zero, suc, ◌+◌, ◌*◌, ◌-◌, ◌≤◌, ◌<◌, ◌≡◌, sym, ap, ◌∙◌, List, true, false, cond, and-false, arith, dec_lt, length, get_or, get_or-eq_default, lt-ltb, le-ltb}
+-- The tests of one instruction, and the walk from one instruction to the next.
+use Rattle.lent.proofs.Prelude.{ℕ, zero, suc, ◌+◌, ◌-◌, ◌≤◌, ◌<◌, ◌≡◌, ap, ◌∙◌, List, true, false, cond, and-false, arith, dec_lt, length, get_or, lt-ltb, le-ltb}
 use Rattle.format.specs.Tree.{Function, Functions}
 use Rattle.format.specs.Valid.{depth, ValidAll}
 use Rattle.format.specs.Store.{ints, children_piece}
 use Rattle.instructions.specs.Fields.{MAXARG_sBx, GETARG_Bx}
 use Rattle.instructions.specs.OpCodes.{opcode}
-use Rattle.proto.specs.Walk.{Skips, StandsAt, children}
+use Rattle.proto.specs.Walk.{StandsAt, children}
 use Rattle.proto.specs.Children.{ChildAt}
-use Rattle.proto.proofs.Items.{ints_count, ints_item}
 use Rattle.proto.proofs.Checks.{never}
 use Rattle.proto.specs.declared.child.Child.{Child}
 use Rattle.symbexec.specs.declared.operands.Skipped.{Skipped}
@@ -33,18 +32,6 @@ module _ (op bx lastpc reg pc : ℕ) where
     pub next_on : followed op bx lastpc reg pc ≡ false → r ≡ pc + 1 + skipped → (r ≡ next_pc op bx skipped lastpc reg pc) × (pc < r)
     unfolding next_pc
     next_on h e = (rw h e, omega arith)
-
--- ---- the code
-
-module _ {words text : List ℕ} {code x : ℕ} (l : List ℕ) (h : StandsAt words text code (ints l)) (e : x ≡ get_or words code 0) where
-  pub code_count : x ≡ length l
-  code_count = e ∙ ints_count l h.stands
-
-  pub code_past : {pc : ℕ} → x ≤ pc → 0 ≡ get_or l pc 0
-  code_past k = sym (get_or-eq_default l 0 (omega (arith, code_count)))
-
-  pub code_item : {pc r y : ℕ} → pc < x → Skips words (1 + 1 * pc) code r → y ≡ get_or words r 0 → y ≡ get_or l pc 0
-  code_item k s g = ints_item l (omega (arith, code_count)) h.stands s g
 
 -- ---- the walk
 

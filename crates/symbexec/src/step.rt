@@ -1,5 +1,5 @@
 // What an instruction writes, and which is next.
-ghost use Rattle.std.specs.Prelude.{◌≡◌, cond, ◌&&◌, ◌<◌, leb};
+ghost use Rattle.std.specs.Prelude.{◌≡◌, cond, ◌<◌};
 ghost use Rattle.instructions.specs.Fields.{GETARG_A, GETARG_B, GETARG_Bx};
 ghost use Rattle.instructions.specs.OpCodes.{opcode};
 ghost use Rattle.symbexec.specs.SymbExec.{also_writes, sets_a, writes, followed, next_pc};
@@ -12,15 +12,6 @@ use instructions::{
 // What is added to sBx in an instruction.
 const SBX: usize = MAXARG_SBX as usize;
 
-fn between(low: u32, x: u32, high: u32) -> bool
-    ensures { result ≡ (leb low x && leb x high) }
-{
-    if x < low {
-        return false;
-    }
-    x <= high
-}
-
 // Whether an instruction writes a register beside A.
 #[tactic(auto, unfolding(crate::specs::SymbExec::also_writes))]
 fn also_writes(i: Instruction, reg: u32) -> bool
@@ -29,33 +20,28 @@ fn also_writes(i: Instruction, reg: u32) -> bool
     let a = i.a();
     let op = i.opcode();
     match op {
-        OP_LOADNIL => between(a, reg, i.b()),
+        OP_LOADNIL => (a..=i.b()).contains(&reg),
         OP_SELF => reg == a + 1,
-        OP_CALL => a <= reg,
-        OP_TAILCALL => a <= reg,
+        OP_CALL | OP_TAILCALL => a <= reg,
         OP_TFORLOOP => a + 2 <= reg,
         _ => false,
     }
 }
 
 // Whether A is a register, and written.
+#[tactic(auto, unfolding(crate::specs::SymbExec::sets_a))]
 fn sets_a(i: Instruction, reg: u32) -> bool
     ensures { result ≡ sets_a (opcode i.0) (GETARG_A i.0) reg }
 {
-    if i.a() != reg {
-        return false;
-    }
-    op_modes(i.opcode()).sets_register_a
+    i.a() == reg && op_modes(i.opcode()).sets_register_a
 }
 
 // Whether an instruction writes a register.
+#[tactic(auto, unfolding(crate::specs::SymbExec::writes))]
 fn writes(i: Instruction, reg: u32) -> bool
     ensures { result ≡ writes i.0 reg }
 {
-    if sets_a(i, reg) {
-        return true;
-    }
-    also_writes(i, reg)
+    sets_a(i, reg) || also_writes(i, reg)
 }
 
 // The pc of the last write: this one, or the last before it.
@@ -66,20 +52,15 @@ pub fn latest(i: Instruction, reg: u32, pc: u32, last: u32) -> u32
 }
 
 // Whether an instruction is a jump that is followed: not for NO_REG, only forward, to lastpc at most.
+#[tactic(auto, unfolding(crate::specs::SymbExec::followed))]
 fn followed(i: Instruction, lastpc: u32, reg: u32, pc: u32) -> bool
     ensures { result ≡ followed (opcode i.0) (GETARG_Bx i.0) lastpc reg pc }
 {
-    if !is_jump(i.opcode()) {
-        return false;
-    }
-    if reg == NO_REG {
-        return false;
-    }
     let biased = pc as usize + 1 + i.bx() as usize;
-    if biased <= pc as usize + SBX {
-        return false;
-    }
-    biased <= lastpc as usize + SBX
+    is_jump(i.opcode())
+        && reg != NO_REG
+        && pc as usize + SBX < biased
+        && biased <= lastpc as usize + SBX
 }
 
 // The next pc, where so many words behind the instruction are none.

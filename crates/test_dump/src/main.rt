@@ -12,7 +12,8 @@
 use format::Undumped;
 use std::io;
 use std::io::Write;
-use test_records::{after, byte, half, part, within, word};
+use test_records::store::Space;
+use test_records::{Records, put};
 
 // The most words and text bytes of the store, and the most that are lent to read back.
 const ROOM: usize = 4096;
@@ -23,20 +24,13 @@ const BUFFER: usize = 32768;
 // What stands in lent memory before.
 const UNTOUCHED: u8 = 7;
 
-// Where the next case stands, how many words and text bytes the store has, where the dumps end, and how far they are read.
-#[derive(Clone, Copy)]
-struct State {
-    next: usize,
-    words: usize,
-    text: usize,
+// The buffer, where the dumps in it end, and how far they are read.
+// Places, not slices: the same bytes are written here and read there.
+#[derive(Drop)]
+struct Dumps {
+    buffer: [u8; BUFFER],
     end: usize,
     read: usize,
-}
-
-// The first n words, as many as there are.
-fn first(words: &[u32], n: usize) -> &[u32] {
-    let end = within(n, words.len());
-    &words[0..end]
 }
 
 // A tree read into the space lent, and its line.
@@ -55,205 +49,82 @@ fn read(
     Ok(u)
 }
 
-// T, from its numbers on: the tree of a chunk, read into the store.
-fn tree(
-    cases: &[u8],
-    at: usize,
-    name: &[u8],
-    words: &mut [u32],
-    text: &mut [u8],
-    s: State,
-    to: &mut impl Write,
-) -> io::Result<State> {
-    let w = within(half(cases, at) as usize, words.len());
-    let t = within(half(cases, after(cases, at, 2)) as usize, text.len());
-    let n = half(cases, after(cases, at, 4)) as usize;
-    let chunk = part(cases, after(cases, at, 6), n);
-    let u = read(b"T ", chunk, name, &mut words[0..w], &mut text[0..t], to)?;
-    Ok(State {
-        next: after(cases, at, 6 + n),
-        words: u.words,
-        text: u.text,
-        end: s.end,
-        read: s.read,
-    })
+// T: the tree of a chunk, read into the store.
+fn tree(cases: &mut Records, store: &mut Space<ROOM, ROOM>, to: &mut impl Write) -> io::Result<()> {
+    let name = cases.name();
+    let n = ROOM.min(cases.half() as usize);
+    let m = ROOM.min(cases.half() as usize);
+    let chunk = cases.text();
+    let words = &mut store.words[0..n];
+    let text = &mut store.text[0..m];
+    let u = read(b"T ", chunk, name, words, text, to)?;
+    store.used_words = u.words;
+    store.used_text = u.text;
+    Ok(())
 }
 
-// Another word in the store, where it is in range.
-fn put(words: &mut [u32], at: usize, w: u32) {
-    if at < words.len() {
-        words[at] = w;
-    }
-}
-
-// W, from its numbers on.
-fn changed(cases: &[u8], at: usize, words: &mut [u32], s: State) -> State {
-    let w = word(cases, after(cases, at, 2));
-    put(words, half(cases, at) as usize, w);
-    State {
-        next: after(cases, at, 6),
-        words: s.words,
-        text: s.text,
-        end: s.end,
-        read: s.read,
-    }
-}
-
-// The store dumped into the space lent, and its line. Answers how many bytes.
-fn write<'a>(
-    words: &[u32],
-    text: &'a [u8],
-    name: &'a [u8],
-    strip: bool,
-    size_4: bool,
-    out: &mut [u8],
-    to: &mut impl Write,
-) -> io::Result<usize> {
-    let w = dump::dump(words, text, name, strip, size_4, out);
-    to.write_all(b"D ")?;
-    test_output::written(w, out, to)?;
-    Ok(w.len)
-}
-
-// D, from its numbers on: the same behind the dumps so far.
-fn append<'a>(
-    cases: &[u8],
-    at: usize,
-    name: &'a [u8],
-    words: &[u32],
-    text: &'a [u8],
-    buffer: &mut [u8],
-    s: State,
-    to: &mut impl Write,
-) -> io::Result<State> {
-    let strip = byte(cases, at) != 0;
-    let size_4 = byte(cases, after(cases, at, 1)) != 0;
-    let n = half(cases, after(cases, at, 2)) as usize;
-    let from = within(s.end, buffer.len());
-    let until = from + within(n, buffer.len() - from);
-    let len = write(
-        words,
-        text,
-        name,
-        strip,
-        size_4,
-        &mut buffer[from..until],
-        to,
-    )?;
-    Ok(State {
-        next: after(cases, at, 4),
-        words: s.words,
-        text: s.text,
-        end: after(buffer, from, len),
-        read: s.read,
-    })
-}
-
-// The tree at the start of the dumps, read back with n words and m text bytes lent. Answers the bytes read.
-fn back(dumps: &[u8], name: &[u8], n: usize, m: usize, to: &mut impl Write) -> io::Result<usize> {
-    let mut words = [UNTOUCHED as u32; ROOM];
-    let mut text = [UNTOUCHED; ROOM];
-    let w = within(n, ROOM);
-    let t = within(m, ROOM);
-    let u = read(b"U ", dumps, name, &mut words[0..w], &mut text[0..t], to)?;
-    Ok(u.read)
-}
-
-// U, from its numbers on: the next tree of the buffer, read back.
-fn next_back(
-    cases: &[u8],
-    at: usize,
-    name: &[u8],
-    buffer: &[u8],
-    s: State,
-    to: &mut impl Write,
-) -> io::Result<State> {
-    let n = half(cases, at) as usize;
-    let m = half(cases, after(cases, at, 2)) as usize;
-    let from = after(buffer, s.read, 0);
-    let read = back(&buffer[from..], name, n, m, to)?;
-    Ok(State {
-        next: after(cases, at, 4),
-        words: s.words,
-        text: s.text,
-        end: s.end,
-        read: after(buffer, from, read),
-    })
-}
-
-// One case, its letter read. Another letter ends the cases.
-fn case_at(
-    cases: &[u8],
-    at: usize,
-    words: &mut [u32],
-    text: &mut [u8],
-    buffer: &mut [u8],
-    s: State,
-    to: &mut impl Write,
-) -> io::Result<State> {
-    let kind = byte(cases, s.next);
-    let k = byte(cases, at) as usize;
-    let name = part(cases, after(cases, at, 1), k);
-    let rest = after(cases, at, 1 + k);
-    match kind {
-        b'T' => tree(cases, rest, name, words, text, s, to),
-        b'W' => Ok(changed(cases, at, words, s)),
-        b'D' => {
-            let store = first(words, s.words);
-            append(
-                cases,
-                rest,
-                name,
-                store,
-                part(text, 0, s.text),
-                buffer,
-                s,
-                to,
-            )
-        }
-        b'U' => next_back(cases, rest, name, buffer, s, to),
-        _ => Ok(s),
-    }
-}
-
-// All cases.
-fn all(
-    cases: &[u8],
-    words: &mut [u32],
-    text: &mut [u8],
-    buffer: &mut [u8],
+// D: the store dumped behind the dumps so far, and its line.
+fn append(
+    cases: &mut Records,
+    store: &Space<ROOM, ROOM>,
+    dumps: &mut Dumps,
     to: &mut impl Write,
 ) -> io::Result<()> {
-    let mut s = State {
-        next: 0,
-        words: 0,
-        text: 0,
-        end: 0,
-        read: 0,
-    };
-    while s.next < cases.len() {
-        let at = s.next;
-        let r = case_at(cases, after(cases, at, 1), words, text, buffer, s, to)?;
-        if r.next <= at {
-            return Ok(());
+    let name = cases.name();
+    let strip = cases.byte() != 0;
+    let size_4 = cases.byte() != 0;
+    let n = cases.half() as usize;
+    let from = BUFFER.min(dumps.end);
+    let until = BUFFER.min(from.saturating_add(n));
+    let out = &mut dumps.buffer[from..until];
+    let w = dump::dump(store.words(), store.text(), name, strip, size_4, out);
+    to.write_all(b"D ")?;
+    test_output::written(w, out, to)?;
+    dumps.end = from.saturating_add(w.len);
+    Ok(())
+}
+
+// U: the next tree of the buffer, read back.
+fn back(cases: &mut Records, dumps: &mut Dumps, to: &mut impl Write) -> io::Result<()> {
+    let name = cases.name();
+    let n = ROOM.min(cases.half() as usize);
+    let m = ROOM.min(cases.half() as usize);
+    let mut words = [UNTOUCHED as u32; ROOM];
+    let mut text = [UNTOUCHED; ROOM];
+    let from = BUFFER.min(dumps.read);
+    let rest = &dumps.buffer[from..];
+    let u = read(b"U ", rest, name, &mut words[0..n], &mut text[0..m], to)?;
+    dumps.read = from.saturating_add(u.read);
+    Ok(())
+}
+
+// One case. Another letter ends the cases.
+fn case(
+    cases: &mut Records,
+    store: &mut Space<ROOM, ROOM>,
+    dumps: &mut Dumps,
+    to: &mut impl Write,
+) -> io::Result<()> {
+    match cases.byte() {
+        b'T' => tree(cases, store, to)?,
+        b'W' => {
+            let place = cases.half() as usize;
+            put(&mut store.words, place, cases.word());
         }
-        s = r;
+        b'D' => append(cases, store, dumps, to)?,
+        b'U' => back(cases, dumps, to)?,
+        _ => cases.end(),
     }
     Ok(())
 }
 
 fn main(rt: HostRuntime) -> io::Result<()> {
-    let mut space = [0u8; test_records::MOST];
-    let n = test_records::input(&rt, &mut space)?;
     let mut to = io::writer(&rt);
-    let mut words = [0u32; ROOM];
-    let mut text = [0u8; ROOM];
-    let mut buffer = [UNTOUCHED; BUFFER];
-    all(
-        test_records::first(&space, n),
-        &mut words,
-        &mut text,
-        &mut buffer,
-        &mut to,
-    )
+    let mut store = Space::new();
+    let mut dumps = Dumps {
+        buffer: [UNTOUCHED; BUFFER],
+        end: 0,
+        read: 0,
+    };
+    test_records::each(&rt, |cases| case(cases, &mut store, &mut dumps, &mut to))
 }

@@ -8,81 +8,43 @@
 mod instruction;
 mod text;
 
-ghost use Rattle.std.specs.Prelude.{◌≡◌};
-
 use std::io;
-use test_records::{after, byte};
+use test_records::Records;
 
-// Where the next record stands, and whether the answers are the same.
-#[derive(Clone, Copy)]
-pub struct Compared {
-    pub next: usize,
-    pub same: bool,
-}
-
-// How far the records are read, and what was found.
-#[derive(Clone, Copy)]
+// How many answers were compared, how many differ, and how many bytes they take.
+#[derive(Drop)]
 struct Tally {
-    at: usize,
     compared: u32,
     differ: u32,
+    read: usize,
 }
 
-// One record: where the next stands, or the same place where this is none.
-fn record_at(records: &[u8], at: usize) -> Compared {
-    let letter = byte(records, at);
-    let from = after(records, at, 1);
-    match letter {
-        b'R' => text::repaired(records, from),
-        b'I' => instruction::fields(records, from),
-        b'O' => instruction::attributes(records, from),
-        _ => Compared {
-            next: at,
-            same: true,
-        },
-    }
-}
-
-// One more, unless that does not fit.
-fn more(n: u32) -> u32 {
-    if n < 4294967295 { n + 1 } else { n }
-}
-
-// One record more.
-fn counted(t: Tally, c: Compared) -> Tally
-    ensures { result.at ≡ c.next }
-{
-    let differ = if c.same { t.differ } else { more(t.differ) };
-    Tally {
-        at: c.next,
-        compared: more(t.compared),
-        differ,
-    }
-}
-
-// All records, up to the end or to what is none.
-fn all(records: &[u8]) -> Tally {
-    let mut t = Tally {
-        at: 0,
-        compared: 0,
-        differ: 0,
-    };
-    while t.at < records.len() {
-        let c = record_at(records, t.at);
-        if c.next <= t.at {
-            return t;
+// One record, counted. Another letter ends the records.
+fn record(records: &mut Records, t: &mut Tally) {
+    let before = records.len();
+    let same = match records.byte() {
+        b'R' => text::repaired(records),
+        b'I' => instruction::fields(records),
+        b'O' => instruction::attributes(records),
+        _ => {
+            records.end();
+            return;
         }
-        t = counted(t, c);
-    }
-    t
+    };
+    t.compared = t.compared.saturating_add(1);
+    t.differ = t.differ.saturating_add(u32::from(!same));
+    t.read = t.read.saturating_add(before.saturating_sub(records.len()));
 }
 
 fn main(rt: HostRuntime) -> io::Result<()> {
-    let mut space = [0u8; test_records::MOST];
-    let n = test_records::input(&rt, &mut space)?;
-    let t = all(test_records::first(&space, n));
+    let mut t = Tally {
+        compared: 0,
+        differ: 0,
+        read: 0,
+    };
+    test_records::each(&rt, |records| Ok(record(records, &mut t)))?;
     println!(rt;
         "{} answers compared, {} differ, {} bytes read",
-        t.compared, t.differ, t.at
+        t.compared, t.differ, t.read
     )
 }

@@ -16,262 +16,113 @@ use local_records::get_local_name_in;
 use local_records::record::LocalRecord;
 use std::io;
 use std::io::Write;
-use test_output::{all_text, all_words, number, written};
-use test_records::store::{Read, first_words, store};
-use test_records::{after, byte, part, within, word};
+use test_output::{all_text, all_words, written};
+use test_records::Records;
+use test_records::store::Space;
 
 // The most words and text bytes of a store.
 const WORDS: usize = 65600;
 
 const TEXT: usize = 4096;
 
-// A number of 8 bytes.
-fn long(cases: &[u8], at: usize) -> usize {
-    let low = word(cases, at) as usize;
-    let high = word(cases, after(cases, at, 4)) as usize;
-    low + high * 4294967296
-}
+// The most output bytes.
+const OUT: usize = 256;
 
-fn line_end(to: &mut impl Write) -> io::Result<()> {
-    to.write_all(b"\n")
-}
+// What stands in the output before.
+const UNTOUCHED: u8 = 7;
+
+// A record that no local has.
+const NO_LOCAL: LocalRecord = LocalRecord {
+    place: 7,
+    len: 7,
+    start: 7,
+    end: 7,
+};
 
 // What a call that gives a name answered and left.
-fn tell_name(r: Named, out: &[u8], to: &mut impl Write) -> io::Result<()> {
-    number(r.refusal as usize, to)?;
-    number(r.kind as usize, to)?;
-    number(r.len, to)?;
-    to.write_all(b":")?;
+fn tell(r: Named, out: &[u8], to: &mut impl Write) -> io::Result<()> {
+    write!(to, "{} {} {} :", r.refusal, r.kind, r.len)?;
     all_text(out, to)
 }
 
-fn tell_named(r: Named, out: &[u8], to: &mut impl Write) -> io::Result<()> {
-    tell_name(r, out, to)?;
-    line_end(to)
-}
-
-fn ask_symbexec(
-    cases: &[u8],
-    at: usize,
-    words: &[u32],
-    text: &[u8],
-    to: &mut impl Write,
-) -> io::Result<()> {
-    let place = word(cases, at) as usize;
-    let lastpc = long(cases, after(cases, at, 4));
-    let reg = word(cases, after(cases, at, 12));
-    let r = symbexec(words, text, place, lastpc, reg);
-    number(r.refusal as usize, to)?;
-    number(r.instruction as usize, to)?;
-    line_end(to)
-}
-
-fn ask_get_local_name(
-    cases: &[u8],
-    at: usize,
-    words: &[u32],
-    text: &[u8],
+// The rest of an R, from place on.
+fn ask_in(
+    cases: &mut Records,
+    space: &Space<WORDS, TEXT>,
     out: &mut [u8],
     to: &mut impl Write,
 ) -> io::Result<()> {
-    let place = word(cases, at) as usize;
-    let n = long(cases, after(cases, at, 4));
-    let pc = long(cases, after(cases, at, 12));
-    let r = get_local_name(words, text, place, n, pc, out);
-    tell_named(r, out, to)
-}
-
-// A record that no local has.
-fn seven() -> LocalRecord {
-    LocalRecord {
-        place: 7,
-        len: 7,
-        start: 7,
-        end: 7,
+    let words = space.words();
+    let text = space.text();
+    let place = cases.word() as usize;
+    let number = cases.long();
+    let pc = cases.long();
+    let mut records = [NO_LOCAL; 8];
+    let k = records.len().min(cases.byte() as usize);
+    let r = get_local_name_in(&mut records[..k], words, text, place, number, pc, out);
+    tell(r, out, to)?;
+    for r in records {
+        all_words(&[r.place, r.len, r.start, r.end], to)?;
     }
+    to.write_all(b"\n")
 }
 
-fn tell_record(r: LocalRecord, to: &mut impl Write) -> io::Result<()> {
-    all_words(&[r.place, r.len, r.start, r.end], to)
-}
-
-fn tell_records(records: &[LocalRecord], to: &mut impl Write) -> io::Result<()> {
-    let mut i = 0;
-    while i < records.len() {
-        tell_record(records[i], to)?;
-        i += 1;
-    }
-    Ok(())
-}
-
-fn ask_get_local_name_in(
-    cases: &[u8],
-    at: usize,
-    words: &[u32],
-    text: &[u8],
-    out: &mut [u8],
-    to: &mut impl Write,
-) -> io::Result<()> {
-    let place = word(cases, at) as usize;
-    let n = long(cases, after(cases, at, 4));
-    let pc = long(cases, after(cases, at, 12));
-    let k = within(byte(cases, after(cases, at, 20)) as usize, 8);
-    let z = seven();
-    let mut records = [z; 8];
-    let r = get_local_name_in(&mut records[..k], words, text, place, n, pc, out);
-    tell_name(r, out, to)?;
-    tell_records(&records, to)?;
-    line_end(to)
-}
-
-fn ask_kname(
-    cases: &[u8],
-    at: usize,
-    words: &[u32],
-    text: &[u8],
-    out: &mut [u8],
-    to: &mut impl Write,
-) -> io::Result<()> {
-    let place = word(cases, at) as usize;
-    let c = word(cases, after(cases, at, 4));
-    let r = kname(words, text, place, c, out);
-    written(r, out, to)
-}
-
-fn ask_getobjname(
-    cases: &[u8],
-    at: usize,
-    words: &[u32],
-    text: &[u8],
-    out: &mut [u8],
-    to: &mut impl Write,
-) -> io::Result<()> {
-    let place = word(cases, at) as usize;
-    let pc = long(cases, after(cases, at, 4));
-    let reg = word(cases, after(cases, at, 12));
-    let r = getobjname(words, text, place, pc, reg, out);
-    tell_named(r, out, to)
-}
-
-// One question. Answers how many bytes it has, 0 for another letter.
+// A question, its letter read. Another letter has none.
 fn ask(
     kind: u8,
-    cases: &[u8],
-    at: usize,
-    words: &[u32],
-    text: &[u8],
+    cases: &mut Records,
+    space: &Space<WORDS, TEXT>,
     out: &mut [u8],
     to: &mut impl Write,
-) -> io::Result<usize> {
+) -> io::Result<()> {
+    let words = space.words();
+    let text = space.text();
     match kind {
         b'X' => {
-            ask_symbexec(cases, at, words, text, to)?;
-            Ok(16)
+            let place = cases.word() as usize;
+            let r = symbexec(words, text, place, cases.long(), cases.word());
+            writeln!(to, "{} {} ", r.refusal, r.instruction)
         }
         b'L' => {
-            ask_get_local_name(cases, at, words, text, out, to)?;
-            Ok(20)
+            let place = cases.word() as usize;
+            let r = get_local_name(words, text, place, cases.long(), cases.long(), out);
+            tell(r, out, to)?;
+            to.write_all(b"\n")
         }
-        b'R' => {
-            ask_get_local_name_in(cases, at, words, text, out, to)?;
-            Ok(21)
-        }
+        b'R' => ask_in(cases, space, out, to),
         b'K' => {
-            ask_kname(cases, at, words, text, out, to)?;
-            Ok(8)
+            let place = cases.word() as usize;
+            let r = kname(words, text, place, cases.word(), out);
+            written(r, out, to)
         }
         b'O' => {
-            ask_getobjname(cases, at, words, text, out, to)?;
-            Ok(16)
+            let place = cases.word() as usize;
+            let r = getobjname(words, text, place, cases.long(), cases.word(), out);
+            tell(r, out, to)?;
+            to.write_all(b"\n")
         }
-        _ => Ok(0),
+        _ => Ok(()),
     }
-}
-
-fn fill(out: &mut [u8]) {
-    let mut i = 0;
-    while i < out.len() {
-        out[i] = 7;
-        i += 1;
-    }
-}
-
-// A question in the store s, its letter read. Answers where the next case stands.
-fn question(
-    cases: &[u8],
-    at: usize,
-    words: &[u32],
-    text: &[u8],
-    s: Read,
-    out: &mut [u8],
-    to: &mut impl Write,
-) -> io::Result<usize> {
-    fill(out);
-    let kind = byte(cases, s.next);
-    let len = within(byte(cases, at) as usize, out.len());
-    let from = after(cases, at, 1);
-    let w = first_words(words, s.words);
-    let t = part(text, 0, s.text);
-    let n = ask(kind, cases, from, w, t, &mut out[..len], to)?;
-    Ok(after(cases, from, n))
 }
 
 // One case. Another letter is passed over.
-fn case_at(
-    cases: &[u8],
-    at: usize,
-    words: &mut [u32],
-    text: &mut [u8],
-    s: Read,
-    out: &mut [u8],
-    to: &mut impl Write,
-) -> io::Result<Read> {
-    if byte(cases, s.next) == b'S' {
-        return Ok(store(cases, at, words, text));
-    }
-    Ok(Read {
-        next: question(cases, at, words, text, s, out, to)?,
-        words: s.words,
-        text: s.text,
-    })
-}
-
-// All cases.
-fn all(
-    cases: &[u8],
-    words: &mut [u32],
-    text: &mut [u8],
-    out: &mut [u8],
+fn case(
+    cases: &mut Records,
+    space: &mut Space<WORDS, TEXT>,
     to: &mut impl Write,
 ) -> io::Result<()> {
-    let mut s = Read {
-        next: 0,
-        words: 0,
-        text: 0,
-    };
-    while s.next < cases.len() {
-        let at = s.next;
-        let r = case_at(cases, after(cases, at, 1), words, text, s, out, to)?;
-        if r.next <= at {
-            return Ok(());
-        }
-        s = r;
+    let kind = cases.byte();
+    if kind == b'S' {
+        space.read(cases);
+        return Ok(());
     }
-    Ok(())
+    let n = OUT.min(cases.byte() as usize);
+    let mut out = [UNTOUCHED; OUT];
+    ask(kind, cases, space, &mut out[..n], to)
 }
 
 fn main(rt: HostRuntime) -> io::Result<()> {
-    let mut space = [0u8; test_records::MOST];
-    let n = test_records::input(&rt, &mut space)?;
     let mut to = io::writer(&rt);
-    let mut words = [0u32; WORDS];
-    let mut text = [0u8; TEXT];
-    let mut out = [0u8; 256];
-    all(
-        test_records::first(&space, n),
-        &mut words,
-        &mut text,
-        &mut out,
-        &mut to,
-    )
+    let mut space = Space::new();
+    test_records::each(&rt, |cases| case(cases, &mut space, &mut to))
 }

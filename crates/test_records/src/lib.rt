@@ -3,76 +3,112 @@
 
 pub mod store;
 
-ghost use Rattle.std.specs.Prelude.{◌≤◌, length, IfOk};
+ghost use Rattle.std.specs.Prelude.{◌≡◌, ◌≤◌, length, take};
 
-use std::io;
 use std::io::Read;
+use std::{io, mem};
 
 // The most bytes of records that a program reads.
 pub const MOST: usize = 65536;
 
-// The records on standard input, as many bytes as the space has room for. Answers how many they are.
-pub fn input(rt: &impl Input, space: &mut [u8]) -> io::Result<usize>
-    ensures { IfOk result (λ n. n ≤ length space.new) }
+// The first n of a list, as many as there are.
+pub fn first<T>(list: &[T], n: usize) -> &[T]
+    ensures { result.now ≡ take n list.now }
 {
-    let mut reader = rt.reader();
-    let mut n = 0;
-    while n < space.len() {
-        let more = reader.read(&mut space[n..])?;
-        if more == 0 {
-            return Ok(n);
+    &list[..n.min(list.len())]
+}
+
+// Another value at a place, where that is in range. Answers the one that stood there, which puts it back.
+pub fn put<T: Copy>(list: &mut [T], at: usize, value: T) -> T {
+    match list.get_mut(at) {
+        Some(old) => mem::replace(old, value),
+        None => value,
+    }
+}
+
+// The records that are not read yet.
+#[derive(Drop)]
+pub struct Records<'a> {
+    rest: &'a [u8],
+}
+
+impl<'a> Records<'a> {
+    // How many bytes are left.
+    pub fn len(&self) -> usize
+        ensures { result ≡ length self.now.rest.now }
+    {
+        self.rest.len()
+    }
+
+    // No record follows: what is left is not read.
+    pub fn end(&mut self) {
+        self.rest = &[];
+    }
+
+    // n bytes, as many as there are.
+    fn part(&mut self, n: usize) -> &'a [u8]
+        ensures { length result.now ≤ n }
+    {
+        let (part, rest) = self.rest.split_at(n.min(self.rest.len()));
+        self.rest = rest;
+        part
+    }
+
+    // N bytes.
+    pub fn array<const N: usize>(&mut self) -> [u8; N] {
+        let part = self.part(N);
+        let mut bytes = [0; N];
+        bytes[..part.len()].copy_from_slice(part);
+        bytes
+    }
+
+    // A byte.
+    pub fn byte(&mut self) -> u8 {
+        u8::from_le_bytes(self.array())
+    }
+
+    // A number of 2 bytes.
+    pub fn half(&mut self) -> u16 {
+        u16::from_le_bytes(self.array())
+    }
+
+    // A number of 4 bytes.
+    pub fn word(&mut self) -> u32 {
+        u32::from_le_bytes(self.array())
+    }
+
+    // A number of 8 bytes.
+    pub fn long(&mut self) -> usize {
+        usize::from_le_bytes(self.array())
+    }
+
+    // 1 byte length, bytes.
+    pub fn name(&mut self) -> &'a [u8] {
+        let n = self.byte();
+        self.part(usize::from(n))
+    }
+
+    // 2 bytes length, bytes.
+    pub fn text(&mut self) -> &'a [u8] {
+        let n = self.half();
+        self.part(usize::from(n))
+    }
+}
+
+// Each record on standard input, read by f, until no byte is left. A record takes a byte or more.
+pub fn each<F: FnMut(&mut Records) -> io::Result<()>>(rt: &impl Input, mut f: F) -> io::Result<()>
+    requires { F.IsAlwaysCallable f }
+{
+    let mut space = [0; MOST];
+    let n = io::copy(&mut rt.reader().take(MOST as u64), &mut &mut space[..])?;
+    let mut records = Records {
+        rest: first(&space, n as usize),
+    };
+    for _ in 0..n {
+        if records.rest.is_empty() {
+            return Ok(());
         }
-        n += more;
+        f(&mut records)?;
     }
-    Ok(n)
-}
-
-// A byte, 0 past the end.
-pub fn byte(records: &[u8], at: usize) -> u8 {
-    if at < records.len() { records[at] } else { 0 }
-}
-
-// A number, no more than the most.
-pub fn within(n: usize, most: usize) -> usize
-    ensures { result ≤ most }
-{
-    if n < most { n } else { most }
-}
-
-// The place n further on, no farther than the end.
-pub fn after(records: &[u8], at: usize, n: usize) -> usize
-    ensures { result ≤ length records.now }
-{
-    let end = records.len();
-    if at < end {
-        if n < end - at { at + n } else { end }
-    } else {
-        end
-    }
-}
-
-// A number of 4 bytes.
-pub fn word(records: &[u8], at: usize) -> u32 {
-    let low = half(records, at) as u32;
-    let high = half(records, after(records, at, 2)) as u32;
-    low + high * 65536
-}
-
-// A number of 2 bytes.
-pub fn half(records: &[u8], at: usize) -> u16 {
-    let low = byte(records, at) as u16;
-    let high = byte(records, after(records, at, 1)) as u16;
-    low + high * 256
-}
-
-// The first n bytes, as many as there are.
-pub fn first(records: &[u8], n: usize) -> &[u8] {
-    let end = after(records, 0, n);
-    &records[0..end]
-}
-
-// n bytes from a place on, as many as there are.
-pub fn part(records: &[u8], at: usize, n: usize) -> &[u8] {
-    let from = after(records, at, 0);
-    first(&records[from..], n)
+    Ok(())
 }

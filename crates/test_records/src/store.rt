@@ -1,67 +1,49 @@
 // Stores in records: 2 bytes n, n runs of words (2 bytes how many, 4 bytes the word), 2 bytes length, the text.
-use crate::{after, half, part, within, word};
+use crate::{Records, first};
 
-// Where the next record stands, and how many words and text bytes the store has.
-#[derive(Clone, Copy)]
-pub struct Read {
-    pub next: usize,
-    pub words: usize,
-    pub text: usize,
+// Space for W words and T text bytes, and how many of them are the store's.
+// Lengths beside arrays, not slices: the memory is fixed, and a case may ask about what stands behind the store.
+#[derive(Drop)]
+pub struct Space<const W: usize, const T: usize> {
+    pub words: [u32; W],
+    pub text: [u8; T],
+    pub used_words: usize,
+    pub used_text: usize,
 }
 
-// The first n words, as many as there are.
-pub fn first_words(words: &[u32], n: usize) -> &[u32] {
-    let end = within(n, words.len());
-    &words[0..end]
-}
-
-// A word written, where it is in range.
-pub fn put(words: &mut [u32], at: usize, w: u32) {
-    if at < words.len() {
-        words[at] = w;
+impl<const W: usize, const T: usize> Space<W, T> {
+    // Space for a store.
+    pub fn new() -> Self {
+        Space {
+            words: [0; W],
+            text: [0; T],
+            used_words: 0,
+            used_text: 0,
+        }
     }
-}
 
-// n words alike, from a place on. Answers the place behind them.
-fn run(words: &mut [u32], at: usize, n: u16, w: u32) -> usize {
-    let mut p = at;
-    let mut i: u16 = 0;
-    while i < n {
-        put(words, p, w);
-        p = lent::further(p, 1);
-        i += 1;
+    // The store's words.
+    pub fn words(&self) -> &[u32] {
+        first(&self.words, self.used_words)
     }
-    p
-}
 
-// n runs. Answers where the text stands, and how many words there are.
-fn runs(records: &[u8], at: usize, n: u16, words: &mut [u32]) -> Read {
-    let mut next = at;
-    let mut p = 0;
-    let mut i: u16 = 0;
-    while i < n {
-        let w = word(records, after(records, next, 2));
-        p = run(words, p, half(records, next), w);
-        next = after(records, next, 6);
-        i += 1;
+    // The store's text.
+    pub fn text(&self) -> &[u8] {
+        first(&self.text, self.used_text)
     }
-    Read {
-        next,
-        words: p,
-        text: 0,
-    }
-}
 
-// A store, read into words and text.
-pub fn store(records: &[u8], at: usize, words: &mut [u32], text: &mut [u8]) -> Read {
-    let n = half(records, at);
-    let s = runs(records, after(records, at, 2), n, words);
-    let m = half(records, s.next) as usize;
-    let from = after(records, s.next, 2);
-    lent::put_bytes(text, 0, part(records, from, m));
-    Read {
-        next: after(records, from, m),
-        words: s.words,
-        text: m,
+    // The store of a record.
+    pub fn read(&mut self, records: &mut Records) {
+        let mut words = &mut self.words[..];
+        for _ in 0..records.half() {
+            let n = words.len().min(usize::from(records.half()));
+            let (run, rest) = words.split_at_mut(n);
+            run.fill(records.word());
+            words = rest;
+        }
+        self.used_words = W - words.len();
+        let text = first(records.text(), T);
+        self.text[..text.len()].copy_from_slice(text);
+        self.used_text = text.len();
     }
 }

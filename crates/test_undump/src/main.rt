@@ -6,7 +6,7 @@
 
 use std::io;
 use std::io::Write;
-use test_records::{after, byte, half, part, within};
+use test_records::Records;
 
 // The most words and the most text bytes that are lent, and what stands in them before.
 const ROOM: usize = 4096;
@@ -28,50 +28,18 @@ fn read(
     test_output::undumped(u, words, text, to)
 }
 
-// The same, with so many words and text bytes lent.
-fn lend(chunk: &[u8], name: &[u8], n: usize, m: usize, to: &mut impl Write) -> io::Result<()> {
+// One case.
+fn case(cases: &mut Records, to: &mut impl Write) -> io::Result<()> {
+    let chunk = cases.text();
+    let name = cases.name();
+    let n = ROOM.min(cases.half() as usize);
+    let m = ROOM.min(cases.half() as usize);
     let mut words = [UNTOUCHED as u32; ROOM];
     let mut text = [UNTOUCHED; ROOM];
-    let w = within(n, ROOM);
-    let t = within(m, ROOM);
-    read(chunk, name, &mut words[0..w], &mut text[0..t], to)
-}
-
-// One case. Answers where the next stands.
-fn case_at(cases: &[u8], at: usize, to: &mut impl Write) -> io::Result<usize> {
-    let n = half(cases, at) as usize;
-    let chunk = after(cases, at, 2);
-    let size = after(cases, chunk, n);
-    let k = byte(cases, size) as usize;
-    let name = after(cases, size, 1);
-    let words = after(cases, name, k);
-    let text = after(cases, words, 2);
-    lend(
-        part(cases, chunk, n),
-        part(cases, name, k),
-        half(cases, words) as usize,
-        half(cases, text) as usize,
-        to,
-    )?;
-    Ok(after(cases, text, 2))
-}
-
-// All cases.
-fn all(cases: &[u8], to: &mut impl Write) -> io::Result<()> {
-    let mut at = 0;
-    while at < cases.len() {
-        let next = case_at(cases, at, to)?;
-        if next <= at {
-            return Ok(());
-        }
-        at = next;
-    }
-    Ok(())
+    read(chunk, name, &mut words[0..n], &mut text[0..m], to)
 }
 
 fn main(rt: HostRuntime) -> io::Result<()> {
-    let mut space = [0u8; test_records::MOST];
-    let n = test_records::input(&rt, &mut space)?;
     let mut to = io::writer(&rt);
-    all(test_records::first(&space, n), &mut to)
+    test_records::each(&rt, |cases| case(cases, &mut to))
 }

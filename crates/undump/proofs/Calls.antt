@@ -1,118 +1,135 @@
 -- The header: bytes that are there, or are not, or are others. Then a whole chunk, loaded; what measure answers at each of its returns,
 -- and what store answers and leaves at each of its.
+use Rattle.std.specs.Prelude.{Result, Ok, Err}
+use Rattle.std.specs.Result.{IsErrAnd}
+use Rattle.std.proofs.lemmas.Result.{err_from_is_err_and}
+use Rattle.std.specs.Str.{bytes_eq}
+use Rattle.std.proofs.lemmas.Slice.Eq.{bytes_eq-Decides}
 use Rattle.lent.proofs.Prelude.{ℕ, ◌+◌, ◌-◌, ◌≤◌, ◌<◌, min, ◌≡◌, refl, sym, ap, ◌∙◌, List, [], ◌++◌, append-nil, Bool, true, false, not, arith, length, take, drop, length-drop, drop_of_length-le, sets, sets-eq, length-take-le, le-leb, not-true, not-false}
 use Rattle.lent.specs.Memory.{far}
 use Rattle.format.specs.Tree.{Function}
 use Rattle.format.specs.Read.{Read, got, refused, ◌>>=◌, return, width_of, load_function, same, signature, format, load_exactly, load_format, load_header}
+use Rattle.format.specs.Refusal.{number}
 use Rattle.format.specs.Store.{function_piece, words_of, text_of}
 use Rattle.format.specs.Valid.{depth, most}
 use Rattle.format.specs.Undump.{repaired, Chunk, load_chunk, refused_by, measured_by, measured, name_ok, over, undumped, as_measured, stored}
 use Rattle.format.specs.declared.Undumped.{Undumped}
-use Rattle.load_state.specs.declared.cursor.Cursor.{Cursor}
-use Rattle.load.specs.declared.Load.{Load}
-use Rattle.load_state.specs.ReadAt.{Ends}
-use Rattle.load.specs.Loads.{ReadsBy, space, Does, world, Loads}
+use Rattle.format.specs.declared.Refusal.{Refusal}
+use Rattle.format.specs.declared.Refusal.TheVariants.{BadName, Truncated, BadSignature, BadFormat, BadTag, TooManyItems, TooDeep, TooFewWords, TooLittleText, BadStore, TooLittleOutput, NoFunction, BadPc, BadRegister, NotAsMeasured}
+use Rattle.load_state.specs.declared.cursor.Got.{Got}
+use Rattle.load_state.specs.ReadAt.{Ends, ReadsBy, ReadAt}
+use Rattle.load.specs.Loads.{Does}
 use Rattle.load_function.specs.Repaired.{repaired_function}
 use Rattle.undump.specs.declared.LoadedChunk.{LoadedChunk}
-use Rattle.undump.specs.Undump.{beginning, unused, LoadsChunk, undump_left}
-use Rattle.load.proofs.Steps.{bind, mapped, takes, stops}
+use Rattle.undump.specs.Undump.{beginning, unused, used, LoadsChunk, Measures, undump_left}
+use Rattle.load.proofs.Steps.{reads_then, reads_refused}
 use Rattle.format.proofs.RoundTrip.{same_is}
 use Rattle.format.proofs.Measured.{measured_as, undumped_as, refused_whole, store_refused, store_other, store_as, few_words, few_text, enough}
-use Rattle.load_state.proofs.Bytes.{block_at, block_short}
+use Rattle.load_state.proofs.Bytes.{block_at}
+
+-- ---- the header
 
 -- a test tells whether the n bytes at a place are these
-abbrev Tells : List ℕ → ℕ → ℕ → List ℕ → Bool → Type 0
-Tells bs at n bytes t = (t ≡ true → take (at + n - at) (drop at bs) ≡ bytes) × (take (at + n - at) (drop at bs) ≡ bytes → t ≡ true)
+told : {t : Bool} (bs : List ℕ) (at n : ℕ) (bytes : List ℕ) → t ≡ bytes_eq (take (at + n - at) (drop at bs)) bytes → same (take n (drop at bs)) bytes ≡ t
+told bs at n bytes e =
+    let i : at + n - at ≡ n = omega arith in
+    let s : same (take (at + n - at) (drop at bs)) bytes ≡ bytes_eq (take (at + n - at) (drop at bs)) bytes = same_is _ _ bytes (bytes_eq-Decides _ bytes) in
+    rw i at (s ∙ sym e)
 
-told : (bs : List ℕ) (at n : ℕ) (bytes : List ℕ) (t : Bool) → Tells bs at n bytes t → same (take n (drop at bs)) bytes ≡ t
-told bs at n bytes t tells = let e : at + n - at ≡ n = omega arith in rw e at (same_is t _ bytes tells)
+module _ (bs : List ℕ) (at : ℕ) (bytes : List ℕ) (x : Refusal) {t : Bool} (h : length bytes ≤ length bs - at) (e : t ≡ not (bytes_eq (take (at + length bytes - at) (drop at bs)) bytes)) where
+  pub exactly_others : t ≡ true → ReadsBy bs (load_exactly bytes (number x)) (λ v (n : ℕ). Unit {0}) (λ n. n) at (Err x)
+  exactly_others f = record { ends = rw (block_at (length bytes) bs at h, told bs at (length bytes) bytes (sym (not-true _ (sym e ∙ f)))) refl }
 
-module _ (bs bytes : List ℕ) (n : ℕ) (s r : Cursor) (z : s.refusal ≤ 0) where
-  pub exactly_short : length bs - s.next < length bytes → r.refusal ≡ 2 → ReadsBy bs (load_exactly bytes n) (λ v. Unit {0}) s r
-  exactly_short h f = stops z (rw (block_short (length bytes) bs s.next h)) f (omega arith)
-
-  module _ (t : Bool) (h : length bytes ≤ length bs - s.next) (tells : Tells bs s.next (length bytes) bytes t) where
-    pub exactly_others : not t ≡ true → r.refusal ≡ n → 0 < n → ReadsBy bs (load_exactly bytes n) (λ v. Unit {0}) s r
-    exactly_others e f k = stops z (rw (block_at (length bytes) bs s.next h, told bs s.next (length bytes) bytes t tells, not-true t e)) f k
-
-    pub exactly_these : not t ≡ false → r.refusal ≡ 0 → r.next ≡ s.next + length bytes → ReadsBy bs (load_exactly bytes n) (λ v. Unit {0}) s r
-    exactly_these e f g =
-        takes {a = take (length bytes) (drop s.next bs)} {rest = drop (s.next + length bytes) bs} z
-        (rw (block_at (length bytes) bs s.next h, told bs s.next (length bytes) bytes t tells, not-false t e)) f (rw g) tt
+  pub exactly_these : t ≡ false → ReadsBy bs (load_exactly bytes (number x)) (λ v (n : ℕ). Unit {0}) (λ n. n) at (Ok (at + length bytes))
+  exactly_these f = record { ends = rw (block_at (length bytes) bs at h, told bs at (length bytes) bytes (sym (not-false _ (sym e ∙ f)))) (refl, tt) }
 
 -- the two forms of the eight bytes
-module _ {bs : List ℕ} {s r : Cursor} {size4 : Bool} (z : s.refusal ≤ 0) where
-  pub format_short : length bs - s.next < 8 → r.refusal ≡ 2 → ReadsBy bs load_format (λ v. v ≡ size4) s r
-  format_short h f = stops z (rw (block_short 8 bs s.next h)) f (omega arith)
+module _ {bs : List ℕ} {at : ℕ} {t : Bool} (h : 8 ≤ length bs - at) (t₄ : t ≡ bytes_eq (take (at + 8 - at) (drop at bs)) (format true)) where
+  pub format_of_4 : t ≡ true → ReadAt bs load_format at (Ok (record { value = true; next = at + 8 }))
+  format_of_4 e = record { ends = rw (block_at 8 bs at h, told bs at 8 (format true) t₄, e) (refl, refl) }
 
-  module _ {t : Bool} (h : 8 ≤ length bs - s.next) (t₄ : Tells bs s.next 8 (format true) t) where
-    pub format_of_4 : t ≡ true → size4 ≡ true → r.refusal ≡ 0 → r.next ≡ s.next + 8 → ReadsBy bs load_format (λ v. v ≡ size4) s r
-    format_of_4 e w f g = takes {rest = drop (s.next + 8) bs} z (rw (block_at 8 bs s.next h, told bs s.next 8 (format true) t t₄, e)) f (rw g) (sym w)
+  module _ {u : Bool} (e : t ≡ false) (t₈ : u ≡ bytes_eq (take (at + 8 - at) (drop at bs)) (format false)) where
+    pub format_of_8 : u ≡ true → ReadAt bs load_format at (Ok (record { value = false; next = at + 8 }))
+    format_of_8 f = record { ends = rw (block_at 8 bs at h, told bs at 8 (format true) t₄, e, told bs at 8 (format false) t₈, f) (refl, refl) }
 
-    module _ {u : Bool} (e : t ≡ false) (t₈ : Tells bs s.next 8 (format false) u) where
-      pub format_of_8 : u ≡ true → size4 ≡ false → r.refusal ≡ 0 → r.next ≡ s.next + 8 → ReadsBy bs load_format (λ v. v ≡ size4) s r
-      format_of_8 i w f g =
-          takes {rest = drop (s.next + 8) bs} z (rw (block_at 8 bs s.next h, told bs s.next 8 (format true) t t₄, e, told bs s.next 8 (format false) u t₈, i)) f (rw g) (sym w)
+    pub format_other : u ≡ false → ReadAt bs load_format at (Err BadFormat)
+    format_other f = record { ends = rw (block_at 8 bs at h, told bs at 8 (format true) t₄, e, told bs at 8 (format false) t₈, f) refl }
 
-      pub format_other : u ≡ false → r.refusal ≡ 4 → ReadsBy bs load_format (λ v. v ≡ size4) s r
-      format_other i f = stops z (rw (block_at 8 bs s.next h, told bs s.next 8 (format true) t t₄, e, told bs s.next 8 (format false) u t₈, i)) f (omega arith)
-
-pub header_loaded : {bs : List ℕ} {s m r : Cursor} {size4 : Bool} → ReadsBy bs (load_exactly signature 3) (λ v. Unit {0}) s m → ReadsBy bs load_format (λ v. v ≡ size4) m r
-    → ReadsBy bs load_header (λ v. v ≡ size4) s r
+pub header_loaded : {bs : List ℕ} {n : ℕ} {r : Result (Got Bool) Refusal} → ReadsBy bs (load_exactly signature 3) (λ v (n : ℕ). Unit {0}) (λ n. n) beginning (Ok n) → ReadAt bs load_format n r → ReadAt bs load_header beginning r
 unfolding load_header
-header_loaded h k = bind _ h k.stays (λ v e. k)
+header_loaded h k = reads_then _ h (λ v e. k)
+
+pub signature_refused : {bs : List ℕ} {x : Refusal} {r : Result (Got Bool) Refusal} → IsErrAnd r (λ y. y ≡ x) → ReadsBy bs (load_exactly signature 3) (λ v (n : ℕ). Unit {0}) (λ n. n) beginning (Err x) → ReadAt bs load_header beginning r
+unfolding load_header
+signature_refused {r = r} i h = let p = err_from_is_err_and r i in rw (p.1, p.2) (reads_refused _ h)
 
 -- ---- a whole chunk
 
+-- what is answered of it
+abbrev Answered : List ℕ → List ℕ → List ℕ → List ℕ → Chunk → LoadedChunk → Type 0
+Answered ws ts ws' ts' x c = (x.size4 ≡ c.size_4) × Does (function_piece x.root) (unused ws ts) (used c ws' ts')
+
 -- the header, then the root function
-pub chunk_loaded : {bs : List ℕ} {c : Cursor} {load : Load} {ws ts ws' ts' : List ℕ} {size4 : Bool} → ReadsBy bs load_header (λ v. v ≡ size4) beginning c
-    → Loads bs (load_function size4 depth) repaired_function (world (record { cursor = c; words = 0; text = 0 }) ws ts) (world load ws' ts')
-    → LoadsChunk bs ws ts (record { size_4 = size4; load = load }) ws' ts'
-unfolding load_chunk
-chunk_loaded {bs} {c} {load} {ws} {ts} {ws'} {ts'} {size4} h k =
-    record {
-      ends =
-          (bind {Q = λ (x : Chunk). (x.size4 ≡ size4) × Does (function_piece x.root) (unused ws ts) (space load ws' ts')} {r = load.cursor}
-          (λ v. load_function v depth >>= λ f. return (record { size4 = v; root = repaired f })) h k.stays
-          (λ v e. rw e (mapped (λ (f : Function). record { size4 = size4; root = repaired f }) (λ f d. (refl, d)) k))).goes refl;
-    }
+module _ {bs ws ts ws' ts' : List ℕ} where
+  header_then : {h : Got Bool} {r : Result LoadedChunk Refusal} → ReadAt bs load_header beginning (Ok h)
+      → ReadsBy bs (load_function h.value depth >>= λ f. return (record { size4 = h.value; root = repaired f })) (Answered ws ts ws' ts') (λ c. c.next) h.next r → LoadsChunk bs ws ts r ws' ts'
+  unfolding load_chunk
+  header_then k l = record { ends = (reads_then {Q = Answered ws ts ws' ts'} {next' = λ c. c.next} (λ v. load_function v depth >>= λ f. return (record { size4 = v; root = repaired f })) k (λ v e. rw e l)).ends }
+
+  pub header_refused : {x : Refusal} {r : Result LoadedChunk Refusal} → IsErrAnd r (λ y. y ≡ x) → ReadAt bs load_header beginning (Err x) → LoadsChunk bs ws ts r ws' ts'
+  unfolding load_chunk
+  header_refused {r = r} i h =
+      let p = err_from_is_err_and r i in
+      rw (p.1, p.2) (record { ends = (reads_refused {Q = Answered ws ts ws' ts'} {next' = λ c. c.next} (λ v. load_function v depth >>= λ f. return (record { size4 = v; root = repaired f })) h).ends })
+
+  module _ {h : Got Bool} {n : ℕ} (k : ReadAt bs load_header beginning (Ok h)) where
+    pub function_refused : {P : Function → Unit {0} → Type 0} {x : Refusal} {r : Result LoadedChunk Refusal} → IsErrAnd r (λ y. y ≡ x)
+        → ReadsBy bs (load_function h.value depth) P (λ u. n) h.next (Err x) → LoadsChunk bs ws ts r ws' ts'
+    function_refused {r = r} i l = let p = err_from_is_err_and r i in rw (p.1, p.2) (header_then k (reads_refused _ l))
+
+    pub chunk_loaded : {a b : ℕ} {u v : List ℕ} → u ≡ ws' → v ≡ ts' → ReadsBy bs (load_function h.value depth) (λ f (u : Unit {0}). Does (repaired_function f) (unused ws ts) (record { words_at = a; text_at = b; words = ws'; text = ts' })) (λ u. n) h.next (Ok tt)
+        → LoadsChunk bs ws ts (Ok (record { size_4 = h.value; words = a; text = b; next = n })) u v
+    chunk_loaded e f l = rw (e, f) (header_then k (reads_then _ l (λ f d. record { ends = (refl, (refl, d)) })))
 
 -- ---- measure
 
 -- what is counted where there is no space
-counted : (f : Function) (load : Load) (u v : List ℕ) → Does (function_piece f) (unused [] []) (space load u v) → (load.words ≡ min (length (words_of f)) far) × (load.text ≡ min (length (text_of f)) far)
-counted f load u v d =
+counted : (f : Function) (c : LoadedChunk) (u v : List ℕ) → Does (function_piece f) (unused [] []) (used c u v) → (c.words ≡ min (length (words_of f)) far) × (c.text ≡ min (length (text_of f)) far)
+counted f c u v d =
     let a = d.does 0 (omega arith) (omega arith) in
     (omega (arith, a.many, (a.words.puts (omega arith) (omega arith)).0), omega (arith, (a.text.puts (omega arith) (omega arith)).0))
 
-module _ (bs : List ℕ) (c : LoadedChunk) (u v : List ℕ) where
-  -- what a run without space says of the chunk that is read
-  abbrev Counts : Chunk → Type 0
-  Counts x = (x.size4 ≡ c.size_4) × Does (function_piece x.root) (unused [] []) (space c.load u v)
+-- what a run says of the chunk that is read
+abbrev Ran : (bs ws ts ws' ts' : List ℕ) → Read Chunk → Result LoadedChunk Refusal → Type 0
+Ran bs ws ts ws' ts' x r = Ends x (λ y rest c. (rest ≡ drop c.next bs) × Answered ws ts ws' ts' y c) r
 
-  refused_by_law : (x : Read Chunk) → Ends bs x Counts c.load.cursor → 0 < c.load.cursor.refusal → refused_by c.load.cursor.refusal ≡ measured_by bs x
-  refused_by_law (got x rest) t h = absurd (omega arith)
-  refused_by_law (refused k) t h = rw t.0
+module _ (bs u v : List ℕ) where
+  refused_by_law : (e : Refusal) (x : Read Chunk) → Ran bs [] [] u v x (Err e) → refused_by (number e) ≡ measured_by bs x
+  refused_by_law e (got x rest) t = absurd t
+  refused_by_law e (refused k) t = rw t
 
-  measured_by_law : (x : Read Chunk) → Ends bs x Counts c.load.cursor → c.load.cursor.refusal ≤ 0 → {w n m rest : ℕ} → w ≡ width_of c.size_4 → n ≡ min c.load.words (most + 1)
-      → m ≡ min c.load.text (most + 1) → rest ≡ length bs - c.load.cursor.next
-      → record { refusal = 0; width = w; words = n; text = m; read = length bs - rest } ≡ measured_by bs x
-  measured_by_law (got x rest) t h ew en em er =
-      let k = counted x.root c.load u v t.2.1 in
-      let nw : min c.load.words (most + 1) ≡ min (length (words_of x.root)) (most + 1) = omega arith in
-      let nt : min c.load.text (most + 1) ≡ min (length (text_of x.root)) (most + 1) = omega arith in
-      rw (ew, en, em, er, nw, nt, t.2.0, t.1, length-drop)
-  measured_by_law (refused k) t h ew en em er = absurd (omega arith)
+  measured_by_law : (c : LoadedChunk) (x : Read Chunk) → Ran bs [] [] u v x (Ok c) → {w n m read : ℕ} → w ≡ width_of c.size_4 → n ≡ min c.words (most + 1) → m ≡ min c.text (most + 1) → read ≡ min c.next (length bs)
+      → record { refusal = 0; width = w; words = n; text = m; read = read } ≡ measured_by bs x
+  measured_by_law c (got x rest) t {n = n} {m = m} {read = read} ew en em er =
+      let k = counted x.root c u v t.1.1 in
+      let nw : n ≡ min (length (words_of x.root)) (most + 1) = omega (arith, k) in
+      let nt : m ≡ min (length (text_of x.root)) (most + 1) = omega (arith, k) in
+      let nr : read ≡ length bs - (length bs - c.next) = omega arith in
+      rw (ew, nw, nt, nr, t.0, t.1.0, length-drop)
+  measured_by_law c (refused k) t ew en em er = absurd t
 
-module _ {bs : List ℕ} (name : List ℕ) {ok : Bool} {c : LoadedChunk} {u v : List ℕ} (o : ok ≡ name_ok name) (e : not ok ≡ false) (h : LoadsChunk bs [] [] c u v) where
-  pub measure_refused : {a : Undumped} → 0 < c.load.cursor.refusal → a ≡ refused_by c.load.cursor.refusal → a ≡ measured bs name
+module _ {bs : List ℕ} (name : List ℕ) {ok : Bool} {u v : List ℕ} (o : ok ≡ name_ok name) (e : not ok ≡ false) where
+  pub measure_refused : {x : Refusal} {a : Undumped} → LoadsChunk bs [] [] (Err x) u v → a ≡ refused_by (number x) → a ≡ measured bs name
   unfolding measured
-  measure_refused z r = rw (r, ← o, not-false ok e) (refused_by_law bs c u v (load_chunk bs) h.ends z)
+  measure_refused h r = rw (r, ← o, not-false ok e) (refused_by_law bs u v _ (load_chunk bs) h.ends)
 
-  pub measure_whole : {w n m rest : ℕ} → c.load.cursor.refusal ≤ 0 → w ≡ width_of c.size_4 → n ≡ min c.load.words (most + 1) → m ≡ min c.load.text (most + 1)
-      → rest ≡ length bs - c.load.cursor.next → record { refusal = 0; width = w; words = n; text = m; read = length bs - rest } ≡ measured bs name
+  pub measures_refused : {x : Refusal} {r : Result Undumped Refusal} → IsErrAnd r (λ y. y ≡ x) → LoadsChunk bs [] [] (Err x) u v → Measures bs name r
+  measures_refused {r = r} i h = let p = err_from_is_err_and r i in rw (p.1, p.2) (record { answers = measure_refused h refl; accepted = tt })
+
+  pub measure_whole : {c : LoadedChunk} {w n m read : ℕ} → LoadsChunk bs [] [] (Ok c) u v → w ≡ width_of c.size_4 → n ≡ min c.words (most + 1) → m ≡ min c.text (most + 1) → read ≡ min c.next (length bs)
+      → record { refusal = 0; width = w; words = n; text = m; read = read } ≡ measured bs name
   unfolding measured
-  measure_whole z w n m r = rw (← o, not-false ok e) (measured_by_law bs c u v (load_chunk bs) h.ends z w n m r)
+  measure_whole h w n m r = rw (← o, not-false ok e) (measured_by_law bs u v _ (load_chunk bs) h.ends w n m r)
 
 pub measure_unnamed : (bs name : List ℕ) {ok : Bool} {a : Undumped} → ok ≡ name_ok name → not ok ≡ true → a ≡ refused_by 1 → a ≡ measured bs name
 unfolding measured
@@ -127,18 +144,37 @@ written w l lent n e h f =
     let a : sets (take n lent) 0 w ≡ w = sets-eq w (take n lent) 0 (omega arith) ∙ rw (drop_of_length-le (take n lent) {i = 0 + length w} (omega arith)) (append-nil w) in
     rw (f ∙ a, e)
 
+-- no refusal is 0
+above_none : (e : Refusal) → 0 < number e
+above_none e = elim e as (λ x. 0 < number x) [
+  | BadName ↦ omega arith
+  | Truncated ↦ omega arith
+  | BadSignature ↦ omega arith
+  | BadFormat ↦ omega arith
+  | BadTag ↦ omega arith
+  | TooManyItems ↦ omega arith
+  | TooDeep ↦ omega arith
+  | TooFewWords ↦ omega arith
+  | TooLittleText ↦ omega arith
+  | BadStore ↦ omega arith
+  | TooLittleOutput ↦ omega arith
+  | NoFunction ↦ omega arith
+  | BadPc ↦ omega arith
+  | BadRegister ↦ omega arith
+  | NotAsMeasured ↦ omega arith
+]
+
 -- what the run over the space left, as long as it was measured
-module _ (bs ws ts : List ℕ) (c : LoadedChunk) (ws' ts' : List ℕ) (n k : ℕ) (hn : n ≤ min (length ws) most) (hk : k ≤ min (length ts) most) where
-  stored_as : (ok : Bool) (x : Read Chunk)
-      → Ends bs x (λ y. (y.size4 ≡ c.size_4) × Does (function_piece y.root) (unused (take n ws) (take k ts)) (space c.load ws' ts')) c.load.cursor
+module _ (bs ws ts : List ℕ) (r : Result LoadedChunk Refusal) (ws' ts' : List ℕ) (n k : ℕ) (hn : n ≤ min (length ws) most) (hk : k ≤ min (length ts) most) where
+  stored_as : (ok : Bool) (x : Read Chunk) (r : Result LoadedChunk Refusal) → Ran bs (take n ws) (take k ts) ws' ts' x r
       → (measured_as bs ok x).refusal ≡ 0 → n ≡ (measured_as bs ok x).words → k ≡ (measured_as bs ok x).text
       → undump_left (undumped_as bs ws ts ok x).answer (ws' ++ drop n ws) (ts' ++ drop k ts) ≡ undumped_as bs ws ts ok x
-  stored_as true (got x rest) t z en ek =
+  stored_as true (got x rest) (Ok c) t z en ek =
       let nw : n ≡ length (words_of x.root) = omega arith in
       let nt : k ≡ length (text_of x.root) = omega arith in
       let lt : length (take k ts) ≡ k = length-take-le k ts (omega arith) in
       let lw : length (take n ws) ≡ n = length-take-le n ws (omega arith) in
-      let a = t.2.1.does 0 (omega arith) (omega arith) in
+      let a = t.1.1.does 0 (omega arith) (omega arith) in
       let w : ws' ≡ sets (take n ws) 0 (words_of x.root) = (a.words.puts (omega arith) (omega arith)).1 ∙ rw (a.exact (omega arith)) in
       let v : ts' ≡ sets (take k ts) 0 (text_of x.root) = (a.text.puts (omega arith) (omega arith)).1 in
       rw (
@@ -147,22 +183,25 @@ module _ (bs ws ts : List ℕ) (c : LoadedChunk) (ws' ts' : List ℕ) (n k : ℕ
         written (words_of x.root) ws' ws n nw (omega arith) w,
         written (text_of x.root) ts' ts k nt (omega arith) v,
       )
-  stored_as true (refused m) t z en ek = absurd (omega arith)
-  stored_as false x t z en ek = absurd (omega arith)
+  stored_as true (got x rest) (Err e) t z en ek = absurd t
+  stored_as true (refused m) (Ok c) t z en ek = absurd t
+  stored_as true (refused m) (Err e) t z en ek = absurd (omega (arith, above_none e))
+  stored_as false x r t z en ek = absurd (omega arith)
 
-  left : (name : List ℕ) → LoadsChunk bs (take n ws) (take k ts) c ws' ts' → (measured bs name).refusal ≡ 0 → n ≡ (measured bs name).words → k ≡ (measured bs name).text
+  left : (name : List ℕ) → LoadsChunk bs (take n ws) (take k ts) r ws' ts' → (measured bs name).refusal ≡ 0 → n ≡ (measured bs name).words → k ≡ (measured bs name).text
       → undump_left (undumped bs name ws ts).answer (ws' ++ drop n ws) (ts' ++ drop k ts) ≡ undumped bs name ws ts
   unfolding measured undumped
-  left name d z en ek = stored_as (name_ok name) (load_chunk bs) d.ends z en ek
+  left name d z en ek = stored_as (name_ok name) (load_chunk bs) r d.ends z en ek
+
+pub refused_as : (bs name ws ts : List ℕ) (need_words need_text need_read : ℕ) (x : Refusal) {a : Undumped} → a ≡ refused_by (number x) → refused_by (number x) ≡ measured bs name
+    → undump_left a ws ts ≡ stored bs name need_words need_text need_read ws ts
+refused_as bs name ws ts need_words need_text need_read x r e =
+    let some : (measured bs name).refusal ≡ 0 → ⊥ = λ z. let i : number x ≡ (measured bs name).refusal = ap (λ (u : Undumped). u.refusal) e in omega (arith, above_none x) in
+    rw (r, store_refused bs name ws ts need_words need_text need_read some, e) (ap (λ (a : Undumped). undump_left a ws ts) (refused_whole bs name some))
 
 -- the returns of store, which measures and is handed three numbers
 module _ (bs name ws ts : List ℕ) {m : Undumped} (e : m ≡ measured bs name) (need_words need_text need_read : ℕ) where
-  pub refused_measuring : 0 < m.refusal → undump_left m ws ts ≡ stored bs name need_words need_text need_read ws ts
-  refused_measuring h =
-      let some : (measured bs name).refusal ≡ 0 → ⊥ = λ z. let i : m.refusal ≡ (measured bs name).refusal = ap (λ (u : Undumped). u.refusal) e in omega arith in
-      rw (store_refused bs name ws ts need_words need_text need_read some, e) (ap (λ (a : Undumped). undump_left a ws ts) (refused_whole bs name some))
-
-  module _ {ok : Bool} (z : m.refusal ≤ 0) (o : ok ≡ as_measured m need_words need_text need_read) where
+  module _ {ok : Bool} (z : m.refusal ≡ 0) (o : ok ≡ as_measured m need_words need_text need_read) where
     none : (measured bs name).refusal ≡ 0
     none = let i : m.refusal ≡ (measured bs name).refusal = ap (λ (u : Undumped). u.refusal) e in omega arith
 
@@ -180,8 +219,8 @@ module _ (bs name ws ts : List ℕ) {m : Undumped} (e : m ≡ measured bs name) 
         pub refused_text : {a : Undumped} → k < m.text → a ≡ refused_by 9 → undump_left a ws ts ≡ stored bs name need_words need_text need_read ws ts
         refused_text j r = rw r (sym (as_measured_law ∙ few_text bs name ws ts none (rw (← e) (omega arith)) (rw (← e) (omega arith))))
 
-        pub store_whole : {c : LoadedChunk} {ws' ts' : List ℕ} → m.text ≤ k → LoadsChunk bs (take m.words ws) (take m.text ts) c ws' ts'
+        pub store_whole : {r : Result LoadedChunk Refusal} {ws' ts' : List ℕ} → m.text ≤ k → LoadsChunk bs (take m.words ws) (take m.text ts) r ws' ts'
             → undump_left m (ws' ++ drop m.words ws) (ts' ++ drop m.text ts) ≡ stored bs name need_words need_text need_read ws ts
-        store_whole {c} {ws'} {ts'} j d =
+        store_whole {r} {ws'} {ts'} j d =
             let q : m ≡ (undumped bs name ws ts).answer = e ∙ sym (enough bs name ws ts none (rw (← e) (omega arith)) (rw (← e) (omega arith))) in
-            ap (λ (a : Undumped). undump_left a (ws' ++ drop m.words ws) (ts' ++ drop m.text ts)) q ∙ left bs ws ts c ws' ts' m.words m.text (omega arith) (omega arith) name d none (rw e) (rw e) ∙ sym as_measured_law
+            ap (λ (a : Undumped). undump_left a (ws' ++ drop m.words ws) (ts' ++ drop m.text ts)) q ∙ left bs ws ts r ws' ts' m.words m.text (omega arith) (omega arith) name d none (rw e) (rw e) ∙ sym as_measured_law

@@ -1,24 +1,39 @@
 -- Where reading begins, a whole chunk loaded, and what a call leaves.
-use Rattle.std.specs.Prelude.{ℕ, ◌≡◌, List}
+use Rattle.std.specs.Prelude.{ℕ, ◌≡◌, List, drop, Result, Ok, Err, IfOk}
 use Rattle.format.specs.Store.{function_piece}
-use Rattle.format.specs.Undump.{load_chunk, UndumpLeft}
+use Rattle.format.specs.Undump.{load_chunk, refused_by, measured, UndumpLeft}
+use Rattle.format.specs.Refusal.{number}
 use Rattle.format.specs.declared.Undumped.{Undumped}
-use Rattle.load_state.specs.declared.cursor.Cursor.{Cursor}
+use Rattle.format.specs.declared.Refusal.{Refusal}
 use Rattle.load_state.specs.ReadAt.{Ends}
-use Rattle.load.specs.Loads.{Space, space, Does}
+use Rattle.load.specs.Loads.{Space, Does}
 use Rattle.undump.specs.declared.LoadedChunk.{LoadedChunk}
 
 -- the first byte of the chunk
-abbrev pub beginning : Cursor
-beginning = record { refusal = 0; next = 0 }
+abbrev pub beginning : ℕ
+beginning = 0
 
 -- lent memory, nothing stored so far
 abbrev pub unused : List ℕ → List ℕ → Space
 unused ws ts = record { words_at = 0; text_at = 0; words = ws; text = ts }
 
+-- lent memory, a chunk stored
+abbrev pub used : LoadedChunk → List ℕ → List ℕ → Space
+used c ws ts = record { words_at = c.words; text_at = c.text; words = ws; text = ts }
+
 -- a whole chunk was read, and its tree stored
-pub record LoadsChunk (bs ws ts : List ℕ) (r : LoadedChunk) (ws' ts' : List ℕ) : Type 0 where
-  pub ends : Ends bs (load_chunk bs) (λ x. (x.size4 ≡ r.size_4) × Does (function_piece x.root) (unused ws ts) (space r.load ws' ts')) r.load.cursor
+pub record LoadsChunk (bs ws ts : List ℕ) (r : Result LoadedChunk Refusal) (ws' ts' : List ℕ) : Type 0 where
+  pub ends : Ends (load_chunk bs) (λ x rest c. (rest ≡ drop c.next bs) × ((x.size4 ≡ c.size_4) × Does (function_piece x.root) (unused ws ts) (used c ws' ts'))) r
+
+-- what is answered of a chunk: what was measured, or its refusal
+abbrev pub answer_of : Result Undumped Refusal → Undumped
+answer_of (Ok m) = m
+answer_of (Err e) = refused_by (number e)
+
+-- what measuring a chunk gives: what is answered of it, with refusal 0 where it is not refused
+pub record Measures (bs name : List ℕ) (r : Result Undumped Refusal) : Type 0 where
+  pub answers : answer_of r ≡ measured bs name
+  pub accepted : IfOk r (λ m. m.refusal ≡ 0)
 
 -- an answer, with what stands in lent memory
 abbrev pub undump_left : Undumped → List ℕ → List ℕ → UndumpLeft

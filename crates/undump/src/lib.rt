@@ -4,31 +4,33 @@
 pub mod header;
 
 ghost use Rattle.std.specs.Prelude.{◌≡◌};
+ghost use Rattle.format.specs.Refusal.{number};
 ghost use Rattle.format.specs.Undump.{refused_by, measured, as_measured, stored};
-ghost use Rattle.undump.specs.Undump.{LoadsChunk, undump_left};
+ghost use Rattle.undump.specs.Undump.{LoadsChunk, Measures, undump_left};
 
-use format::{DEPTH, MOST, Undumped, name_ok, width};
+use format::{DEPTH, MOST, Refusal, Undumped, name_ok, width};
 use header::load_header;
-use lent::least;
-use load::Load;
+use load::Loader;
 use load_function::load_function;
-use load_state::cursor::remaining;
+use load_state::LoadState;
 
 // What measure answers of words or text bytes that are above the limit.
 const ABOVE: usize = MOST + 1;
 
-// A chunk that was loaded: whether its sizes take 4 bytes, and the state of the reader behind it. Beside a refusal size_4 is open: nothing reads it.
+// A chunk that was loaded: whether its sizes take 4 bytes, the words and the text bytes of its tree, and the place behind it.
 #[derive(Clone, Copy)]
 pub struct LoadedChunk {
     pub size_4: bool,
-    pub load: Load,
+    pub words: usize,
+    pub text: usize,
+    pub next: usize,
 }
 
-fn refused(n: u32) -> Undumped
-    ensures { result ≡ refused_by n }
+fn refused(e: Refusal) -> Undumped
+    ensures { result ≡ refused_by (number e) }
 {
     Undumped {
-        refusal: n,
+        refusal: e.number(),
         width: 0,
         words: 0,
         text: 0,
@@ -37,59 +39,68 @@ fn refused(n: u32) -> Undumped
 }
 
 // The header, then the root function, whose tree goes to the words and the text (luaU_undump).
-fn load_chunk(chunk: &[u8], words: &mut [u32], text: &mut [u8]) -> LoadedChunk
+fn load_chunk(chunk: &[u8], words: &mut [u32], text: &mut [u8]) -> Result<LoadedChunk, Refusal>
     ensures { LoadsChunk chunk.now words.old text.old result words.new text.new }
 {
-    let header = load_header(chunk);
-    let size_4 = header.size_4;
-    let cursor = header.cursor;
-    let start = Load {
-        cursor,
-        words: 0,
-        text: 0,
+    let header = load_header(chunk)?;
+    let reader = LoadState {
+        chunk,
+        pos: header.next,
     };
-    let load = load_function(chunk, words, text, start, DEPTH, size_4);
-    LoadedChunk { size_4, load }
+    let mut s = Loader {
+        reader,
+        size_4: header.value,
+        words,
+        words_at: 0,
+        text,
+        text_at: 0,
+    };
+    load_function(&mut s, DEPTH)?;
+    Ok(LoadedChunk {
+        size_4: header.value,
+        words: s.words_at,
+        text: s.text_at,
+        next: s.reader.pos,
+    })
 }
 
-// The words and the text bytes that the tree of a chunk takes, ABOVE for all that are above the limit, and the bytes of the chunk that are read.
 // The chunk is loaded with no space, which counts and finds what refuses it.
-pub fn measure(chunk: &[u8], name: &[u8]) -> Undumped
-    ensures { result ≡ measured chunk.now name.now }
+fn load_measured(chunk: &[u8], name: &[u8]) -> Result<Undumped, Refusal>
+    ensures { Measures chunk.now name.now result }
 {
     if !name_ok(name) {
-        return refused(1);
+        return Err(Refusal::BadName);
     }
     let mut no_words = [0u32; 0];
     let mut no_text = [0u8; 0];
-    let c = load_chunk(chunk, &mut no_words, &mut no_text);
-    let need = c.load;
-    if 0 < need.cursor.refusal {
-        return refused(need.cursor.refusal);
-    }
-    Undumped {
+    let c = load_chunk(chunk, &mut no_words, &mut no_text)?;
+    Ok(Undumped {
         refusal: 0,
         width: width(c.size_4) as u32,
-        words: least(need.words, ABOVE),
-        text: least(need.text, ABOVE),
-        read: chunk.len() - remaining(chunk, need.cursor.next),
+        words: c.words.min(ABOVE),
+        text: c.text.min(ABOVE),
+        read: c.next.min(chunk.len()),
+    })
+}
+
+// The words and the text bytes that the tree of a chunk takes, ABOVE for all that are above the limit, and the bytes of the chunk that are read.
+pub fn measure(chunk: &[u8], name: &[u8]) -> Undumped
+    ensures { result ≡ measured chunk.now name.now }
+{
+    match load_measured(chunk, name) {
+        Err(e) => refused(e),
+        Ok(m) => m,
     }
 }
 
-// Whether three numbers are those that measure answered.
+// Whether three numbers, as C hands them over, are those that measure answered.
 fn as_measured(m: Undumped, need_words: usize, need_text: usize, need_read: usize) -> bool
     ensures { result ≡ as_measured m need_words need_text need_read }
 {
-    if need_words != m.words {
-        return false;
-    }
-    if need_text != m.text {
-        return false;
-    }
-    need_read == m.read
+    need_words == m.words && need_text == m.text && need_read == m.read
 }
 
-// Stores the tree of a chunk in lent memory, given what measure answered of it: measured again, and where the numbers are the same and all fits, loaded into the space.
+// Stores the tree of a chunk in lent memory, given what measure answered of it (three numbers, as C hands them over): measured again, and where the numbers are the same and all fits, loaded into the space.
 pub fn store(
     chunk: &[u8],
     name: &[u8],
@@ -101,21 +112,20 @@ pub fn store(
 ) -> Undumped
     ensures { undump_left result words.new text.new ≡ stored chunk.now name.now need_words need_text need_read words.old text.old }
 {
-    let m = measure(chunk, name);
-    if 0 < m.refusal {
-        return m;
-    }
+    let m = match load_measured(chunk, name) {
+        Err(e) => return refused(e),
+        Ok(m) => m,
+    };
     if !as_measured(m, need_words, need_text, need_read) {
-        return refused(15);
+        return refused(Refusal::NotAsMeasured);
     }
-    let n = m.words;
-    let k = m.text;
-    if least(words.len(), MOST) < n {
-        return refused(8);
+    if words.len().min(MOST) < m.words {
+        return refused(Refusal::TooFewWords);
     }
-    if least(text.len(), MOST) < k {
-        return refused(9);
+    if text.len().min(MOST) < m.text {
+        return refused(Refusal::TooLittleText);
     }
-    load_chunk(chunk, &mut words[..n], &mut text[..k]);
+    // Measured so, it is not refused here.
+    let _ = load_chunk(chunk, &mut words[..m.words], &mut text[..m.text]);
     m
 }

@@ -1,5 +1,5 @@
 -- Text within bytes: how it goes on, and what it says of the whole.
-use Rattle.lent.proofs.Prelude.{ℕ, ◌+◌, ◌-◌, ◌≤◌, ◌<◌, min, ◌≡◌, refl, sym, ap, ◌∙◌, List, [], ◌∷◌, ◌++◌, Bool, true, false, not, arith, ℕ_discrete, length, take, drop, get_or, take-append-drop, length-drop, drop_of_length-le, take-add, drop-drop, eqb, eq-eqb, ne_eqb, not-true, not-false}
+use Rattle.lent.proofs.Prelude.{ℕ, ◌+◌, ◌-◌, ◌≤◌, ◌<◌, min, ◌≡◌, refl, sym, ap, ◌∙◌, List, [], ◌∷◌, ◌++◌, Bool, true, false, not, arith, ℕ_discrete, length, take, drop, get_or, take-append-drop, length-drop, drop_of_length-le, take-add, drop-drop, eqb, eq-eqb, ne_eqb, not-false}
 use Rattle.lent.proofs.Lists.{drop_more}
 use Rattle.utf8.specs.declared.Step.{Step}
 use Rattle.utf8.specs.Utf8.{Range, ◌‥◌, first_step, is_utf8, is_ascii, replacement, repair_up_to, repair}
@@ -18,8 +18,8 @@ text_some : (s : List ℕ) (at n : ℕ) → at + n ≤ length s → is_utf8 (tak
 text_some s at n h k = record { from = omega arith; fits = h; text = let e : at + n - at ≡ n = omega arith in rw e k }
 
 -- ASCII is text
-pub text_ascii : {s : List ℕ} {at : ℕ} (n : ℕ) {t : Bool} → at + n ≤ length s → t ≡ is_ascii (take n (drop at s)) → not t ≡ false → Text s at (at + n)
-text_ascii {s} {at} n {t} h e k = text_some s at n h (utf8_ascii _ (ascii_every _ (sym e ∙ not-false t k)))
+pub text_ascii : {s : List ℕ} {at : ℕ} (n : ℕ) {t : Bool} → at + n ≤ length s → t ≡ is_ascii (take n (drop at s)) → t ≡ true → Text s at (at + n)
+text_ascii {s} {at} n {t} h e k = text_some s at n h (utf8_ascii _ (ascii_every _ (sym e ∙ k)))
 
 -- from a to b, and from b to c
 joined : (s : List ℕ) (a b c : ℕ) → a ≤ b → b ≤ c → take (c - a) (drop a s) ≡ take (b - a) (drop a s) ++ take (c - b) (drop b s)
@@ -72,16 +72,12 @@ repair_none s at h = rw (drop_of_length-le s h)
 
 -- a sequence of n bytes, its lead byte in a range whose bytes all lead rows of n
 pub text_led : {s : List ℕ} {at : ℕ} {t : Bool} {r : Range} (n low high : ℕ) → Led n low high → high < 256
-    → t ≡ begins (low ‥ high) (drop at s) → not t ≡ false → Begun s at n n r → Text s at (at + n)
+    → t ≡ begins (low ‥ high) (drop at s) → t ≡ true → Begun s at n n r → Text s at (at + n)
 text_led {s} {at} {t} n low high led k e h l =
-    let b = begins_byte s at (low ‥ high) (sym e ∙ not-false t h) in
+    let b = begins_byte s at (low ‥ high) (sym e ∙ h) in
     text_step s at b.0 (step_led s at n n b.0 (omega arith) (led (get_or s at 0) b.1 b.2) (begun_done (omega arith) l)) (rw (eq-eqb n n refl))
 
--- text that ends before an ill-formed step
-pub text_stop : {s : List ℕ} {at to : ℕ} {r : Step} → r ≡ first_step (drop to s) → not r.well_formed ≡ true → Text s at to → TextEnd s at to
-text_stop e k h = record { text = h; stops = λ l. not-true _ (rw e at k) }
-
--- and at the end of the bytes
+-- text that ends at the end of the bytes
 pub text_end : {s : List ℕ} {at to : ℕ} → length s ≤ to → Text s at to → TextEnd s at to
 text_end k h = record { text = h; stops = λ l. absurd (omega arith) }
 

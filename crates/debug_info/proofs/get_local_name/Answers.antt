@@ -7,13 +7,13 @@ use Rattle.proto.proofs.ListPlaces.{lists_stand}
 use Rattle.debug_info.proofs.Calls.{place_refused, place_answered}
 use Rattle.debug_info.proofs.get_local_name.Goals as goal
 
-pub returns-then-refusal-gt0 : goal.returns-then-refusal-gt0
+pub returns-in-Err : goal.returns-in-Err
 unfolding local_named get_local_name
-returns-then-refusal-gt0 c = let a = c.args in let out = a.out.now in
-    place_refused (name_refused out) (λ f. named (get_local_name (parts_of f).debug.locals a.local_number a.pc) out) _ _ _ c.place_refusal-refusal.ensures c.if-refusal-gt0.true
+returns-in-Err c = let a = c.args in let out = a.out.now in
+    rw c.refused.ensures (place_refused (name_refused out) (λ f. named (get_local_name (parts_of f).debug.locals a.local_number a.pc) out) _ _ _ _ c.in-Err.ensures)
 
 pub returns : goal.returns
 unfolding local_named get_local_name
 returns c = let a = c.args in let out = a.out.now in
-    place_answered (name_refused out) (λ f. named (get_local_name (parts_of f).debug.locals a.local_number a.pc) out) _ _ _ c.place_refusal-refusal.ensures c.if-refusal-gt0.false
+    place_answered (name_refused out) (λ f. named (get_local_name (parts_of f).debug.locals a.local_number a.pc) out) _ _ _ c.in_default.ensures
     (λ p fs v h. c.give.ensures ∙ ap (λ o. named o out) (c.active_local-v.ensures _ p.debug.locals (lists_stand p fs h (c.lists_at-locals.ensures p fs v)).locals))

@@ -7,21 +7,19 @@ use Rattle.proto.proofs.ListPlaces.{lists_stand}
 use Rattle.debug_info.proofs.Calls.{register_refused, register_answered, pc_fits, reg_small}
 use Rattle.debug_info.proofs.getobjname.Goals as goal
 
-pub returns-then-refusal-gt0 : goal.returns-then-refusal-gt0
+pub returns-in-Err : goal.returns-in-Err
 unfolding object_named unsearched
-returns-then-refusal-gt0 c = let a = c.args in let out = a.out.now in
-    register_refused (name_refused out) (λ f. named (getobjname f a.pc a.stackpos) out) _ _ _ _ _ c.register_refusal-refusal.ensures c.if-refusal-gt0.true
+returns-in-Err c = let a = c.args in let out = a.out.now in
+    rw c.refused.ensures (register_refused (name_refused out) (λ f. named (getobjname f a.pc a.stackpos) out) _ _ _ _ _ _ c.in-Err.ensures)
 
 pub overflow_cast-pc : goal.overflow_cast-pc
-unfolding object_named unsearched
-overflow_cast-pc c = search pc_fits
+overflow_cast-pc c = search (pc_fits, c.in_default.ensures)
 
 pub getobjname-v-requires : goal.getobjname-v-requires
-unfolding object_named unsearched
-getobjname-v-requires c = search reg_small
+getobjname-v-requires c = search (reg_small, c.in_default.ensures)
 
 pub returns : goal.returns
 unfolding object_named unsearched
 returns c = let a = c.args in let out = a.out.now in
-    register_answered (name_refused out) (λ f. named (getobjname f a.pc a.stackpos) out) _ _ _ _ _ c.register_refusal-refusal.ensures c.if-refusal-gt0.false
+    register_answered (name_refused out) (λ f. named (getobjname f a.pc a.stackpos) out) _ _ _ _ _ c.in_default.ensures
     (λ p fs v h. c.give.ensures ∙ ap (λ o. named o out) (c.getobjname-v.ensures _ p fs (lists_stand p fs h (c.lists_at-s.ensures p fs v)) v))

@@ -6,5 +6,5 @@ use Rattle.dump.proofs.dump_chunk.Goals as goal
 pub dump_header-requires : goal.dump_header-requires
 dump_header-requires c = search (rules, header_fits)
 
-pub dump_function-end-requires : goal.dump_function-end-requires
-dump_function-end-requires c = root_ready c.requires c.dump_header.ensures
+pub dump_function-requires : goal.dump_function-requires
+dump_function-requires c = root_ready c.requires c.dump_header.ensures

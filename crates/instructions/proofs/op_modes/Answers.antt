@@ -6,5 +6,5 @@ use Rattle.instructions.proofs.op_modes.Goals as goal
 pub returns : goal.returns
 returns c = let table = c.op_mode_bytes-table in
     let op = c.args.op in
-    rw (c.modes_of_byte.ensures, c.or_move-n.ensures)
-    (looked_up modes_of_byte (λ (o : Row). o.modes) 0 table.result op table.ensures)
+    rw (c.modes_of_byte.ensures, c.from-n.ensures, c.or_move.ensures)
+    (looked_up modes_of_byte (λ (o : Row). o.modes) 0 table.result.now op table.ensures)

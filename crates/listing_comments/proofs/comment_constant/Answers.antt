@@ -3,4 +3,4 @@ use Rattle.listing_operands.proofs.ShownLists.{shows_put, shows_then}
 use Rattle.listing_comments.proofs.comment_constant.Goals as goal
 
 pub returns : goal.returns
-returns c = shows_then (shows_put c.put_comment-o.ensures) c.format_constant.ensures
+returns g c = shows_then (shows_put c.put_comment.ensures) c.format_constant.ensures

@@ -1,7 +1,6 @@
 -- The beginning of a comment, then the number.
-use Rattle.lent.proofs.Prelude.{rules}
-use Rattle.lent.proofs.Writes.{put_then}
+use Rattle.lent.proofs.Writers.{writes_then}
 use Rattle.listing_comments.proofs.comment_items.Goals as goal
 
 pub returns : goal.returns
-returns c = search (rules, put_then)
+returns c = writes_then c.put_comment.ensures c.put_u32.ensures

@@ -1,46 +1,74 @@
 -- The tests are those of the definition, in its order; the comment is that of the list which stands where lists says.
-use Rattle.lent.proofs.Prelude.{sym, ◌∙◌, eq-eqb, ne_eqb}
-use Rattle.lent.proofs.Writes.{put_none}
-use Rattle.listing_comments.specs.Comment.{format_comment}
-use Rattle.listing_comments.proofs.Comments.{closure_shown}
+use Rattle.lent.proofs.Prelude.{refl, sym, ◌∙◌, ◌≡◌, ◌||◌, ◌++◌, ne_eqb, rules}
+use Rattle.lent.specs.Memory.{Every}
+use Rattle.instructions.specs.Fields.{ISK, GETARG_B, GETARG_C}
+use Rattle.instructions.specs.OpCodes.{ascii, is_jump, jump_ops, OP_LOADK, OP_GETUPVAL, OP_SETUPVAL, OP_GETGLOBAL, OP_SETGLOBAL, OP_GETTABLE, OP_SELF, OP_CLOSURE, OP_SETLIST, OP_VARARG}
+use Rattle.lent.proofs.Writers.{writes_none}
+use Rattle.listing_comments.specs.Comment.{format_comment, comment, when, operand_constant, operand_ops, jump_target}
+use Rattle.listing_comments.proofs.Comments.{of_each, not_either, closure_shown}
 use Rattle.listing_comments.proofs.format_comment.Goals as goal
+use mathlib.Core.Logic.{⊎_elim}
 
-pub returns-then-op-eq-OP_LOADK : goal.returns-then-op-eq-OP_LOADK
+pub returns-in-1 : goal.returns-in-1
 unfolding format_comment
-returns-then-op-eq-OP_LOADK c = λ p fs number l k. rw (eq-eqb _ _ c.if-op-eq-OP_LOADK.true, ← c.bx-bx.ensures) (c.comment_constant.ensures.shows p.constants l.constants)
+returns-in-1 c = λ p fs number l k. rw (c.in-1.is, ← c.bx-bx.ensures) (c.comment_constant.ensures.shows p.constants l.constants)
 
-pub returns-then-either : goal.returns-then-either
+pub returns-in-4 : goal.returns-in-4
 unfolding format_comment
-returns-then-either c = λ p fs number l k. rw (ne_eqb _ _ c.if-op-eq-OP_LOADK.false, sym c.either.ensures ∙ c.if-either.true, ← c.b-b.ensures) (c.comment_upvalue.ensures.shows p.debug.upvalues l.upvalues)
+returns-in-4 c = λ p fs number l k.
+    let t = rw c.b-b.ensures at (c.comment_upvalue.ensures.shows p.debug.upvalues l.upvalues) in
+    ⊎_elim (λ e. rw e t) (λ e. rw e t) c.in-4.is
 
-pub returns-then-either-2 : goal.returns-then-either-2
+pub returns-in-5 : goal.returns-in-5
 unfolding format_comment
-returns-then-either-2 c = λ p fs number l k. rw (ne_eqb _ _ c.if-op-eq-OP_LOADK.false, sym c.either.ensures ∙ c.if-either.false, sym c.either-2.ensures ∙ c.if-either-2.true, ← c.bx-bx.ensures) (c.comment_global.ensures.shows p.constants l.constants)
+returns-in-5 c = λ p fs number l k.
+    let t = rw c.bx-bx.ensures at (c.comment_constant-in-5.ensures.shows p.constants l.constants) in
+    ⊎_elim (λ e. rw e t) (λ e. rw e t) c.in-5.is
 
-pub returns-then-either-3 : goal.returns-then-either-3
+pub returns-in-6 : goal.returns-in-6
 unfolding format_comment
-returns-then-either-3 c = λ p fs number l k. rw (ne_eqb _ _ c.if-op-eq-OP_LOADK.false, sym c.either.ensures ∙ c.if-either.false, sym c.either-2.ensures ∙ c.if-either-2.false, sym c.either-3.ensures ∙ c.if-either-3.true, ← c.c-c.ensures) (c.comment_key.ensures.shows p.constants l.constants)
+returns-in-6 c = λ p fs number l k.
+    let t = rw c.c-c.ensures at (c.comment_key.ensures.shows p.constants l.constants) in
+    ⊎_elim (λ e. rw e t) (λ e. rw e t) c.in-6.is
 
-pub returns-then-has_operands : goal.returns-then-has_operands
-unfolding format_comment
-returns-then-has_operands c = λ p fs number l k. rw (ne_eqb _ _ c.if-op-eq-OP_LOADK.false, sym c.either.ensures ∙ c.if-either.false, sym c.either-2.ensures ∙ c.if-either-2.false, sym c.either-3.ensures ∙ c.if-either-3.false, sym c.has_operands.ensures ∙ c.if-has_operands.true, ← c.b-b.ensures, ← c.c-c.ensures) (c.comment_operands.ensures.shows p.constants l.constants)
+pub returns-in-36 : goal.returns-in-36
+unfolding format_comment is_jump
+returns-in-36 c = λ p fs number l k. rw c.in-36.is (closure_shown fs number _ c.args.i _ l.functions k c.in-36.is (rw c.bx-bx.ensures at c.comment_closure.ensures))
 
-pub returns-then-is_jump : goal.returns-then-is_jump
-unfolding format_comment
-returns-then-is_jump c = λ p fs number l k. rw (ne_eqb _ _ c.if-op-eq-OP_LOADK.false, sym c.either.ensures ∙ c.if-either.false, sym c.either-2.ensures ∙ c.if-either-2.false, sym c.either-3.ensures ∙ c.if-either-3.false, sym c.has_operands.ensures ∙ c.if-has_operands.false, sym c.is_jump.ensures ∙ c.if-is_jump.true) c.comment_jump.ensures
+pub returns-in-34 : goal.returns-in-34
+unfolding format_comment is_jump
+returns-in-34 c = λ p fs number l k. rw (c.in-34.is, ← c.c-c.ensures) ((c.comment_set_list.ensures _).shows p.code l.code)
 
-pub returns-then-op-eq-OP_CLOSURE : goal.returns-then-op-eq-OP_CLOSURE
-unfolding format_comment
-returns-then-op-eq-OP_CLOSURE c = λ p fs number l k. rw (ne_eqb _ _ c.if-op-eq-OP_LOADK.false, sym c.either.ensures ∙ c.if-either.false, sym c.either-2.ensures ∙ c.if-either-2.false, sym c.either-3.ensures ∙ c.if-either-3.false, sym c.has_operands.ensures ∙ c.if-has_operands.false, sym c.is_jump.ensures ∙ c.if-is_jump.false, eq-eqb _ _ c.if-op-eq-OP_CLOSURE.true) (closure_shown fs number _ c.args.i _ l.functions k c.if-op-eq-OP_CLOSURE.true (rw c.bx-bx.ensures at c.comment_closure.ensures))
+pub returns-in-37 : goal.returns-in-37
+unfolding format_comment is_jump
+returns-in-37 c = λ p fs number l k. rw c.in-37.is c.comment_vararg.ensures
 
-pub returns-then-op-eq-OP_SETLIST : goal.returns-then-op-eq-OP_SETLIST
-unfolding format_comment
-returns-then-op-eq-OP_SETLIST c = λ p fs number l k. rw (ne_eqb _ _ c.if-op-eq-OP_LOADK.false, sym c.either.ensures ∙ c.if-either.false, sym c.either-2.ensures ∙ c.if-either-2.false, sym c.either-3.ensures ∙ c.if-either-3.false, sym c.has_operands.ensures ∙ c.if-has_operands.false, sym c.is_jump.ensures ∙ c.if-is_jump.false, ne_eqb _ _ c.if-op-eq-OP_CLOSURE.false, eq-eqb _ _ c.if-op-eq-OP_SETLIST.true, ← c.c-c.ensures) ((c.comment_set_list.ensures _).shows p.code l.code)
+pub returns-in_default : goal.returns-in_default
+unfolding format_comment Every
+returns-in_default c = λ p fs number l k.
+    let t = when (ISK (GETARG_B c.args.i) || ISK (GETARG_C c.args.i)) (comment (operand_constant p.constants (GETARG_B c.args.i) ++ ascii " " ++ operand_constant p.constants (GETARG_C c.args.i))) in
+    let e = of_each (λ op. format_comment op p fs number c.args.pc c.args.i ≡ t) c.args.op operand_ops (sym c.has_operands.ensures ∙ c.if-has_operands.true) (refl, (refl, (refl, (refl, (refl, (refl, (refl, (refl, (refl, (refl, tt)))))))))) in
+    rw (e, ← c.b-b.ensures, ← c.c-c.ensures) (c.comment_operands.ensures.shows p.constants l.constants)
 
-pub returns-then-op-eq-OP_VARARG : goal.returns-then-op-eq-OP_VARARG
-unfolding format_comment
-returns-then-op-eq-OP_VARARG c = λ p fs number l k. rw (ne_eqb _ _ c.if-op-eq-OP_LOADK.false, sym c.either.ensures ∙ c.if-either.false, sym c.either-2.ensures ∙ c.if-either-2.false, sym c.either-3.ensures ∙ c.if-either-3.false, sym c.has_operands.ensures ∙ c.if-has_operands.false, sym c.is_jump.ensures ∙ c.if-is_jump.false, ne_eqb _ _ c.if-op-eq-OP_CLOSURE.false, ne_eqb _ _ c.if-op-eq-OP_SETLIST.false, eq-eqb _ _ c.if-op-eq-OP_VARARG.true) c.comment_vararg.ensures
+pub returns-in_default-2 : goal.returns-in_default-2
+unfolding format_comment is_jump Every
+returns-in_default-2 c = λ p fs number l k.
+    let t = comment (ascii "to " ++ jump_target c.args.pc c.args.i) in
+    let e = of_each (λ op. format_comment op p fs number c.args.pc c.args.i ≡ t) c.args.op jump_ops (sym c.is_jump.ensures ∙ c.if-is_jump.true) (refl, (refl, (refl, tt))) in
+    rw e c.comment_jump.ensures
 
-pub returns : goal.returns
+pub returns-in_default-3 : goal.returns-in_default-3
 unfolding format_comment
-returns c = λ p fs number l k. rw (ne_eqb _ _ c.if-op-eq-OP_LOADK.false, sym c.either.ensures ∙ c.if-either.false, sym c.either-2.ensures ∙ c.if-either-2.false, sym c.either-3.ensures ∙ c.if-either-3.false, sym c.has_operands.ensures ∙ c.if-has_operands.false, sym c.is_jump.ensures ∙ c.if-is_jump.false, ne_eqb _ _ c.if-op-eq-OP_CLOSURE.false, ne_eqb _ _ c.if-op-eq-OP_SETLIST.false, ne_eqb _ _ c.if-op-eq-OP_VARARG.false) put_none
+returns-in_default-3 c = λ p fs number l k.
+    rw (
+      ne_eqb c.args.op OP_LOADK (search rules),
+      not_either c.args.op OP_GETUPVAL OP_SETUPVAL (search rules),
+      not_either c.args.op OP_GETGLOBAL OP_SETGLOBAL (search rules),
+      not_either c.args.op OP_GETTABLE OP_SELF (search rules),
+      sym c.has_operands.ensures ∙ c.if-has_operands.false,
+      sym c.is_jump.ensures ∙ c.if-is_jump.false,
+      ne_eqb c.args.op OP_CLOSURE (search rules),
+      ne_eqb c.args.op OP_SETLIST (search rules),
+      ne_eqb c.args.op OP_VARARG (search rules),
+    )
+    writes_none

@@ -1,5 +1,5 @@
 -- The parts one after the other, the list of lines standing where lists says.
-use Rattle.lent.proofs.Writes.{put_then}
+use Rattle.lent.proofs.Writers.{writes_then}
 use Rattle.listing_lines.specs.Line.{format_instruction}
 use Rattle.listing_lines.proofs.format_instruction.Goals as goal
 
@@ -7,4 +7,4 @@ pub returns : goal.returns
 unfolding format_instruction
 returns c = λ p fs number l k.
     let o = c.opcode-op.ensures in
-    rw (← o, ← c.line_at-line.ensures _ p.debug.lines l.lines) (put_then (put_then c.format_start-a.ensures (c.format_comment-b.ensures p fs number l (rw (← o) at k))) c.put_byte.ensures)
+    rw (← o, ← c.line_at-line.ensures _ p.debug.lines l.lines) (writes_then (writes_then c.format_start.ensures (c.format_comment.ensures p fs number l (rw (← o) at k))) c.put_byte.ensures)

@@ -1,10 +1,6 @@
--- Past the count there is no line, before it line pc stands there.
-use Rattle.lent.proofs.Prelude.{rules, sym}
-use Rattle.listing_lines.proofs.Lines.{line_past, line_there}
+-- It is got from the words that stand there.
+use Rattle.listing_operands.proofs.ShownLists.{got_copied}
 use Rattle.listing_lines.proofs.line_at.Goals as goal
 
-pub returns-then-word_at-pc : goal.returns-then-word_at-pc
-returns-then-word_at-pc c t l s = sym (search (rules, line_past))
-
 pub returns : goal.returns
-returns c t l s = sym (search (rules, line_there))
+returns c = λ t l s. rw (c.copied.ensures, ← c.ints_at.ensures l t s.to s.stands) (got_copied c.ints_at.result.now c.args.pc c.get.result c.get.ensures.lookup.0 c.get.ensures.lookup.1)

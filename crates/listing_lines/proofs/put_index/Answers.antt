@@ -1,7 +1,6 @@
 -- The parts one after the other.
-use Rattle.lent.proofs.Prelude.{rules}
-use Rattle.lent.proofs.Writes.{put_then}
+use Rattle.lent.proofs.Writers.{writes_then}
 use Rattle.listing_lines.proofs.put_index.Goals as goal
 
 pub returns : goal.returns
-returns c = search (rules, put_then)
+returns c = writes_then (writes_then c.put_byte.ensures c.put_decimal.ensures) c.put_byte-2.ensures

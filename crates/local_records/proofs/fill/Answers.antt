@@ -7,4 +7,4 @@ pub loop-i-preserved : goal.loop-i-preserved
 loop-i-preserved c = search (rules, length-set, filling_more)
 
 pub returns : goal.returns
-returns c = search filling_all
+returns c = search (rules, filling_all)

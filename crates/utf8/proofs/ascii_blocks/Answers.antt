@@ -1,5 +1,5 @@
 -- Each block goes on with the text so far.
-use Rattle.lent.proofs.Prelude.{rules, ap, not, arith}
+use Rattle.lent.proofs.Prelude.{rules, arith, ◌+◌, ◌-◌, ◌≡◌}
 use Rattle.utf8.proofs.Texts.{text_none, text_ascii, text_join}
 use Rattle.utf8.proofs.ascii_blocks.Goals as goal
 
@@ -7,4 +7,6 @@ pub loop-i-init : goal.loop-i-init
 loop-i-init c = search (rules, text_none)
 
 pub loop-i-preserved : goal.loop-i-preserved
-loop-i-preserved c = text_join c.loop-i.invariant (text_ascii 32 (omega arith) c.is_ascii_block.ensures (ap not c.if-not-is_ascii_block.false))
+loop-i-preserved c = let i = c.loop-i.i in
+    let n : i + 32 - i ≡ 32 = omega arith in
+    text_join c.loop-i.invariant (text_ascii 32 (omega arith) (rw n at c.is_ascii.ensures) c.if-is_ascii.true)

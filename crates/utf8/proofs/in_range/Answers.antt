@@ -1,13 +1,10 @@
--- Past the end no byte stands; before it the two tests are those of the range.
-use Rattle.lent.proofs.Prelude.{rules, le-leb, lt-leb}
+-- Past the end no byte stands; before it the test is the range's.
+use Rattle.lent.proofs.Prelude.{rules, le-leb}
 use Rattle.utf8.proofs.Rows.{begins_none, begins_some}
 use Rattle.utf8.proofs.in_range.Goals as goal
 
-pub returns-then-bytes-at : goal.returns-then-bytes-at
-returns-then-bytes-at c = search (rules, begins_none)
+pub returns-then-at-bytes : goal.returns-then-at-bytes
+returns-then-at-bytes c = search (rules, begins_some, le-leb)
 
-pub returns-then-b-low : goal.returns-then-b-low
-returns-then-b-low c = search (rules, begins_some, lt-leb)
-
-pub returns : goal.returns
-returns c = search (rules, begins_some, le-leb)
+pub returns-else-at-bytes : goal.returns-else-at-bytes
+returns-else-at-bytes c = search (rules, begins_none)

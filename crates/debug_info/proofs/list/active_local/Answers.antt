@@ -1,15 +1,15 @@
--- The loop's invariant: whatever the locals from here lead to, all of them lead to.
-use Rattle.debug_info.proofs.Lists.{ends_over, ends_late, ends_found, goes_on}
+-- The loop's invariant: the locals from here on lead to what all of them do.
+use Rattle.debug_info.proofs.Lists.{ends_over, ends_nothing, ends_found, goes_on}
 use Rattle.debug_info.proofs.list.active_local.Goals as goal
 
-pub returns-then-pc-v : goal.returns-then-pc-v
-returns-then-pc-v c = search ends_late
+pub returns-in-Nothing : goal.returns-in-Nothing
+returns-in-Nothing c = search (ends_nothing, c.in-Nothing.ensures)
 
-pub returns-then-is_last : goal.returns-then-is_last
-returns-then-is_last c = search ends_found
+pub returns-in-Found : goal.returns-in-Found
+returns-in-Found c = search (ends_found, c.in-Found.ensures)
 
 pub loop-i-preserved : goal.loop-i-preserved
-loop-i-preserved c = search goes_on
+loop-i-preserved c = search (goes_on, c.in-Left.ensures)
 
 pub returns : goal.returns
 returns c = search ends_over

@@ -1,11 +1,6 @@
--- The loop's invariant: whatever the locals from here lead to, all of them lead to.
-use Rattle.lent.proofs.Prelude.{◌-◌}
-use Rattle.format.proofs.Loops.{Loop}
-use Rattle.debug_info.proofs.Lists.{Active}
+-- The loop's invariant: the locals from here on lead to what all of them do.
+use Rattle.debug_info.proofs.Lists.{Searching}
 use Rattle.debug_info.proofs.list.active_local.Given as goal
 
 abbrev pub invariant-loop-i : goal.invariant-loop-i
-invariant-loop-i l = Loop (Active l.words l.pc) l.count (l.initial.at, l.initial.remaining) l.i (l.at, l.remaining)
-
-abbrev pub decreases-loop-i : goal.decreases-loop-i
-decreases-loop-i l = l.count - l.i
+invariant-loop-i l = Searching l.words l.locals l.pc l.n l.i l.remaining

@@ -6,8 +6,8 @@ use Rattle.debug_info.proofs.object.+getobjname.Goals as goal
 pub returns-then-before-n : goal.returns-then-before-n
 returns-then-before-n t c = search search_again
 
-pub returns-then-v-gt0 : goal.returns-then-v-gt0
-returns-then-v-gt0 t c = search search_local
+pub returns-then-is_some : goal.returns-then-is_some
+returns-then-is_some t c = search search_local
 
 pub getobjname-requires : goal.getobjname-requires
 getobjname-requires t c = (

@@ -9,5 +9,5 @@ returns-then-root c = search (rules, elided_root)
 pub returns-then-word_at-eq0 : goal.returns-then-word_at-eq0
 returns-then-word_at-eq0 c = search (rules, elided_inherited)
 
-pub returns : goal.returns
-returns c = search (rules, elided_compared)
+pub returns-else-word_at-eq0 : goal.returns-else-word_at-eq0
+returns-else-word_at-eq0 c = search (rules, elided_compared)

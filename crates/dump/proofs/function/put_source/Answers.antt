@@ -12,5 +12,5 @@ returns-then-elide c = search (rules, elided_puts)
 pub dump_string-requires : goal.dump_string-requires
 dump_string-requires c = search (rules, room_own)
 
-pub returns : goal.returns
-returns c = search (rules, own_puts)
+pub returns-else-elide : goal.returns-else-elide
+returns-else-elide c = search (rules, own_puts)

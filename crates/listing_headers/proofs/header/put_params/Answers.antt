@@ -1,7 +1,7 @@
 -- The parts one after the other.
 use Rattle.lent.proofs.Prelude.{rules}
-use Rattle.lent.proofs.Writes.{put_then}
+use Rattle.lent.proofs.Writers.{writes_then}
 use Rattle.listing_headers.proofs.header.put_params.Goals as goal
 
 pub returns : goal.returns
-returns c = search (rules, put_then)
+returns c = search (rules, writes_then)

@@ -1,13 +1,13 @@
--- Past the count there is no constant, before it constant idx stands there.
-use Rattle.lent.proofs.Prelude.{some}
+-- There is no such constant, or there is.
+use Rattle.lent.proofs.Prelude.{none, some, not, eqb}
 use Rattle.format.specs.Store.{constant_piece}
-use Rattle.proto.proofs.Pieces.{constant_words_law}
+use Rattle.format.specs.Constants.{value_of}
 use Rattle.listing_operands.specs.Operands.{constant_text}
-use Rattle.listing_operands.proofs.ShownLists.{shows_past, shows_item, constant_shown}
+use Rattle.listing_operands.proofs.ShownLists.{shows_of}
 use Rattle.listing_operands.proofs.constant.format_constant.Goals as goal
 
-pub returns-then-word_at-idx : goal.returns-then-word_at-idx
-returns-then-word_at-idx c = shows_past constant_piece constant_text c.word_at.ensures c.if-word_at-idx.true c.put_bytes.ensures
+pub returns-in-None : goal.returns-in-None
+returns-in-None g c = shows_of constant_piece (constant_text (not (eqb g.row.RAW 0))) _ none (c.in-None.ensures _) c.put_bytes.ensures
 
-pub returns : goal.returns
-returns c = shows_item constant_piece 3 constant_words_law constant_text c.word_at.ensures c.if-word_at-idx.false c.item_at.ensures (constant_shown c.constant_at-k.result (λ v. constant_text (some v)) c.constant_at-k.ensures.value c.put_constant.ensures)
+pub returns-in-Some : goal.returns-in-Some
+returns-in-Some g c = shows_of constant_piece (constant_text (not (eqb g.row.RAW 0))) _ (some (value_of _ c.in-Some.k)) (c.in-Some.ensures _) c.put_constant.ensures

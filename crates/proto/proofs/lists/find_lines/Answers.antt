@@ -2,5 +2,8 @@
 use Rattle.proto.proofs.ListPlaces.{walked}
 use Rattle.proto.proofs.lists.find_lines.Goals as goal
 
-pub returns-clause-found : goal.returns-clause-found
-returns-clause-found c = search walked
+pub returns-in-Some-clause-found : goal.returns-in-Some-clause-found
+returns-in-Some-clause-found c = c.in-Some.ensures _ c.requires
+
+pub returns-in-None-clause-found : goal.returns-in-None-clause-found
+returns-in-None-clause-found c = walked c.walk_lines.ensures.walks

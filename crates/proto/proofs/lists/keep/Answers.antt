@@ -2,5 +2,5 @@
 use Rattle.proto.proofs.ListPlaces.{kept_more}
 use Rattle.proto.proofs.lists.keep.Goals as goal
 
-pub returns : goal.returns
-returns c = search kept_more
+pub returns-then-i-kept : goal.returns-then-i-kept
+returns-then-i-kept c = search kept_more

@@ -1,5 +1,4 @@
 -- The loop's invariant: whatever the search answers for the other functions from here, it answers for all of them. The allowance falls.
-use Rattle.lent.proofs.Prelude.{refl}
 use Rattle.format.proofs.Loops.{loop_turn}
 use Rattle.proto.proofs.Walks.{none_deep}
 use Rattle.proto.proofs.Places.{search_more, search_here, search_inside, search_outside}
@@ -9,13 +8,13 @@ pub returns-then-allowance-eq0 : goal.returns-then-allowance-eq0
 returns-then-allowance-eq0 t c f v = absurd (none_deep c.if-allowance-eq0.true f v)
 
 pub returns-then-place-at : goal.returns-then-place-at
-returns-then-place-at t c f v = search_here c.own_span-source.ensures c.if-place-at.true refl refl f
+returns-then-place-at t c f v = search_here c.own_span-source.ensures c.if-place-at.true f
 
-pub returns-then-r : goal.returns-then-r
-returns-then-r t c = search search_inside
+pub returns-in-Ok : goal.returns-in-Ok
+returns-in-Ok t c = search (search_inside, c.in-Ok.ensures)
 
-pub loop-i-preserved : goal.loop-i-preserved
-loop-i-preserved t c = search (loop_turn, search_more)
+pub loop-preserved : goal.loop-preserved
+loop-preserved t c = loop_turn c.loop-test.true c.loop.invariant (search_more c.in-Err.ensures)
 
 pub returns : goal.returns
 returns t c = search search_outside

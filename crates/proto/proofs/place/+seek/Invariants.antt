@@ -7,8 +7,5 @@ use Rattle.proto.proofs.place.+seek.Given as goal
 abbrev pub decreases-seek : goal.decreases-seek
 decreases-seek l = l.allowance
 
-abbrev pub invariant-loop-i : goal.invariant-loop-i
-invariant-loop-i l = Loop (SearchAll l.words l.place l.source (l.allowance - 1)) l.n l.initial.next l.i l.next
-
-abbrev pub decreases-loop-i : goal.decreases-loop-i
-decreases-loop-i l = l.n - l.i
+abbrev pub invariant-loop : goal.invariant-loop
+invariant-loop l = Loop (SearchAll l.words l.place l.source (l.allowance - 1)) l.n l.initial.next l.counter l.next

@@ -1,15 +1,13 @@
--- The three tests, in the order of the refusals; the search gives the span of the function that it finds.
-use Rattle.proto.proofs.Sources.{source_1, source_10, source_12, source_found}
+-- The name is tested first; the rest is what is found in the store.
+use Rattle.lent.proofs.Prelude.{◌∙◌}
+use Rattle.proto.proofs.Sources.{bool_bit, source_1, source_found}
 use Rattle.proto.proofs.place.source_at.Goals as goal
 
 pub returns-then-not-name_ok : goal.returns-then-not-name_ok
-returns-then-not-name_ok c = search source_1
+returns-then-not-name_ok c = c.no_source.ensures ∙ source_1 _ _ _ _ c.name_ok.ensures c.if-not-name_ok.true
 
-pub returns-then-not-check_store : goal.returns-then-not-check_store
-returns-then-not-check_store c = search source_10
+pub returns-in-Ok : goal.returns-in-Ok
+returns-in-Ok c = rw (c.from.ensures, bool_bit c.in-Ok.source.in_text) (source_found _ _ _ _ c.name_ok.ensures c.if-not-name_ok.false c.in-Ok.ensures)
 
-pub returns-then-not-r : goal.returns-then-not-r
-returns-then-not-r c = search source_12
-
-pub returns : goal.returns
-returns c = search source_found
+pub returns-in-Err : goal.returns-in-Err
+returns-in-Err c = c.no_source-in-Err.ensures ∙ source_found _ _ _ _ c.name_ok.ensures c.if-not-name_ok.false c.in-Err.ensures

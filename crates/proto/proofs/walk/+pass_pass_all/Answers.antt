@@ -10,8 +10,8 @@ pass-returns-then-allowance-eq0 t c f v = absurd (none_deep c.if-allowance-eq0.t
 pub pass-returns : goal.pass-returns
 pass-returns t c = search (pass_inside, to_lines)
 
-pub pass_all-loop-k-preserved : goal.pass_all-loop-k-preserved
-pass_all-loop-k-preserved t c = search (loop_turn, all_more)
+pub pass_all-loop-preserved : goal.pass_all-loop-preserved
+pass_all-loop-preserved t c = search (loop_turn, all_more)
 
 pub pass_all-returns : goal.pass_all-returns
-pass_all-returns t c = loop_end (omega arith) c.loop-k.invariant all_none
+pass_all-returns t c = loop_end (omega arith) c.loop.invariant all_none

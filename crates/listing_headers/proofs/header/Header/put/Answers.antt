@@ -1,0 +1,6 @@
+-- Line one, then line two.
+use Rattle.lent.proofs.Writers.{writes_then}
+use Rattle.listing_headers.proofs.header.Header.put.Goals as goal
+
+pub returns : goal.returns
+returns c = λ p fs h. writes_then (c.put_kind.ensures p fs h) (c.put_counts.ensures p fs h)

@@ -1,7 +1,0 @@
--- The number, then the noun.
-use Rattle.lent.proofs.Prelude.{rules}
-use Rattle.lent.proofs.Writes.{put_then}
-use Rattle.listing_headers.proofs.header.put_amount.Goals as goal
-
-pub returns : goal.returns
-returns c = search (rules, put_then)

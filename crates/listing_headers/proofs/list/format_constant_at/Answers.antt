@@ -1,8 +1,0 @@
--- The index, the constant that stands there, a newline.
-use Rattle.lent.proofs.Prelude.{some}
-use Rattle.listing_operands.specs.Operands.{constant_text}
-use Rattle.listing_operands.proofs.ShownLists.{shows_put, shows_then, constant_shown}
-use Rattle.listing_headers.proofs.list.format_constant_at.Goals as goal
-
-pub returns : goal.returns
-returns c = shows_then (shows_then (shows_put c.put_index-a.ensures) (record { shows = constant_shown c.constant_at.result (λ k. constant_text (some k)) c.constant_at.ensures.value c.put_constant-b.ensures })) (shows_put c.put_byte.ensures)

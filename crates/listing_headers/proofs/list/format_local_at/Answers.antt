@@ -1,8 +1,0 @@
--- The name stands first, and start and end are words 2 and 3.
-use Rattle.lent.proofs.Prelude.{arith}
-use Rattle.lent.proofs.Writes.{put_then}
-use Rattle.listing_headers.proofs.Locals.{local_name, local_word}
-use Rattle.listing_headers.proofs.list.format_local_at.Goals as goal
-
-pub returns : goal.returns
-returns c = record { shows = λ v s. rw (← c.string_at.ensures v.name s.to (local_name v s), ← local_word v s 2 (omega arith) c.skip.ensures c.word_at.ensures, ← local_word v s 3 (omega arith) c.skip-2.ensures c.word_at-2.ensures) (put_then (put_then (put_then (put_then c.put_index-a.ensures c.put_bytes-b.ensures) c.put_raised-c.ensures) c.put_raised-d.ensures) c.put_byte.ensures) }

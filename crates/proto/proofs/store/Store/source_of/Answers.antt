@@ -1,0 +1,6 @@
+-- A function's source stands where it begins.
+use Rattle.proto.proofs.Items.{source_stands}
+use Rattle.proto.proofs.store.Store.source_of.Goals as goal
+
+pub returns : goal.returns
+returns c p fs h = c.own_source.ensures p.source h.to (source_stands p fs h.stands)

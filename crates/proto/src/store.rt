@@ -1,0 +1,41 @@
+// A tree in lent memory: its words, and its text.
+ghost use Rattle.std.specs.Prelude.{◌≡◌, List, ℕ};
+ghost use Rattle.format.specs.Store.{string, source_piece, function_piece};
+ghost use Rattle.format.specs.Tree.{Source, Parts, Functions, Function, filled};
+ghost use Rattle.proto.specs.Walk.{Stands, StandsAt};
+
+use crate::walk::{part, skip, word_at};
+
+#[derive(Clone, Copy)]
+pub struct Store<'a> {
+    pub words: &'a [u32],
+    pub text: &'a [u8],
+}
+
+impl<'a> Store<'a> {
+    // The string whose place and length stand at a place.
+    pub fn string_at(self, at: usize) -> &'a [u8]
+        ensures { (s : List ℕ) (to : ℕ) → Stands self.entry.words.now self.entry.text.now at to (string s) → result.now ≡ s }
+    {
+        let place = word_at(self.words, at) as usize;
+        let n = word_at(self.words, skip(self.words, at, 1)) as usize;
+        part(self.text, place, n)
+    }
+
+    // The source whose words stand at a place: a function's own, or the one around it.
+    pub fn own_source(self, around: &'a [u8], at: usize) -> &'a [u8]
+        ensures { (s : Source) (to : ℕ) → Stands self.entry.words.now self.entry.text.now at to (source_piece s) → result.now ≡ filled around.now s }
+    {
+        if word_at(self.words, at) == 0 {
+            return around;
+        }
+        self.string_at(skip(self.words, at, 1))
+    }
+
+    // The source of the function at a place.
+    pub fn source_of(self, around: &'a [u8], at: usize) -> &'a [u8]
+        ensures { (p : Parts) (fs : Functions) → StandsAt self.entry.words.now self.entry.text.now at (function_piece (Function.function p fs)) → result.now ≡ filled around.now p.source }
+    {
+        self.own_source(around, at)
+    }
+}

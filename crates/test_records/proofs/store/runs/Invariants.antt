@@ -1,9 +1,0 @@
--- The loop ends after n runs.
-use Rattle.lent.proofs.Prelude.{◌-◌, ◌≡◌, length}
-use Rattle.test_records.proofs.store.runs.Given as goal
-
-abbrev pub invariant-loop-i : goal.invariant-loop-i
-invariant-loop-i l = length l.words ≡ length l.initial.words
-
-abbrev pub decreases-loop-i : goal.decreases-loop-i
-decreases-loop-i l = l.n - l.i
