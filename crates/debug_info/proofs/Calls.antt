@@ -8,7 +8,7 @@ use Rattle.lent.specs.Writer.{Writes}
 use Rattle.lent.specs.declared.Writer.{Writer}
 use Rattle.format.specs.Tree.{Parts, Function, Functions, parts_of}
 use Rattle.format.specs.Store.{function_piece}
-use Rattle.format.specs.Dump.{written}
+use Rattle.format.specs.Dump.{written, written_left}
 use Rattle.format.specs.Valid.{depth, Valid, ValidAll, ValidParts}
 use Rattle.format.proofs.Writing.{written_all}
 use Rattle.format.specs.Refusal.{number}
@@ -17,7 +17,7 @@ use Rattle.proto.specs.Walk.{Stands, StandsAt, Past, to_code}
 use Rattle.proto.specs.Places.{Placed, on_place, place_refusal}
 use Rattle.proto.proofs.Items.{code_stands, ints_count}
 use Rattle.proto.proofs.Sources.{all_suc, function_stands, On, place_on, on_answer, on_related, on_refused}
-use Rattle.debug_info.specs.Calls.{on_register, register_refusal, written_left}
+use Rattle.debug_info.specs.Calls.{on_register, register_refusal}
 
 -- ---- the function that stands at a place
 

@@ -1,12 +1,12 @@
 -- Items of a function's lists, and the count of active locals.
-use Rattle.lent.proofs.Prelude.{ℕ, zero, suc, ◌+◌, ◌*◌, ◌-◌, ◌≤◌, ◌<◌, ◌≡◌, refl, sym, ap, ◌∙◌, List, [], ◌∷◌, Bool, true, false, cond, none, some, arith, add-one, length, drop, drop_of_length-le, get_or, eqb, ltb}
+use Rattle.lent.proofs.Prelude.{ℕ, zero, suc, ◌+◌, ◌*◌, ◌-◌, ◌≤◌, ◌<◌, ◌≡◌, refl, sym, ap, ◌∙◌, List, [], ◌∷◌, Bool, true, false, cond, some, arith, add-one, length, drop, drop_of_length-le, get_or, eqb, ltb}
 use Rattle.std.specs.Prelude.{Some, None}
 use Rattle.format.specs.Tree.{Local}
 use Rattle.format.specs.Store.{Piece, word, ◌⊕◌, string, list, local_piece}
 use Rattle.proto.specs.Walk.{item, Skips, StandsAt}
 use Rattle.proto.proofs.Sublists.{skip_item}
 use Rattle.proto.proofs.Pieces.{stands_left}
-use Rattle.proto.proofs.Items.{somewhere, item_past, item_there, list_count, list_item}
+use Rattle.proto.proofs.Items.{somewhere, item_there, list_count, list_item}
 use Rattle.debug_info.specs.declared.name.Name.{Name}
 use Rattle.debug_info.specs.declared.name.Kind.{Kind}
 use Rattle.debug_info.specs.declared.list.LocalVar.{LocalVar}
@@ -26,9 +26,6 @@ pub record Looked {A : Type 0} (words text : List ℕ) (piece : A → Piece) (l 
   pub stands : StandsAt words text r (piece value)
 
 module _ {A : Type 0} {words text : List ℕ} (piece : A → Piece) {at x i : ℕ} (l : List A) (h : StandsAt words text at (list piece l)) (e : x ≡ get_or words at 0) where
-  pub looked_past : x ≤ i → item l i ≡ none
-  looked_past k = item_past l i (omega (arith, list_count piece l h.stands))
-
   pub looked_up : {r : ℕ} (k : ℕ) → ((a : A) (to : ℕ) → length ((piece a).words to) ≡ k) → i < x → Skips words (1 + k * i) at r → Looked words text piece l i r
   looked_up {r} k w n s =
       let z = item_there l i (omega (arith, list_count piece l h.stands)) in

@@ -34,10 +34,9 @@ moves_below i h = elim (dec_lt (GETARG_B i) (GETARG_A i)) [
   | no k ↦ absurd (never h (simp (le-ltb (GETARG_B i) (GETARG_A i) (omega arith), and-false)))
 ]
 
--- what the search gives for a register of the function whose lists stand at s
-abbrev Gives : List ℕ → Lists → ℕ → ℕ → List Bool → Option Known → Type 0
-Gives words s pc reg before r =
-    (text : List ℕ) (p : Parts) (fs : Functions) → ListsAt words text s p fs → ValidAll fs depth → object_of text r ≡ searched (Function.function p fs) pc (unsearched before) reg before
+-- what the search gives for a register of the function whose lists these are
+abbrev Gives : Lists → ℕ → ℕ → List Bool → Option Known → Type 0
+Gives s pc reg before r = (p : Parts) (fs : Functions) → ListsAt s p fs → ValidAll fs depth → object_of s.store.text.now r ≡ searched (Function.function p fs) pc (unsearched before) reg before
 
 -- what is known comes before what the search goes on with
 known_first : (text : List ℕ) (x : Option Known) (o : Object) → is_some x ≡ true → or_else (object_of text x) o ≡ object_of text x
@@ -55,31 +54,31 @@ unknown_then : (text : List ℕ) (x : Option Known) (o : Object) → is_some x �
 unknown_then text None o e = refl
 unknown_then text (Some k) o e = absurd (true≢false e)
 
-module _ {words : List ℕ} {s : Lists} (pc reg : ℕ) (before : List Bool) where
+module _ {s : Lists} (pc reg : ℕ) (before : List Bool) where
   -- it was searched before
-  pub search_again : get_or before reg false ≡ true → Gives words s pc reg before None
+  pub search_again : get_or before reg false ≡ true → Gives s pc reg before None
   unfolding searched
-  search_again e text p fs h v = by (unsearched before)
+  search_again e p fs h v = by (unsearched before)
     where
-      by : (n : ℕ) → object_of text None ≡ searched (Function.function p fs) pc n reg before
+      by : (n : ℕ) → object_of s.store.text.now None ≡ searched (Function.function p fs) pc n reg before
       by zero = refl
       by (suc n) = rw e
 
   module _ (small : pc < 2 ^ 32) (within : reg < 256) (all : length before ≡ 256) (new : get_or before reg false ≡ false) (x : Option Known)
-      (active : (text : List ℕ) (l : List Local) → StandsAt words text s.locals (list local_piece l) → object_of text x ≡ active_local l (reg + 1) pc) where
-    opened : (text : List ℕ) (p : Parts) (fs : Functions) → ListsAt words text s p fs → (i : ℕ) → i ≡ symbexec (Function.function p fs) pc reg → searched (Function.function p fs) pc (unsearched before) reg before
-        ≡ or_else (object_of text x) (cond (moves_up i) (searched (Function.function p fs) pc (unsearched (set before reg true)) (GETARG_B i) (set before reg true)) (wrote p i))
+      (active : (text : List ℕ) (l : List Local) → StandsAt s.store.words.now text s.locals (list local_piece l) → object_of text x ≡ active_local l (reg + 1) pc) where
+    opened : (p : Parts) (fs : Functions) → ListsAt s p fs → (i : ℕ) → i ≡ symbexec (Function.function p fs) pc reg → searched (Function.function p fs) pc (unsearched before) reg before
+        ≡ or_else (object_of s.store.text.now x) (cond (moves_up i) (searched (Function.function p fs) pc (unsearched (set before reg true)) (GETARG_B i) (set before reg true)) (wrote p i))
     unfolding searched get_local_name
-    opened text p fs h i e = let m : pc % 2 ^ 32 ≡ pc = omega arith in rw (marked before reg (omega arith) new, new, m, e, ← active text p.debug.locals h.locals)
+    opened p fs h i e = let m : pc % 2 ^ 32 ≡ pc = omega arith in rw (marked before reg (omega arith) new, new, m, e, ← active s.store.text.now p.debug.locals h.locals)
 
     -- it is a local
-    pub search_local : {b : Bool} → b ≡ is_some x → b ≡ true → Gives words s pc reg before x
-    search_local d k text p fs h v = sym (opened text p fs h _ refl ∙ known_first text x _ (sym d ∙ k))
+    pub search_local : {b : Bool} → b ≡ is_some x → b ≡ true → Gives s pc reg before x
+    search_local d k p fs h v = sym (opened p fs h _ refl ∙ known_first _ x _ (sym d ∙ k))
 
-    module _ {b : Bool} (d : b ≡ is_some x) (k : b ≡ false) {i : ℕ} (last : (text : List ℕ) (p : Parts) (fs : Functions) → ListsAt words text s p fs → ValidAll fs depth → i ≡ symbexec (Function.function p fs) pc reg) {m : Bool} (up : m ≡ moves_up i) where
+    module _ {b : Bool} (d : b ≡ is_some x) (k : b ≡ false) {i : ℕ} (last : (p : Parts) (fs : Functions) → ListsAt s p fs → ValidAll fs depth → i ≡ symbexec (Function.function p fs) pc reg) {m : Bool} (up : m ≡ moves_up i) where
       -- it was moved there
-      pub search_moved : (r : Option Known) {from : ℕ} → m ≡ true → from ≡ GETARG_B i → Gives words s pc from (set before reg true) r → Gives words s pc reg before r
-      search_moved r t g f text p fs h v = f text p fs h v ∙ rw g (sym (opened text p fs h i (last text p fs h v) ∙ unknown_then text x _ (sym d ∙ k) ∙ rw (sym up ∙ t)))
+      pub search_moved : (r : Option Known) {from : ℕ} → m ≡ true → from ≡ GETARG_B i → Gives s pc from (set before reg true) r → Gives s pc reg before r
+      search_moved r t g f p fs h v = f p fs h v ∙ rw g (sym (opened p fs h i (last p fs h v) ∙ unknown_then _ x _ (sym d ∙ k) ∙ rw (sym up ∙ t)))
 
-      pub search_wrote : (r : Option Known) → m ≡ false → ((text : List ℕ) (p : Parts) (fs : Functions) → ListsAt words text s p fs → object_of text r ≡ wrote p i) → Gives words s pc reg before r
-      search_wrote r t f text p fs h v = f text p fs h ∙ sym (opened text p fs h i (last text p fs h v) ∙ unknown_then text x _ (sym d ∙ k) ∙ rw (sym up ∙ t))
+      pub search_wrote : (r : Option Known) → m ≡ false → ((p : Parts) (fs : Functions) → ListsAt s p fs → object_of s.store.text.now r ≡ wrote p i) → Gives s pc reg before r
+      search_wrote r t f p fs h v = f p fs h ∙ sym (opened p fs h i (last p fs h v) ∙ unknown_then _ x _ (sym d ∙ k) ∙ rw (sym up ∙ t))

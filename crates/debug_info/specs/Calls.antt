@@ -1,9 +1,7 @@
 -- What the naming calls answer, and what they leave in lent memory.
-use Rattle.std.specs.Prelude.{ℕ, List, cond, length, eqb, leb, Result, Ok, Err}
+use Rattle.std.specs.Prelude.{ℕ, List, cond, length, eqb, leb}
 use Rattle.format.specs.Tree.{Function, parts_of}
-use Rattle.format.specs.Dump.{WriteLeft, write_left, write_refused, written}
-use Rattle.format.specs.Refusal.{number}
-use Rattle.format.specs.declared.Refusal.{Refusal}
+use Rattle.format.specs.Dump.{WriteLeft, write_refused, written}
 use Rattle.proto.specs.Places.{on_place}
 use Rattle.symbexec.specs.SymbExec.{symbexec}
 use Rattle.debug_info.specs.Names.{Object, get_local_name, kname, getobjname}
@@ -48,11 +46,6 @@ named_by kind w =
 
 abbrev pub named : Object → List ℕ → NameLeft
 named o out = named_by o.kind (written o.name out)
-
--- what writing a name leaves, by how many bytes it wrote, or why it is refused
-abbrev pub written_left : Result ℕ Refusal → List ℕ → WriteLeft
-written_left (Ok n) out = write_left (record { refusal = 0; len = n }) out
-written_left (Err e) out = write_refused (number e) out
 
 -- get_local_name(words, text, place, local_number, pc, out)
 unfoldable pub local_named : List ℕ → List ℕ → ℕ → ℕ → ℕ → List ℕ → NameLeft

@@ -11,8 +11,8 @@ use Rattle.debug_info.specs.declared.name.Known.{Known}
 -- a name's bytes
 abbrev pub name_of : List ℕ → Name → List ℕ
 name_of text Unknown = unknown
-name_of text (Text start n) = part text start n
-name_of text (Constant start n) = repair (part text start n)
+name_of text (Text s) = part text s.start s.len
+name_of text (Constant s) = repair (part text s.start s.len)
 
 abbrev pub object_of : List ℕ → Option Known → Object
 object_of text None = nothing

@@ -7,22 +7,18 @@ pub mod name;
 pub mod object;
 
 ghost use Rattle.std.specs.Prelude.{◌≡◌};
-ghost use Rattle.format.specs.Dump.{write_left};
+ghost use Rattle.format.specs.Dump.{write_left, written_left};
 ghost use Rattle.format.specs.Refusal.{RefusedBy};
 ghost use Rattle.debug_info.specs.Known.{object_of};
-ghost use Rattle.debug_info.specs.Calls.{register_refusal, symbexec_answer, name_left, written_left, named, local_named, knamed, object_named};
+ghost use Rattle.debug_info.specs.Calls.{register_refusal, symbexec_answer, name_left, named, local_named, knamed, object_named};
 
 use answer::{Named, SymbExec};
-use format::{Refusal, Written};
+use format::{Refusal, Written, low};
 use list::{active_local, operand_name};
 use name::{Known, write_name};
-use proto::lists::lists_at;
 use proto::store::Store;
 use proto::walk::{code_at, constants_at, word_at};
 use symbexec::symbexec_at;
-
-// How many values a pc of 32 bits has.
-pub const PCS: usize = 4294967296;
 
 // Whether the function at a place is there, has the pc and may have the register: refused by 10, 12, 13, 14.
 fn check_register(store: Store, place: usize, pc: usize, reg: u32) -> Result<(), Refusal>
@@ -69,10 +65,9 @@ pub fn symbexec(words: &[u32], text: &[u8], place: usize, lastpc: usize, reg: u3
     if let Err(e) = check_register(store, place, lastpc, reg) {
         return SymbExec::refused(e);
     }
-    let s = lists_at(words, place);
     SymbExec {
         refusal: 0,
-        instruction: symbexec_at(words, s, lastpc as u32, reg),
+        instruction: symbexec_at(store.lists_at(place), lastpc as u32, reg),
     }
 }
 
@@ -92,8 +87,8 @@ pub fn get_local_name(
     if let Err(e) = store.has_function(place) {
         return Named::refused(e);
     }
-    let locals = lists_at(words, place).locals;
-    let v = active_local(words, locals, local_number, (pc % PCS) as u32);
+    let locals = store.lists_at(place).locals;
+    let v = active_local(words, locals, local_number, low(pc));
     give(text, v, out)
 }
 
@@ -110,10 +105,7 @@ fn write_kname(store: Store, place: usize, c: u32, out: &mut [u8]) -> Result<usi
 pub fn kname(words: &[u32], text: &[u8], place: usize, c: u32, out: &mut [u8]) -> Written
     ensures { write_left result out.new ≡ knamed words.now text.now place c out.old }
 {
-    match write_kname(Store { words, text }, place, c, out) {
-        Ok(len) => Written { refusal: 0, len },
-        Err(e) => Written::refused(e),
-    }
+    write_kname(Store { words, text }, place, c, out).into()
 }
 
 // What register stackpos holds at pc: its kind, and its name in out; kind 0 where nothing is known.
@@ -132,7 +124,6 @@ pub fn getobjname(
     if let Err(e) = check_register(store, place, pc, stackpos) {
         return Named::refused(e);
     }
-    let s = lists_at(words, place);
-    let v = object::getobjname(words, s, pc as u32, stackpos, [false; 256]);
+    let v = object::getobjname(store.lists_at(place), pc as u32, stackpos, [false; 256]);
     give(text, v, out)
 }

@@ -2,18 +2,16 @@
 ghost use Rattle.std.specs.Prelude.{List, ◌≡◌, ℕ};
 ghost use Rattle.format.specs.Store.{list, string, constant_piece, local_piece};
 ghost use Rattle.format.specs.Tree.{Constant as Value, Local};
-ghost use Rattle.format.specs.Constants.{value_of};
 ghost use Rattle.proto.specs.Walk.{item, StandsAt};
-ghost use Rattle.debug_info.specs.Names.{active_local, constant_at, kname, upvalue_name};
+ghost use Rattle.debug_info.specs.Names.{active_local, kname, upvalue_name};
 ghost use Rattle.debug_info.specs.Known.{name_of, object_of};
 ghost use Rattle.debug_info.specs.Locals.{local_of};
 ghost use Rattle.debug_info.specs.Seen.{look};
 
 use crate::name::{Kind, Known, Name, constant_name, name_at};
-use format::Constant;
 use instructions::{index_k, is_k};
-use proto::constant::constant_at;
-use proto::walk::{item_at, skip, word_at};
+use proto::constant::constant_of;
+use proto::walk::{item_at, nth_at, skip, word_at};
 
 // A local's name, and the pcs from which and before which it is active.
 #[derive(Clone, Copy)]
@@ -81,17 +79,6 @@ pub fn active_local(words: &[u32], locals: usize, n: usize, pc: u32) -> Option<K
     None
 }
 
-// Constant i of the list at a place, Nil where there is none.
-// The test of i is upvalue_name's too; what is read, its size and the answer for none differ, so that one function for both is longer.
-pub fn constant_of(words: &[u32], constants: usize, i: u32) -> Constant
-    ensures { (text : List ℕ) (l : List Value) → StandsAt words.now text constants (list constant_piece l) → value_of text result ≡ constant_at l i }
-{
-    if word_at(words, constants) <= i {
-        return Constant::Nil;
-    }
-    constant_at(words, item_at(words, constants, 3, i))
-}
-
 // The name of an RK operand: its constant's, or ?.
 pub fn operand_name(words: &[u32], constants: usize, c: u32) -> Name
     ensures { (text : List ℕ) (l : List Value) → StandsAt words.now text constants (list constant_piece l) → name_of text result ≡ kname l c }
@@ -106,8 +93,8 @@ pub fn operand_name(words: &[u32], constants: usize, c: u32) -> Name
 pub fn upvalue_name(words: &[u32], upvalues: usize, i: u32) -> Name
     ensures { (text : List ℕ) (l : List (List ℕ)) → StandsAt words.now text upvalues (list string l) → name_of text result ≡ upvalue_name (item l i) }
 {
-    if word_at(words, upvalues) <= i {
-        return Name::Unknown;
+    match nth_at(words, upvalues, 2, i) {
+        Some(at) => name_at(words, at),
+        None => Name::Unknown,
     }
-    name_at(words, item_at(words, upvalues, 2, i))
 }

@@ -2,26 +2,26 @@
 ghost use Rattle.std.specs.Prelude.{List, [], ◌≡◌, ℕ};
 ghost use Rattle.lent.specs.Memory.{Puts};
 ghost use Rattle.lent.specs.Writer.{Writes};
-ghost use Rattle.format.specs.Dump.{written};
+ghost use Rattle.format.specs.Dump.{written, written_left};
 ghost use Rattle.format.specs.Store.{string};
 ghost use Rattle.format.specs.Constants.{value_of};
 ghost use Rattle.proto.specs.Walk.{StandsAt};
-ghost use Rattle.debug_info.specs.Names.{constant_name, global_of};
+ghost use Rattle.proto.specs.Constants.{read};
+ghost use Rattle.debug_info.specs.Names.{or_nil, constant_name, global_of};
 ghost use Rattle.debug_info.specs.Kind.{number};
 ghost use Rattle.debug_info.specs.Known.{name_of, object_of};
-ghost use Rattle.debug_info.specs.Calls.{written_left};
 
-use format::{Constant, Refusal};
+use format::{Constant, Refusal, Span};
 use lent::Writer;
-use proto::walk::{part, skip, word_at};
+use proto::walk::string_at;
 use utf8::put_repaired;
 
-// A name: ?, or its place and length in the text; a constant's is repaired as it is written.
+// A name: ?, or where it stands in the text; a constant's is repaired as it is written.
 #[derive(Clone, Copy)]
 pub enum Name {
     Unknown,
-    Text(usize, usize),
-    Constant(usize, usize),
+    Text(Span),
+    Constant(Span),
 }
 
 // What a name is of.
@@ -54,29 +54,27 @@ pub struct Known {
 pub fn name_at(words: &[u32], at: usize) -> Name
     ensures { (text : List ℕ) (s : List ℕ) → StandsAt words.now text at (string s) → name_of text result ≡ s }
 {
-    let place = word_at(words, at) as usize;
-    let n = word_at(words, skip(words, at, 1)) as usize;
-    Name::Text(place, n)
+    Name::Text(string_at(words, at))
 }
 
 // A constant's name: a string's, or ?.
-pub fn constant_name(k: Constant) -> Name
-    ensures { (text : List ℕ) → name_of text result ≡ constant_name (value_of text k) }
+pub fn constant_name(k: Option<Constant>) -> Name
+    ensures { (text : List ℕ) → name_of text result ≡ constant_name (or_nil (read (value_of text) k)) }
 {
     match k {
-        Constant::String(start, len) => Name::Constant(start, len),
+        Some(Constant::String(s)) => Name::Constant(s),
         _ => Name::Unknown,
     }
 }
 
 // The global that a constant names: nothing where it is no string.
-pub fn global_of(k: Constant) -> Option<Known>
-    ensures { (text : List ℕ) → object_of text result ≡ global_of (value_of text k) }
+pub fn global_of(k: Option<Constant>) -> Option<Known>
+    ensures { (text : List ℕ) → object_of text result ≡ global_of (or_nil (read (value_of text) k)) }
 {
     match k {
-        Constant::String(start, len) => Some(Known {
+        Some(Constant::String(s)) => Some(Known {
             kind: Kind::Global,
-            name: Name::Constant(start, len),
+            name: Name::Constant(s),
         }),
         _ => None,
     }
@@ -88,8 +86,8 @@ fn put_name(w: &mut Writer, text: &[u8], name: Name)
 {
     match name {
         Name::Unknown => w.put_bytes(b"?"),
-        Name::Text(start, len) => w.put_bytes(part(text, start, len)),
-        Name::Constant(start, len) => put_repaired(w, part(text, start, len)),
+        Name::Text(s) => w.put_bytes(s.of(text)),
+        Name::Constant(s) => put_repaired(w, s.of(text)),
     }
 }
 

@@ -1,5 +1,5 @@
 // The object that a register holds (ldebug.c, getobjname).
-ghost use Rattle.std.specs.Prelude.{List, ◌≡◌, ℕ, ◌<◌};
+ghost use Rattle.std.specs.Prelude.{◌≡◌, ◌<◌};
 ghost use Rattle.format.specs.Tree.{Parts, Function, Functions};
 ghost use Rattle.format.specs.Valid.{depth, ValidAll};
 ghost use Rattle.proto.specs.Lists.{ListsAt};
@@ -7,19 +7,20 @@ ghost use Rattle.debug_info.specs.Names.{wrote, moves_up, searched};
 ghost use Rattle.debug_info.specs.Known.{object_of};
 ghost use Rattle.debug_info.specs.Searched.{unsearched};
 
-use crate::list::{active_local, constant_of, operand_name, upvalue_name};
+use crate::list::{active_local, operand_name, upvalue_name};
 use crate::name::{Kind, Known, global_of};
 use instructions::{Instruction, OP_GETGLOBAL, OP_GETTABLE, OP_GETUPVAL, OP_MOVE, OP_SELF};
+use proto::constant::constant_of;
 use proto::lists::Lists;
 use symbexec::symbexec_at;
 
 // What an instruction other than MOVE wrote.
 #[tactic(auto, unfolding(crate::specs::Names::wrote))]
-fn wrote(words: &[u32], s: Lists, i: Instruction) -> Option<Known>
-    ensures { (text : List ℕ) (p : Parts) (fs : Functions) → ListsAt words.now text s p fs → object_of text result ≡ wrote p i.0 }
+fn wrote(s: Lists, i: Instruction) -> Option<Known>
+    ensures { (p : Parts) (fs : Functions) → ListsAt s.entry p fs → object_of s.entry.store.text.now result ≡ wrote p i.0 }
 {
-    let op = i.opcode();
-    match op {
+    let words = s.store.words;
+    match i.opcode() {
         OP_GETGLOBAL => global_of(constant_of(words, s.constants, i.bx())),
         OP_GETTABLE => Some(Known {
             kind: Kind::Field,
@@ -45,30 +46,24 @@ fn moves_up(i: Instruction) -> bool
     i.opcode() == OP_MOVE && i.b() < i.a()
 }
 
-// The object in a register at pc, of the function whose lists stand at s. Calls itself on the register that MOVE took it from, as the scope
+// The object in a register at pc, of the function whose lists these are. Calls itself on the register that MOVE took it from, as the scope
 // has it; nothing is known where that was searched before.
-pub fn getobjname(
-    words: &[u32],
-    s: Lists,
-    pc: u32,
-    reg: u32,
-    mut before: [bool; 256],
-) -> Option<Known>
+pub fn getobjname(s: Lists, pc: u32, reg: u32, mut before: [bool; 256]) -> Option<Known>
     requires { reg < 256 }
-    ensures { (text : List ℕ) (p : Parts) (fs : Functions) → ListsAt words.now text s p fs → ValidAll fs depth → object_of text result ≡ searched (Function.function p fs) pc (unsearched before) reg before }
+    ensures { (p : Parts) (fs : Functions) → ListsAt s.entry p fs → ValidAll fs depth → object_of s.entry.store.text.now result ≡ searched (Function.function p fs) pc (unsearched before) reg before }
 {
     let n = reg as usize;
     if before[n] {
         return None;
     }
-    let v = active_local(words, s.locals, n + 1, pc);
+    let v = active_local(s.store.words, s.locals, n + 1, pc);
     if v.is_some() {
         return v;
     }
-    let i = Instruction(symbexec_at(words, s, pc, reg));
+    let i = Instruction(symbexec_at(s, pc, reg));
     if moves_up(i) {
         before[n] = true;
-        return getobjname(words, s, pc, i.b(), before);
+        return getobjname(s, pc, i.b(), before);
     }
-    wrote(words, s, i)
+    wrote(s, i)
 }

@@ -44,8 +44,9 @@ stored items out n e h = rw (sets-eq items out 0 (omega arith)) (take_at items (
 pub width_decimal : (k n : ℕ) → k < 10 → n < 2 ^ 64 → 10 ^ k ≤ max n 1 → max n 1 < 10 * 10 ^ k → Width (decimal n) 10 (k + 1)
 width_decimal k n u b l h = record { is = sym (length_digits 10 (places n) n ∙ places_is k n b l h); upto = omega arith }
 
-pub width_places : (n : ℕ) {r : ℕ} → n < 2 ^ 32 → r ≡ places n → Width (decimal n) 10 r
-width_places n l e = record { is = e ∙ sym (length_digits 10 (places n) n); upto = omega (arith, e, places_most 20 9 n (omega arith)) }
+-- a u32 has at most 10 digits
+pub places_upto : (n : ℕ) → n < 2 ^ 32 → places n ≤ 10
+places_upto n l = places_most 20 9 n (omega arith)
 
 pub width_byte : {b : ℕ} → Width (b ∷ []) 1 1
 width_byte = record { is = refl; upto = omega arith }

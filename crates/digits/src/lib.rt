@@ -40,6 +40,7 @@ fn places(n: u64) -> usize
 }
 
 // How many digits n has in base 10, at most 10.
+#[tactic(auto, using(crate::proofs::Rooms::places_upto, crate::proofs::Numbers::length_digits))]
 pub fn width(n: u32) -> usize
     ensures { Width (decimal n) 10 result }
 {

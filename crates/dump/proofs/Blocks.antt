@@ -1,12 +1,12 @@
--- The bytes of integers, sizes and strings: stored one by one, and in a loop.
-use Rattle.lent.proofs.Prelude.{ℕ, zero, suc, ◌+◌, ◌*◌, ◌^◌, ◌/◌, ◌%◌, ◌≤◌, ◌<◌, ◌≡◌, refl, sym, ap, ◌∙◌, List, [], ◌∷◌, ◌++◌, append_assoc, append-nil, Bool, true, false, arith, add-one, length, take, drop, get_or, set, length-append, sets, sets-eq, drop-drop, take-suc, length-take-le}
+-- The bytes of integers, sizes and strings.
+use Rattle.lent.proofs.Prelude.{ℕ, zero, suc, ◌+◌, ◌-◌, ◌*◌, ◌^◌, ◌/◌, ◌%◌, ◌≤◌, ◌<◌, min, ◌≡◌, refl, sym, ap, ◌∙◌, List, [], ◌∷◌, ◌++◌, append_assoc, append-nil, Bool, true, false, arith, add-one, length, take, drop, get_or, sets, length-append, length-sets, take-suc, take_all, length-take-le, take-append-drop}
 use Rattle.std.proofs.Math.Nat.{div-div-eq-div-mul}
 use Rattle.std.specs.Int.{to_le_bytes, bytes_low_first, byte_at}
 use native.Mathlib.Numerals.{unary_clauses}
 use mir.Syntax.{w32, w64}
 use borrow.Rule.Slice.PartMut.{put_mid}
-use Rattle.lent.specs.Memory.{Puts}
-use Rattle.lent.proofs.Writes.{sets_append}
+use Rattle.lent.specs.Memory.{far, Puts}
+use Rattle.lent.proofs.Writes.{sets_part, sets_past, sets_append, put_then}
 use Rattle.format.specs.Read.{width_of}
 use Rattle.format.proofs.RoundTrip.{dumped_length}
 use Rattle.format.specs.Write.{dump_number, dump_int, dump_size, dump_text, dump_list, each}
@@ -32,28 +32,23 @@ low_first i (suc k) n =
 number_bytes : (k n : ℕ) → bytes_low_first 0 k n ≡ dump_number k n
 number_bytes k n = let e : n / 256 ^ 0 ≡ n = omega arith in low_first 0 k n ∙ ap (dump_number k) e
 
--- a number of four bytes and w more: the low four are an integer
-number_int : (w n : ℕ) → dump_number (suc (suc (suc (suc w)))) n ≡ dump_int (n % 4294967296) ++ dump_number w (n / 4294967296)
+-- the low four bytes of a number
+low_four : (n : ℕ) → dump_int (n % 4294967296) ≡ dump_int n
 unfolding dump_number
-number_int w n =
-    let low = n % 4294967296 in
-    let e : (n % 256 ≡ low % 256) × (n / 256 % 256 ≡ low / 256 % 256) × (n / 256 / 256 % 256 ≡ low / 256 / 256 % 256) × (n / 256 / 256 / 256 % 256 ≡ low / 256 / 256 / 256 % 256) = omega arith in
-    let f : n / 256 / 256 / 256 / 256 ≡ n / 4294967296 = omega arith in
-    rw (e.0, e.1, e.2, e.3, f)
+low_four n =
+    let f : (n % 4294967296 % 256 ≡ n % 256) × (n % 4294967296 / 256 % 256 ≡ n / 256 % 256) × (n % 4294967296 / 256 / 256 % 256 ≡ n / 256 / 256 % 256) × (n % 4294967296 / 256 / 256 / 256 % 256 ≡ n / 256 / 256 / 256 % 256) = omega arith in
+    rw (f.0, f.1, f.2, f.3)
 
--- ---- one behind the other
+module _ {at r : ℕ} {out out' : List ℕ} (n : ℕ) where
+  pub int_put : Puts (to_le_bytes w32 n) at out r out' → Puts (dump_int n) at out r out'
+  int_put p = rw (number_bytes 4 n) at p
 
--- b is stored behind a
-pub stored_then : {l m : List ℕ} (a b out : List ℕ) (at k : ℕ) → length a ≡ k → l ≡ sets out at a → m ≡ sets l (at + k) b → m ≡ sets out at (a ++ b)
-stored_then a b out at k n e f = f ∙ rw (e, ← n) (sets_append a out b at)
+  module _ {size4 : Bool} where
+    pub size_short : size4 ≡ true → Puts (dump_int (n % 4294967296)) at out r out' → Puts (dump_size size4 n) at out r out'
+    size_short e p = rw e (rw (low_four n) at p)
 
--- what is copied over as many items is stored
-copied : {b : List ℕ} {k : ℕ} (out x : List ℕ) (at m : ℕ) → m ≡ k → length b ≡ k → at + k ≤ length out → x ≡ b → put_mid at m out x ≡ sets out at b
-copied {b} {k} out x at m f n h e =
-    rw (e, f) (sym (append_assoc (take at out) b (drop k (drop at out))) ∙ rw (drop-drop k at out, ← n) (sym (sets-eq b out at (omega arith))))
-
-pub int_copied : (out x : List ℕ) (at m n : ℕ) → m ≡ 4 → at + 4 ≤ length out → x ≡ to_le_bytes w32 n → put_mid at m out x ≡ sets out at (dump_int n)
-int_copied out x at m n f h e = copied out x at m f (int_length n) h (e ∙ number_bytes 4 n)
+    pub size_long : size4 ≡ false → Puts (to_le_bytes w64 n) at out r out' → Puts (dump_size size4 n) at out r out'
+    size_long e p = rw e (rw (number_bytes 8 n) at p)
 
 pub width_within : (size4 : Bool) → (4 ≤ width_of size4) × (width_of size4 ≤ 8)
 width_within true = omega arith
@@ -62,39 +57,38 @@ width_within false = omega arith
 pub size_length : (size4 : Bool) (n : ℕ) → length (dump_size size4 n) ≡ width_of size4
 size_length size4 n = dumped_length (width_of size4) n
 
-pub size_short : (out : List ℕ) {out' : List ℕ} (at n : ℕ) {size4 : Bool} → size4 ≡ true → out' ≡ sets out at (dump_int (n % 4294967296)) → (at + 4 ≡ at + width_of size4) × (out' ≡ sets out at (dump_size size4 n))
-unfolding dump_number
-size_short out at n e q =
-    let f : (n % 4294967296 % 256 ≡ n % 256) × (n % 4294967296 / 256 % 256 ≡ n / 256 % 256) × (n % 4294967296 / 256 / 256 % 256 ≡ n / 256 / 256 % 256) × (n % 4294967296 / 256 / 256 / 256 % 256 ≡ n / 256 / 256 / 256 % 256) = omega arith in
-    rw e (refl, rw (f.0, f.1, f.2, f.3) at q)
-
-pub size_long : (out x : List ℕ) (at m n : ℕ) {size4 : Bool} → size4 ≡ false → m ≡ 8 → at + width_of size4 ≤ length out → x ≡ to_le_bytes w64 n → (at + 8 ≡ at + width_of size4) × (put_mid at m out x ≡ sets out at (dump_size size4 n))
-size_long out x at m n {size4} e f h q = (rw e refl, rw e (copied out x at m f (size_length false n) (rw e at h) (q ∙ number_bytes 8 n)))
-
 pub string_length : (size4 : Bool) (s : List ℕ) → length (dump_text size4 s) ≡ width_of size4 + length s + 1
 string_length size4 s = simp length-append (omega (arith, size_length size4 (length s + 1)))
 
-pub string_stored : {out₁ out₂ : List ℕ} {start : ℕ} (size4 : Bool) (out s : List ℕ) (at : ℕ) → start ≡ at + width_of size4 → out₁ ≡ sets out at (dump_size size4 (length s + 1)) → out₂ ≡ sets out₁ start s
-    → set out₂ (start + length s) 0 ≡ sets out at (dump_text size4 s)
-string_stored {start = start} size4 out s at h e g =
-    let size = dump_size size4 (length s + 1) in
-    let n : length size ≡ width_of size4 = size_length size4 (length s + 1) in
-    let i : start + length s ≡ at + (width_of size4 + length s) = omega arith in
-    stored_then (size ++ s) (0 ∷ []) out at (width_of size4 + length s) (length-append size s ∙ rw n) (stored_then size s out at (width_of size4) n e (g ∙ rw h)) (rw i)
+module _ {at a b r : ℕ} {out out₁ out₂ out' : List ℕ} where
+  -- a size, the bytes, a zero
+  pub string_put : (size4 : Bool) (s : List ℕ) → Puts (dump_size size4 (length s + 1)) at out a out₁ → Puts s a out₁ b out₂ → Puts (0 ∷ []) b out₂ r out' → Puts (dump_text size4 s) at out r out'
+  string_put size4 s p q t = put_then (put_then p q) t
 
--- what is stored within the space is written
-pub puts_in : {b out out' : List ℕ} {at r k : ℕ} → length b ≡ k → at + k ≤ length out → r ≡ at + k → out' ≡ sets out at b → Puts b at out r out'
-puts_in n h e q = record { puts = λ i k. (omega (arith, n), q) }
+-- a number behind its tag: its low half, then its high half
+number_halves : (low high : ℕ) → low < 4294967296 → high < 4294967296 → dump_number 8 (low + 4294967296 * high) ≡ dump_int low ++ dump_int high
+unfolding dump_number
+number_halves low high l h =
+    let n = low + 4294967296 * high in
+    let a : (n % 256 ≡ low % 256) × (n / 256 % 256 ≡ low / 256 % 256) × (n / 256 / 256 % 256 ≡ low / 256 / 256 % 256) × (n / 256 / 256 / 256 % 256 ≡ low / 256 / 256 / 256 % 256) = omega arith in
+    let b : n / 256 / 256 / 256 / 256 ≡ high = omega arith in
+    rw (a.0, a.1, a.2, a.3, b)
+
+pub num_put : {at a r : ℕ} {out out₁ out' : List ℕ} (low high : ℕ) → low < 4294967296 → high < 4294967296 → Puts (3 ∷ []) at out a out₁ → Puts (to_le_bytes w64 (low + 4294967296 * high)) a out₁ r out' → Puts (3 ∷ dump_int low ++ dump_int high) at out r out'
+num_put low high l h p q = put_then p (rw (number_bytes 8 (low + 4294967296 * high) ∙ number_halves low high l h) at q)
+
+-- a string behind its tag
+pub str_put : {at a r : ℕ} {out out₁ out' : List ℕ} (size4 : Bool) (s : List ℕ) → Puts (4 ∷ []) at out a out₁ → Puts (dump_text size4 s) a out₁ r out' → Puts (4 ∷ dump_text size4 s) at out r out'
+str_put size4 s p q = put_then p q
 
 -- ---- a list
 
--- one integer more
-each_more : (l : List ℕ) (n : ℕ) → each dump_int (l ++ n ∷ []) ≡ each dump_int l ++ dump_int n
+each_append : (l m : List ℕ) → each dump_int (l ++ m) ≡ each dump_int l ++ each dump_int m
 unfolding each
-each_more [] n = append-nil (dump_int n)
-each_more (a ∷ l) n = rw (each_more l n) (sym (append_assoc (dump_int a) (each dump_int l) (dump_int n)))
+each_append [] m = refl
+each_append (a ∷ l) m = rw (each_append l m) (sym (append_assoc (dump_int a) (each dump_int l) (each dump_int m)))
 
-pub ints_length : (l : List ℕ) → length (each dump_int l) ≡ 4 * length l
+ints_length : (l : List ℕ) → length (each dump_int l) ≡ 4 * length l
 unfolding each
 ints_length [] = refl
 ints_length (n ∷ l) = length-append (dump_int n) (each dump_int l) ∙ omega (arith, int_length n, ints_length l)
@@ -106,10 +100,36 @@ pub ints_start : (out l : List ℕ) (at : ℕ) → out ≡ sets out at (each dum
 unfolding each
 ints_start out l at = refl
 
--- one integer more is stored
-pub ints_turn : {out out' : List ℕ} (out₀ l : List ℕ) (at i : ℕ) → i < length l → out ≡ sets out₀ at (each dump_int (take i l)) → out' ≡ sets out (at + 4 * i) (dump_int (get_or l i 0))
-    → out' ≡ sets out₀ at (each dump_int (take (i + 1) l))
-ints_turn out₀ l at i h e q =
+-- the integer behind i of them
+ints_more : {m m' : List ℕ} (out l : List ℕ) (at i : ℕ) → i < length l → m ≡ sets out at (each dump_int (take i l)) → m' ≡ sets m (at + 4 * i) (dump_int (get_or l i 0)) → m' ≡ sets out at (each dump_int (take (i + 1) l))
+unfolding each
+ints_more out l at i h e f =
     let n : length (each dump_int (take i l)) ≡ 4 * i = ints_length (take i l) ∙ rw (length-take-le i l (omega arith)) in
-    let t : each dump_int (take (i + 1) l) ≡ each dump_int (take i l) ++ dump_int (get_or l i 0) = rw (add-one i, take-suc l i 0 h) (each_more (take i l) (get_or l i 0)) in
-    rw (q, e, t) (rw n at (sets_append (each dump_int (take i l)) out₀ (dump_int (get_or l i 0)) at))
+    let t : each dump_int (take (i + 1) l) ≡ each dump_int (take i l) ++ dump_int (get_or l i 0) = rw (add-one i, take-suc l i 0 h) (each_append (take i l) (get_or l i 0 ∷ []) ∙ ap (λ (x : List ℕ). each dump_int (take i l) ++ x) (append-nil (dump_int (get_or l i 0)))) in
+    f ∙ rw (e, t) (rw n at (sets_append (each dump_int (take i l)) out (dump_int (get_or l i 0)) at))
+
+pub ints_turn : {m m' : List ℕ} (out l x : List ℕ) (at i k : ℕ) → i < length l → k ≡ 4 → at + 4 * i + 4 ≤ length m → m ≡ sets out at (each dump_int (take i l)) → x ≡ to_le_bytes w32 (get_or l i 0) → m' ≡ put_mid (at + 4 * i) k m x
+    → m' ≡ sets out at (each dump_int (take (i + 1) l))
+ints_turn {m} out l x at i k h f room e g q =
+    let v = get_or l i 0 in
+    ints_more out l at i h e (q ∙ sets_part m (dump_int v) (at + 4 * i) k (g ∙ number_bytes 4 v) (f ∙ sym (int_length v)) (omega arith))
+
+module _ {out m : List ℕ} {at fit r : ℕ} (l : List ℕ) (e : r ≡ min (at + 4 * length l) far) (f : fit ≡ min (length l) ((length out - at) / 4)) (q : m ≡ sets out at (each dump_int (take fit l))) where
+  -- all fit
+  pub ints_put : length l ≤ fit → Puts (each dump_int l) at out r m
+  ints_put h = record { puts = λ i j. (omega (arith, ints_length l), q ∙ rw (take_all fit l h)) }
+
+  -- those behind one that is cut are past the end
+  pub ints_cut : {m' : List ℕ} {r' : ℕ} → fit < length l → Puts (dump_int (get_or l fit 0)) (at + 4 * fit) m r' m' → Puts (each dump_int l) at out r m'
+  ints_cut {m'} h p =
+      record {
+        puts = λ i j.
+            let a = take (fit + 1) l in
+            let n : length m ≡ length out = ap length q ∙ length-sets out at (each dump_int (take fit l)) in
+            let t : m' ≡ sets out at (each dump_int a) = ints_more out l at fit h q (p.puts (omega arith) (omega arith)).1 in
+            let k : length m' ≡ length out = ap length t ∙ length-sets out at (each dump_int a) in
+            let c : length (each dump_int a) ≡ 4 * (fit + 1) = ints_length a ∙ rw (length-take-le (fit + 1) l (omega arith)) in
+            let s : each dump_int l ≡ each dump_int a ++ each dump_int (drop (fit + 1) l) = ap (each dump_int) (sym (take-append-drop (fit + 1) l)) ∙ each_append a (drop (fit + 1) l) in
+            let past : sets m' (at + length (each dump_int a)) (each dump_int (drop (fit + 1) l)) ≡ m' = sets_past (each dump_int (drop (fit + 1) l)) m' (at + length (each dump_int a)) (omega arith) in
+            (omega (arith, ints_length l), sym past ∙ rw (s, t) (sets_append (each dump_int a) out (each dump_int (drop (fit + 1) l)) at));
+      }

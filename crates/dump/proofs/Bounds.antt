@@ -1,16 +1,16 @@
 -- How long a chunk is at most: 12 bytes, five for each word of its store, its text, and the chunk name.
-use Rattle.lent.proofs.Prelude.{ℕ, ◌+◌, ◌*◌, ◌≤◌, ◌≡◌, refl, List, [], ◌∷◌, ◌++◌, Bool, true, false, cond, arith, length, length-append}
+use Rattle.lent.proofs.Prelude.{ℕ, ◌+◌, ◌*◌, ◌≤◌, ◌≡◌, refl, List, [], ◌∷◌, ◌++◌, append_assoc, Bool, true, false, cond, arith, length, length-append}
 use Rattle.lent.specs.Memory.{Every}
 use Rattle.format.specs.Tree.{Constant, Source, Local, Debug, Parts, Function, Functions, filled, kept}
 use Rattle.format.specs.Read.{same}
-use Rattle.format.specs.Store.{Piece, word, ◌⊕◌, string, pieces, list, ints, source_piece, constant_piece, local_piece, debug_piece, packed, function_piece, words_of, text_of}
+use Rattle.format.specs.Store.{Piece, plain, word, ◌⊕◌, string, pieces, list, ints, source_piece, constant_piece, local_piece, debug_piece, packed, function_piece, children_piece, words_of, text_of}
 use Rattle.format.specs.Write.{dump_number, dump_int, dump_string, dump_text, each, dump_list, dump_code, dump_constant, dump_local, dump_debug, elided, dump_function, dump_header, dump_chunk}
 use Rattle.format.proofs.RoundTrip.{same_is}
 use Rattle.proto.specs.Walk.{children}
+use Rattle.proto.proofs.Pieces.{Same, same_refl, same_sym, same_assoc}
 use Rattle.dump.proofs.Blocks.{int_length, width_within, size_length, string_length, code_length}
-use Rattle.dump.proofs.Steps.{Segment, Made, made_three, local_made, debug_made}
 use Rattle.dump.proofs.Lists.{every_all}
-use Rattle.dump.proofs.Functions.{constants_made, function_made}
+use Rattle.dump.proofs.Functions.{constants_list, constants_bytes, seven}
 
 -- the bytes b of the piece p are no more than five for each word, its text, and x
 record Bound (p : Piece) (b : List ℕ) (x : ℕ) : Type 0 where
@@ -25,16 +25,28 @@ module _ {A : Type 0} (piece : A → Piece) (bytes : A → List ℕ) where
   bound_each [] h = record { bound = λ to. omega arith }
   bound_each (a ∷ l) h = bound_then h.0 (bound_each l h.1)
 
--- the segments that something is made of, one behind the other
-bound_made : {p : Piece} {b : List ℕ} {a : Segment} {l : List Segment} {x : ℕ} → Made p b (a ∷ l) → Bound a.piece a.bytes x → Every (λ y. Bound y.piece y.bytes 0) l → Bound p b x
-unfolding pieces each
-bound_made {l = l} e d h = record { bound = λ to. rw (e.piece.words to, e.piece.text, e.bytes) ((bound_then d (bound_each (λ y. y.piece) (λ y. y.bytes) l h)).bound to) }
+-- the piece and the bytes written otherwise
+bound_as : {p q : Piece} {b c : List ℕ} {x : ℕ} → Same p q → b ≡ c → Bound q c x → Bound p b x
+bound_as e f d = record { bound = λ to. rw (e.words to, e.text, f) (d.bound to) }
+
+bound_three : {p q o : Piece} {x y z : List ℕ} → Bound p x 0 → Bound q y 0 → Bound o z 0 → Bound (p ⊕ q ⊕ o) (x ++ y ++ z) 0
+bound_three {x = x} {y} {z} u v w = bound_as same_refl (append_assoc x y z) (bound_then u (bound_then v w))
+
+bound_seven : {p₁ p₂ p₃ p₄ p₅ p₇ : Piece} (p₆ p₆′ : Piece) {x₁ x₂ x₃ x₄ x₅ x₆ x₇ : List ℕ} {n : ℕ} → Bound p₁ x₁ n → Bound p₂ x₂ 0 → Bound p₃ x₃ 0 → Bound p₄ x₄ 0 → Bound p₅ x₅ 0 → Bound (p₆ ⊕ p₆′) x₆ 0 → Bound p₇ x₇ 0
+    → Bound (p₁ ⊕ p₂ ⊕ p₃ ⊕ p₄ ⊕ p₅ ⊕ p₆ ⊕ p₆′ ⊕ p₇) (x₁ ++ x₂ ++ x₃ ++ x₄ ++ x₅ ++ x₆ ++ x₇) n
+bound_seven {p₇ = p₇} p₆ p₆′ {x₁} {x₂} {x₃} {x₄} {x₅} {x₆} {x₇} u₁ u₂ u₃ u₄ u₅ u₆ u₇ =
+    let behind = bound_as (same_sym (same_assoc p₆ p₆′ p₇)) refl (bound_then u₆ u₇) in
+    bound_as same_refl (seven x₁ x₂ x₃ x₄ x₅ x₆ x₇) (bound_then u₁ (bound_then u₂ (bound_then u₃ (bound_then u₄ (bound_then u₅ behind)))))
 
 bound_word : (w n : ℕ) → Bound (word w) (dump_int n) 0
 bound_word w n = record { bound = λ to. omega (arith, int_length n) }
 
 bound_list : {A : Type 0} (piece : A → Piece) (bytes : A → List ℕ) (l : List A) → Every (λ a. Bound (piece a) (bytes a) 0) l → Bound (list piece l) (dump_list bytes l) 0
 bound_list piece bytes l h = bound_then (bound_word (length l) (length l)) (bound_each piece bytes l h)
+
+-- a count of 0 in place of a list
+bound_zero : (n : ℕ) (p : Piece) → Bound (word n ⊕ p) (dump_int 0) 0
+bound_zero n p = record { bound = λ to. omega (arith, int_length 0) }
 
 bound_ints : (l : List ℕ) → Bound (ints l) (dump_code l) 0
 bound_ints l = record { bound = λ to. omega (arith, code_length l) }
@@ -43,8 +55,7 @@ bound_name : (size4 : Bool) (s : List ℕ) → Bound (string s) (dump_text size4
 bound_name size4 s = record { bound = λ to. omega (arith, string_length size4 s, width_within size4) }
 
 bound_local : (size4 : Bool) (v : Local) → Bound (local_piece v) (dump_local size4 v) 0
-unfolding Every
-bound_local size4 v = bound_made (local_made size4 v) (bound_name size4 v.name) (bound_word v.start v.start, (bound_word v.end v.end, tt))
+bound_local size4 v = bound_three (bound_name size4 v.name) (bound_word v.start v.start) (bound_word v.end v.end)
 
 bound_constant : (size4 : Bool) (k : Constant) → Bound (constant_piece k) (dump_constant size4 k) 0
 unfolding dump_number
@@ -54,13 +65,10 @@ bound_constant size4 (Constant.num high low) = record { bound = λ to. omega ari
 bound_constant size4 (Constant.str s) = record { bound = λ to. omega (arith, string_length size4 s, width_within size4) }
 
 bound_debug : (strip size4 : Bool) (d : Debug) → Bound (debug_piece d) (dump_debug size4 (kept strip d)) 0
-unfolding each dump_number Every
-bound_debug true size4 d =
-    bound_made (made_three (ints d.lines) (list local_piece d.locals) (list string d.upvalues) (dump_int 0) (dump_int 0) (dump_int 0)) (record { bound = λ to. omega arith })
-    (record { bound = λ to. omega arith }, (record { bound = λ to. omega arith }, tt))
+unfolding each dump_number
+bound_debug true size4 d = bound_three (bound_zero (length d.lines) (plain d.lines)) (bound_zero (length d.locals) (pieces local_piece d.locals)) (bound_zero (length d.upvalues) (pieces string d.upvalues))
 bound_debug false size4 d =
-    bound_made (debug_made size4 d) (bound_ints d.lines)
-    (bound_list local_piece (dump_local size4) d.locals (every_all (bound_local size4) d.locals), (bound_list string (dump_text size4) d.upvalues (every_all (bound_name size4) d.upvalues), tt))
+    bound_three (bound_ints d.lines) (bound_list local_piece (dump_local size4) d.locals (every_all (bound_local size4) d.locals)) (bound_list string (dump_text size4) d.upvalues (every_all (bound_name size4) d.upvalues))
 
 -- ---- sources
 
@@ -85,13 +93,13 @@ bound_source size4 outer (Source.own s) = record { bound = λ to. let i = bound_
 bound_parts : (p : Parts) (fs : Functions) (strip size4 : Bool) (around outer : List ℕ) (x : ℕ) → Bound (source_piece p.source) (dump_string size4 (elided around (filled outer p.source))) x
     → Every (λ f. Bound (function_piece f) (dump_function f strip size4 (filled outer p.source) (filled outer p.source)) 0) (children fs)
     → Bound (function_piece (Function.function p fs)) (dump_function (Function.function p fs) strip size4 around outer) x
-unfolding Every
+unfolding function_piece dump_function
 bound_parts p fs strip size4 around outer x h functions =
     let source = filled outer p.source in
+    let constants = list constant_piece p.constants in
     let four : Bound (word (packed p)) (p.num_upvalues ∷ p.num_params ∷ p.is_vararg ∷ p.max_stack_size ∷ []) 0 = record { bound = λ to. omega arith } in
-    let inside = bound_made (constants_made strip size4 source p.constants fs) (bound_list constant_piece (dump_constant size4) p.constants (every_all (bound_constant size4) p.constants)) (bound_list function_piece (λ f. dump_function f strip size4 source source) (children fs) functions, tt) in
-    bound_made (function_made strip size4 around outer source p fs refl) h
-    (bound_word p.line_defined p.line_defined, (bound_word p.last_line_defined p.last_line_defined, (four, (bound_ints p.code, (inside, (bound_debug strip size4 p.debug, tt))))))
+    let inside = bound_as (constants_list p.constants fs) (constants_bytes strip size4 source p.constants fs) (bound_then (bound_list constant_piece (dump_constant size4) p.constants (every_all (bound_constant size4) p.constants)) (bound_list function_piece (λ f. dump_function f strip size4 source source) (children fs) functions)) in
+    bound_seven constants (children_piece fs) h (bound_word p.line_defined p.line_defined) (bound_word p.last_line_defined p.last_line_defined) four (bound_ints p.code) inside (bound_debug strip size4 p.debug)
 
 mutual
   unfolding children Every

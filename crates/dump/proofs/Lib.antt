@@ -3,4 +3,3 @@ pub mod Steps
 pub mod Lists
 pub mod Functions
 pub mod Bounds
-pub mod Calls

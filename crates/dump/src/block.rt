@@ -1,53 +1,62 @@
-// The integers and strings of a chunk, stored in lent memory that has room for them, which lent::Writer would test.
-ghost use Rattle.std.specs.Prelude.{◌+◌, ◌*◌, ◌≤◌, ◌≡◌, length};
+// The integers and strings of a chunk. Each call answers the place behind what it writes.
+ghost use Rattle.std.specs.Prelude.{◌-◌, ◌*◌, ◌≤◌, ◌≡◌, length};
 ghost use Rattle.std.proofs.lemmas.List.Edits.{sets};
-ghost use Rattle.format.specs.Read.{width_of};
+ghost use Rattle.lent.specs.Memory.{Puts};
 ghost use Rattle.format.specs.Write.{dump_int, dump_size, dump_text, each};
 
-use lent::copy;
+use format::low;
+use lent::{put, put_all, put_array};
 
 // An integer: four bytes, low byte first.
-#[tactic(auto, using(crate::proofs::Blocks::int_copied))]
-pub fn dump_int(out: &mut [u8], at: usize, n: u32)
-    requires { at + 4 ≤ length out.old }
-    ensures { out.new ≡ sets out.old at (dump_int n) }
+#[tactic(auto, using(crate::proofs::Blocks::int_put))]
+pub fn dump_int(out: &mut [u8], at: usize, n: u32) -> usize
+    ensures { Puts (dump_int n) at out.old result out.new }
 {
-    out[at..at + 4].copy_from_slice(&n.to_le_bytes());
+    put_array(out, at, n.to_le_bytes())
 }
 
-// A size: four bytes or eight, low byte first. Answers the place behind it.
-pub fn dump_size(out: &mut [u8], at: usize, n: u64, size_4: bool) -> usize
-    requires { at + width_of size_4 ≤ length out.old }
-    ensures { (result ≡ at + width_of size_4) × (out.new ≡ sets out.old at (dump_size size_4 n)) }
+// A size: four bytes or eight, low byte first.
+#[tactic(auto, using(crate::proofs::Blocks::size_short, crate::proofs::Blocks::size_long))]
+pub fn dump_size(out: &mut [u8], at: usize, n: usize, size_4: bool) -> usize
+    ensures { Puts (dump_size size_4 n) at out.old result out.new }
 {
     if size_4 {
-        dump_int(out, at, (n % 4294967296) as u32);
-        return at + 4;
+        dump_int(out, at, low(n))
+    } else {
+        put_array(out, at, n.to_le_bytes())
     }
-    out[at..at + 8].copy_from_slice(&n.to_le_bytes());
-    at + 8
 }
 
-// A string: its length and one, its bytes, a zero. Answers the place behind it.
-#[tactic(auto, using(crate::proofs::Blocks::string_stored))]
+// A string: its length and one, its bytes, a zero.
+#[tactic(auto, using(crate::proofs::Blocks::string_put))]
 pub fn dump_string(out: &mut [u8], at: usize, s: &[u8], size_4: bool) -> usize
-    requires { at + (width_of size_4 + length s.now + 1) ≤ length out.old }
-    ensures { (result ≡ at + (width_of size_4 + length s.now + 1)) × (out.new ≡ sets out.old at (dump_text size_4 s.now)) }
+    ensures { Puts (dump_text size_4 s.now) at out.old result out.new }
 {
-    let n = s.len();
-    let start = dump_size(out, at, n as u64 + 1, size_4);
-    copy(out, start, s);
-    out[start + n] = 0;
-    start + n + 1
+    let start = dump_size(out, at, s.len() + 1, size_4);
+    let end = put_all(out, start, s);
+    put(out, end, 0)
 }
 
-// Integers, one behind the other.
+// Integers, which fit, one behind the other.
 #[tactic(auto, using(crate::proofs::Blocks::ints_start, crate::proofs::Blocks::ints_turn))]
-pub fn dump_ints(out: &mut [u8], at: usize, l: &[u32])
-    requires { at + 4 * length l.now ≤ length out.old }
+fn store_ints(out: &mut [u8], at: usize, l: &[u32])
+    requires { 4 * length l.now ≤ length out.old - at }
     ensures { out.new ≡ sets out.old at (each dump_int l.now) }
 {
     for (i, v) in l.iter().enumerate() {
-        dump_int(out, at + 4 * i, *v);
+        let place = at + 4 * i;
+        out[place..place + 4].copy_from_slice(&v.to_le_bytes());
     }
+}
+
+// Integers, one behind the other: as many as fit, and what fits of the next one.
+pub fn dump_ints(out: &mut [u8], at: usize, l: &[u32]) -> usize
+    ensures { Puts (each dump_int l.now) at out.old result out.new }
+{
+    let fit = l.len().min(out.len().saturating_sub(at) / 4);
+    store_ints(out, at, &l[..fit]);
+    if fit < l.len() {
+        dump_int(out, at + 4 * fit, l[fit]);
+    }
+    at.saturating_add(4 * l.len())
 }

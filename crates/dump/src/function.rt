@@ -1,6 +1,5 @@
-// Functions, written to a chunk from the store, where they stand in it and the chunk has room for them.
-ghost use Rattle.std.specs.Prelude.{ℕ, ◌+◌, ◌≤◌, ◌≡◌, List, cond, length};
-ghost use Rattle.lent.specs.Memory.{Puts};
+// Functions, written to a chunk from where they stand in the store.
+ghost use Rattle.std.specs.Prelude.{ℕ, ◌≡◌, List};
 ghost use Rattle.format.specs.Tree.{Constant as Value};
 ghost use Rattle.format.specs.Tree.{Source, Functions, Function, count, filled};
 ghost use Rattle.format.specs.Read.{same as same_bytes};
@@ -8,13 +7,13 @@ ghost use Rattle.format.specs.Store.{source_piece, function_piece};
 ghost use Rattle.format.specs.Valid.{Valid, ValidAll};
 ghost use Rattle.format.specs.Write.{dump_string, elided, dump_constants, dump_function, dump_functions};
 ghost use Rattle.proto.specs.Walk.{Stands};
-ghost use Rattle.dump.specs.Step.{reached, dumping, ReadyAt, Kept, DumpsAt, SourceFits, constants_piece, around};
+ghost use Rattle.dump.specs.Step.{Dumps, progress, constants_piece, around};
 
 use crate::block::{dump_size, dump_string};
 use crate::item::Constants;
-use crate::list::DumpState;
+use crate::list::{Dumper, Options, Reached};
 use proto::store::Store;
-use proto::walk::word_at;
+use proto::walk::{skip, word_at};
 
 // Whether a function's source is the one around it. One that is inherited is, except at the root, which inherits the chunk name (outer) with nothing around it.
 pub fn is_elided(words: &[u32], at: usize, outer: &[u8], source: &[u8], root: bool) -> bool
@@ -27,61 +26,72 @@ pub fn is_elided(words: &[u32], at: usize, outer: &[u8], source: &[u8], root: bo
     }
 }
 
-// A source, none where it is elided. Answers the place behind it. Over the space and the place, not a method: it reads nothing else of the writer.
-fn put_source(out: &mut [u8], at: usize, source: &[u8], elide: bool, size_4: bool) -> usize
-    requires { at + length (dump_string size_4 (cond elide Source.inherited (Source.own source.now))) ≤ length out.old }
-    ensures { Puts (dump_string size_4 (cond elide Source.inherited (Source.own source.now))) at out.old result out.new }
-{
-    if elide {
-        dump_size(out, at, 0, size_4)
-    } else {
-        dump_string(out, at, source, size_4)
-    }
-}
-
-impl<'a> DumpState<'a> {
+impl<'a> Dumper<'a> {
     // The source of a function: none where it is the one around it.
-    fn dump_source(&mut self, outer: &[u8], source: &[u8], root: bool)
-        requires { SourceFits self.old.store.words.now outer.now source.now (dump_string self.old.options.size_4 (elided (around root outer.now) source.now)) (reached self.old) }
-        ensures { Kept (dumping self.old) (dumping self.new) × ((v : Source) → ((to : ℕ) → Stands self.old.store.words.now self.old.store.text.now self.old.at to (source_piece v) → source.now ≡ filled outer.now v) → DumpsAt (source_piece v) (dump_string self.old.options.size_4 (elided (around root outer.now) source.now)) (dumping self.old) (dumping self.new)) }
+    #[tactic(auto, using(crate::proofs::Functions::source_none, crate::proofs::Functions::source_own))]
+    fn dump_source(
+        self,
+        out: &mut [u8],
+        s: Reached,
+        outer: &[u8],
+        source: &[u8],
+        root: bool,
+    ) -> Reached
+        ensures { (v : Source) → source.now ≡ filled outer.now v → Dumps self.entry (source_piece v) (dump_string self.entry.options.size_4 (elided (around root outer.now) source.now)) (progress s out.old) (progress result out.new) }
     {
         let Store { words, .. } = self.store;
-        let elide = is_elided(words, self.at, outer, source, root);
-        self.at += 3;
-        self.len = put_source(self.out, self.len, source, elide, self.options.size_4);
+        let Options { size_4, .. } = self.options;
+        let at = skip(words, s.at, 3);
+        let len = if is_elided(words, s.at, outer, source, root) {
+            dump_size(out, s.len, 0, size_4)
+        } else {
+            dump_string(out, s.len, source, size_4)
+        };
+        Reached { at, len }
     }
 
-    // A function; an inherited source stands for outer.
+    // A function; an inherited source stands for outer. root stands beside outer, as the root inherits the chunk name but is compared with the empty string.
     #[cycle(dump_constants_dump_function)]
-    pub fn dump_function(&mut self, outer: &'a [u8], root: bool, allowance: u32)
-        requires { ReadyAt (λ f. Valid f allowance) function_piece (λ f. dump_function f self.old.options.strip self.old.options.size_4 (around root outer.now) outer.now) (dumping self.old) }
-        ensures { Kept (dumping self.old) (dumping self.new) × ((f : Function) → Valid f allowance → DumpsAt (function_piece f) (dump_function f self.old.options.strip self.old.options.size_4 (around root outer.now) outer.now) (dumping self.old) (dumping self.new)) }
+    pub fn dump_function(
+        self,
+        out: &mut [u8],
+        s: Reached,
+        outer: &'a [u8],
+        root: bool,
+        allowance: u32,
+    ) -> Reached
+        ensures { (f : Function) → Valid f allowance → Dumps self.entry (function_piece f) (dump_function f self.entry.options.strip self.entry.options.size_4 (around root outer.now) outer.now) (progress s out.old) (progress result out.new) }
     {
         if allowance == 0 {
-            return;
+            return s;
         }
-        let source = self.store.own_source(outer, self.at);
-        self.dump_source(outer, source, root);
-        self.dump_word();
-        self.dump_word();
-        self.dump_packed();
-        self.dump_code();
-        self.dump_constants(source, allowance - 1);
-        self.dump_debug();
+        let source = self.store.own_source(outer, s.at);
+        let line_defined = self.dump_source(out, s, outer, source, root);
+        let last_line_defined = self.dump_word(out, line_defined);
+        let packed = self.dump_word(out, last_line_defined);
+        let code = self.dump_packed(out, packed);
+        let constants = self.dump_code(out, code);
+        let debug = self.dump_constants(out, constants, source, allowance - 1);
+        self.dump_debug(out, debug)
     }
 
     // The constants of a function whose source this is, and the functions in it.
     #[cycle(dump_constants_dump_function)]
-    pub fn dump_constants(&mut self, source: &'a [u8], allowance: u32)
-        requires { ReadyAt {A = List Value × Functions} (λ v. ValidAll v.1 allowance) (λ v. constants_piece v.0 v.1) (λ v. dump_constants self.old.options.size_4 v.0 (count v.1) (dump_functions v.1 self.old.options.strip self.old.options.size_4 source.now)) (dumping self.old) }
-        ensures { Kept (dumping self.old) (dumping self.new) × ((ks : List Value) (fs : Functions) → ValidAll fs allowance → DumpsAt (constants_piece ks fs) (dump_constants self.old.options.size_4 ks (count fs) (dump_functions fs self.old.options.strip self.old.options.size_4 source.now)) (dumping self.old) (dumping self.new)) }
+    pub fn dump_constants(
+        self,
+        out: &mut [u8],
+        s: Reached,
+        source: &'a [u8],
+        allowance: u32,
+    ) -> Reached
+        ensures { (ks : List Value) (fs : Functions) → ValidAll fs allowance → Dumps self.entry (constants_piece ks fs) (dump_constants self.entry.options.size_4 ks (count fs) (dump_functions fs self.entry.options.strip self.entry.options.size_4 source.now)) (progress s out.old) (progress result out.new) }
     {
-        self.dump_list::<Constants>();
-        let Store { words, .. } = self.store;
-        let n = word_at(words, self.at);
-        self.dump_word();
+        let functions = self.dump_list::<Constants>(out, s);
+        let n = word_at(self.store.words, functions.at);
+        let mut r = self.dump_word(out, functions);
         for _ in 0..n {
-            self.dump_function(source, false, allowance);
+            r = self.dump_function(out, r, source, false, allowance);
         }
+        r
     }
 }

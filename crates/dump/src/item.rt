@@ -1,17 +1,14 @@
-// The items of a function's lists: how each is written, and how it is counted.
-ghost use Rattle.std.specs.Prelude.{ℕ, ◌+◌, ◌≤◌, ◌≡◌, List, Bool, length, refl};
-ghost use Rattle.std.proofs.Common.{arith};
+// The items of a function's lists: how each is written.
+ghost use Rattle.std.specs.Prelude.{ℕ, List, Bool};
 ghost use Rattle.format.specs.Tree.{Constant as Value};
 ghost use Rattle.format.specs.Tree.{Local};
 ghost use Rattle.format.specs.Store.{Piece, string, constant_piece, local_piece};
 ghost use Rattle.format.specs.Write.{dump_text, dump_constant, dump_local};
-ghost use Rattle.proto.proofs.Pieces.{constant_words_law};
-ghost use Rattle.dump.specs.Step.{dumping, counting, Any, ReadyAt, Done};
+ghost use Rattle.dump.specs.Step.{Dumps, progress};
 
-use crate::count::Counter;
-use crate::list::DumpState;
+use crate::list::{Dumper, Reached};
 
-// A kind of items, each of so many words. proto has an Item of its own: each says what its own walk does with an item.
+// A kind of items. proto has an Item of its own: each says what its own walk does with an item.
 pub trait Item {
     ghost Value: { Type 0 };
 
@@ -19,23 +16,9 @@ pub trait Item {
 
     ghost bytes: { Bool → Value → List ℕ };
 
-    ghost WORDS: { ℕ };
-
-    const WORDS: usize;
-
-    // Writes the next.
-    fn dump(d: &mut DumpState)
-        requires { ReadyAt Any piece (bytes d.old.options.size_4) (dumping d.old) }
-        ensures { Done piece (bytes d.old.options.size_4) (dumping d.old) (dumping d.new) };
-
-    // Counts it.
-    fn count(c: &mut Counter)
-        requires { c.old.at + WORDS ≤ length c.old.store.words.now }
-        ensures { (c.new.at ≡ c.old.at + WORDS) × Done piece (bytes c.old.options.size_4) (counting c.old) (counting c.new) };
-
-    ghost some: { (1 ≤ WORDS) × (WORDS ≤ 4) };
-
-    ghost sized: { (v : Value) (to : ℕ) → length ((piece v).words to) ≡ WORDS };
+    // Writes one, past it.
+    fn dump(d: Dumper, out: &mut [u8], s: Reached) -> Reached
+        ensures { (v : Value) → Dumps d.entry (piece v) (bytes d.entry.options.size_4 v) (progress s out.old) (progress result out.new) };
 }
 
 pub struct Constants;
@@ -47,20 +30,8 @@ impl Item for Constants {
 
     ghost bytes = { dump_constant };
 
-    ghost WORDS = { 3 };
-
-    ghost some = { Prim.omega arith };
-
-    ghost sized = { constant_words_law };
-
-    const WORDS: usize = 3;
-
-    fn dump(d: &mut DumpState) {
-        d.dump_constant();
-    }
-
-    fn count(c: &mut Counter) {
-        c.count_constant();
+    fn dump(d: Dumper, out: &mut [u8], s: Reached) -> Reached {
+        d.dump_constant(out, s)
     }
 }
 
@@ -73,20 +44,8 @@ impl Item for Locals {
 
     ghost bytes = { dump_local };
 
-    ghost WORDS = { 4 };
-
-    ghost some = { Prim.omega arith };
-
-    ghost sized = { λ v to. refl };
-
-    const WORDS: usize = 4;
-
-    fn dump(d: &mut DumpState) {
-        d.dump_local();
-    }
-
-    fn count(c: &mut Counter) {
-        c.count_local();
+    fn dump(d: Dumper, out: &mut [u8], s: Reached) -> Reached {
+        d.dump_local(out, s)
     }
 }
 
@@ -100,19 +59,7 @@ impl Item for Names {
 
     ghost bytes = { dump_text };
 
-    ghost WORDS = { 2 };
-
-    ghost some = { Prim.omega arith };
-
-    ghost sized = { λ v to. refl };
-
-    const WORDS: usize = 2;
-
-    fn dump(d: &mut DumpState) {
-        d.dump_name();
-    }
-
-    fn count(c: &mut Counter) {
-        c.count_name();
+    fn dump(d: Dumper, out: &mut [u8], s: Reached) -> Reached {
+        d.dump_name(out, s)
     }
 }

@@ -1,21 +1,22 @@
-// The fields and lists of a function, written to a chunk from the store, where they stand in it and the chunk has room for them.
-ghost use Rattle.std.specs.Prelude.{ℕ, ◌+◌, ◌*◌, ◌≤◌, ◌<◌, List, [], ◌∷◌, Bool, length, get_or};
-ghost use Rattle.format.specs.Tree.{Parts, no_debug, kept};
+// The fields and lists of a function, written to a chunk from where they stand in the store.
+ghost use Rattle.std.specs.Prelude.{ℕ, List, [], ◌∷◌, Bool};
+ghost use Rattle.lent.specs.Memory.{Puts};
+ghost use Rattle.format.specs.Tree.{Constant as Value};
+ghost use Rattle.format.specs.Tree.{Local, Debug, Parts, kept};
 ghost use Rattle.format.specs.Store.{string, list, ints, constant_piece, local_piece, debug_piece, packed};
 ghost use Rattle.format.specs.Store.{word as word_piece};
 ghost use Rattle.format.specs.Valid.{ValidParts};
-ghost use Rattle.format.specs.Read.{width_of};
 ghost use Rattle.format.specs.Write.{dump_int, dump_text, dump_list, dump_code, dump_constant, dump_local, dump_debug};
-ghost use Rattle.lent.specs.Memory.{Puts};
 ghost use Rattle.format.specs.Constants.{value_of};
-ghost use Rattle.dump.specs.Step.{Dumps, reached, dumping, Any, ReadyAt, Kept, Done};
+ghost use Rattle.dump.specs.Step.{Dumps, progress};
 
 use crate::block::{dump_int, dump_ints, dump_string};
-use crate::item::{Constants, Item, Locals, Names};
+use crate::item::{Item, Locals, Names};
 use format::Constant;
+use lent::{put, put_array};
 use proto::constant::constant_at;
 use proto::store::Store;
-use proto::walk::{after_debug, part};
+use proto::walk::{after_debug, ints_at, skip, word_at};
 
 // How a chunk is written: whether without debug lists, and whether sizes take four bytes.
 #[derive(Clone, Copy)]
@@ -24,165 +25,137 @@ pub struct Options {
     pub size_4: bool,
 }
 
-// What is written and how, a place in the words, the space, and the bytes written so far.
-#[derive(Drop)]
-pub struct DumpState<'a> {
-    pub store: Store<'a>,
-    pub options: Options,
+// The place reached in the words, and the bytes written so far.
+#[derive(Clone, Copy)]
+pub struct Reached {
     pub at: usize,
-    pub out: &'a mut [u8],
     pub len: usize,
 }
 
-impl<'a> DumpState<'a> {
+// What is written, and how. Each step goes on from what is reached, past what it writes.
+#[derive(Clone, Copy)]
+pub struct Dumper<'a> {
+    pub store: Store<'a>,
+    pub options: Options,
+}
+
+impl Dumper<'_> {
     // A word, as an integer.
     #[tactic(auto, using(crate::proofs::Steps::word_dumped))]
-    pub fn dump_word(&mut self)
-        requires { (self.old.at < length self.old.store.words.now) × (self.old.len + 4 ≤ length self.old.out.now) }
-        ensures { Kept (dumping self.old) (dumping self.new) × ((v : ℕ) (t : List ℕ) → Dumps self.old.store.words.now t (word_piece v) (dump_int v) (reached self.old) (reached self.new)) }
+    pub fn dump_word(self, out: &mut [u8], s: Reached) -> Reached
+        ensures { (v : ℕ) → Dumps self.entry (word_piece v) (dump_int v) (progress s out.old) (progress result out.new) }
     {
         let Store { words, .. } = self.store;
-        dump_int(self.out, self.len, words[self.at]);
-        self.at += 1;
-        self.len += 4;
+        Reached {
+            at: skip(words, s.at, 1),
+            len: dump_int(out, s.len, word_at(words, s.at)),
+        }
     }
 
     // The four bytes packed in a word.
     #[tactic(auto, using(crate::proofs::Steps::packed_dumped))]
-    pub fn dump_packed(&mut self)
-        requires { (self.old.at < length self.old.store.words.now) × (self.old.len + 4 ≤ length self.old.out.now) }
-        ensures { Kept (dumping self.old) (dumping self.new) × ((p : Parts) (t : List ℕ) → ValidParts p → Dumps self.old.store.words.now t (word_piece (packed p)) (p.num_upvalues ∷ p.num_params ∷ p.is_vararg ∷ p.max_stack_size ∷ []) (reached self.old) (reached self.new)) }
+    pub fn dump_packed(self, out: &mut [u8], s: Reached) -> Reached
+        ensures { (p : Parts) → ValidParts p → Dumps self.entry (word_piece (packed p)) (p.num_upvalues ∷ p.num_params ∷ p.is_vararg ∷ p.max_stack_size ∷ []) (progress s out.old) (progress result out.new) }
     {
         let Store { words, .. } = self.store;
-        dump_int(self.out, self.len, words[self.at].swap_bytes());
-        self.at += 1;
-        self.len += 4;
+        Reached {
+            at: skip(words, s.at, 1),
+            len: put_array(out, s.len, word_at(words, s.at).to_be_bytes()),
+        }
     }
 
     // The code, or the lines.
-    pub fn dump_code(&mut self)
-        requires { (self.old.at + (1 + get_or self.old.store.words.now self.old.at 0) ≤ length self.old.store.words.now) × (self.old.len + (4 + 4 * get_or self.old.store.words.now self.old.at 0) ≤ length self.old.out.now) }
-        ensures { Kept (dumping self.old) (dumping self.new) × ((l : List ℕ) (t : List ℕ) → Dumps self.old.store.words.now t (ints l) (dump_code l) (reached self.old) (reached self.new)) }
+    #[tactic(auto, using(crate::proofs::Steps::code_dumped))]
+    pub fn dump_code(self, out: &mut [u8], s: Reached) -> Reached
+        ensures { (l : List ℕ) → Dumps self.entry (ints l) (dump_code l) (progress s out.old) (progress result out.new) }
     {
         let Store { words, .. } = self.store;
-        let n = words[self.at] as usize;
-        let start = self.at + 1;
-        let end = start + n;
-        dump_int(self.out, self.len, words[self.at]);
-        dump_ints(self.out, self.len + 4, &words[start..end]);
-        self.at = end;
-        self.len += 4 + 4 * n;
+        let n = word_at(words, s.at);
+        let start = dump_int(out, s.len, n);
+        Reached {
+            at: skip(words, s.at, 1 + n as usize),
+            len: dump_ints(out, start, ints_at(words, s.at)),
+        }
     }
 
     // A name: an upvalue's, or a local's.
     #[tactic(auto, using(crate::proofs::Steps::name_dumped))]
-    pub fn dump_name(&mut self)
-        requires { (self.old.at + 2 ≤ length self.old.store.words.now) × (self.old.len + (width_of self.old.options.size_4 + get_or self.old.store.words.now (self.old.at + 1) 0 + 1) ≤ length self.old.out.now) }
-        ensures { Done string (dump_text self.old.options.size_4) (dumping self.old) (dumping self.new) }
+    pub fn dump_name(self, out: &mut [u8], s: Reached) -> Reached
+        ensures { (n : List ℕ) → Dumps self.entry (string n) (dump_text self.entry.options.size_4 n) (progress s out.old) (progress result out.new) }
     {
-        let Store { words, text } = self.store;
-        let name = part(text, words[self.at] as usize, words[self.at + 1] as usize);
-        self.at += 2;
-        self.len = dump_string(self.out, self.len, name, self.options.size_4);
+        let name = self.store.string_at(s.at);
+        Reached {
+            at: skip(self.store.words, s.at, 2),
+            len: dump_string(out, s.len, name, self.options.size_4),
+        }
     }
 
     // A local: its name, start and end.
-    pub fn dump_local(&mut self)
-        requires { ReadyAt Any local_piece (dump_local self.old.options.size_4) (dumping self.old) }
-        ensures { Done local_piece (dump_local self.old.options.size_4) (dumping self.old) (dumping self.new) }
+    pub fn dump_local(self, out: &mut [u8], s: Reached) -> Reached
+        ensures { (v : Local) → Dumps self.entry (local_piece v) (dump_local self.entry.options.size_4 v) (progress s out.old) (progress result out.new) }
     {
-        self.dump_name();
-        self.dump_word();
-        self.dump_word();
+        let start = self.dump_name(out, s);
+        let end = self.dump_word(out, start);
+        self.dump_word(out, end)
     }
 
     // A constant.
-    pub fn dump_constant(&mut self)
-        requires { ReadyAt Any constant_piece (dump_constant self.old.options.size_4) (dumping self.old) }
-        ensures { Done constant_piece (dump_constant self.old.options.size_4) (dumping self.old) (dumping self.new) }
+    #[tactic(auto, using(crate::proofs::Steps::constant_dumped))]
+    pub fn dump_constant(self, out: &mut [u8], s: Reached) -> Reached
+        ensures { (k : Value) → Dumps self.entry (constant_piece k) (dump_constant self.entry.options.size_4 k) (progress s out.old) (progress result out.new) }
     {
         let Store { words, text } = self.store;
-        let k = constant_at(words, self.at);
-        self.at += 3;
-        self.len = put_constant(text, k, self.out, self.len, self.options.size_4);
+        let k = constant_at(words, s.at);
+        Reached {
+            at: skip(words, s.at, 3),
+            len: put_constant(out, s.len, text, k, self.options.size_4),
+        }
     }
 
     // A list of items; behind the constants stand the functions.
-    pub fn dump_list<T: Item>(&mut self)
-        requires { ReadyAt Any (list T.piece) (dump_list (T.bytes self.old.options.size_4)) (dumping self.old) }
-        ensures { Done (list T.piece) (dump_list (T.bytes self.old.options.size_4)) (dumping self.old) (dumping self.new) }
+    pub fn dump_list<T: Item>(self, out: &mut [u8], s: Reached) -> Reached
+        ensures { (l : List T.Value) → Dumps self.entry (list T.piece l) (dump_list (T.bytes self.entry.options.size_4) l) (progress s out.old) (progress result out.new) }
     {
-        let Store { words, .. } = self.store;
-        let n = words[self.at];
-        self.dump_word();
-        // a state of its own stays in registers: through self, 65,535 numbers take 5.8 million instructions, not 4.5
-        let mut d = DumpState {
-            out: &mut *self.out,
-            ..*self
-        };
+        let n = word_at(self.store.words, s.at);
+        let mut r = self.dump_word(out, s);
         for _ in 0..n {
-            T::dump(&mut d);
+            r = T::dump(self, out, r);
         }
-        self.at = d.at;
-        self.len = d.len;
+        r
     }
 
-    // The lines, the locals and the upvalues' names; strip leaves all of them out.
-    pub fn dump_debug(&mut self)
-        requires { ReadyAt Any debug_piece (λ d. dump_debug self.old.options.size_4 (kept self.old.options.strip d)) (dumping self.old) }
-        ensures { Done debug_piece (λ d. dump_debug self.old.options.size_4 (kept self.old.options.strip d)) (dumping self.old) (dumping self.new) }
+    // The lines, the locals and the upvalues' names; strip leaves three counts of 0.
+    pub fn dump_debug(self, out: &mut [u8], s: Reached) -> Reached
+        ensures { (d : Debug) → Dumps self.entry (debug_piece d) (dump_debug self.entry.options.size_4 (kept self.entry.options.strip d)) (progress s out.old) (progress result out.new) }
     {
         if self.options.strip {
-            let Store { words, .. } = self.store;
-            self.at = after_debug(words, self.at);
-            self.len = put_no_debug(self.out, self.len);
-        } else {
-            self.dump_code();
-            self.dump_list::<Locals>();
-            self.dump_list::<Names>();
+            return Reached {
+                at: after_debug(self.store.words, s.at),
+                len: put_array(out, s.len, [0; 12]),
+            };
         }
+        let locals = self.dump_code(out, s);
+        let upvalues = self.dump_list::<Locals>(out, locals);
+        self.dump_list::<Names>(out, upvalues)
     }
 }
 
-// The bytes of a constant: its tag, then Bool's byte, Num's halves, or String. Answers the place behind them. Over the space and the place, not a
-// method: it reads nothing else of the writer. The tags 0, 1, 3, 4 are the format's.
-#[tactic(auto, using(crate::proofs::Steps::low_fits, crate::proofs::Steps::high_fits, crate::proofs::Steps::num_puts, crate::proofs::Steps::str_fits, crate::proofs::Steps::str_puts))]
-fn put_constant(text: &[u8], k: Constant, out: &mut [u8], at: usize, size_4: bool) -> usize
-    requires { at + length (dump_constant size_4 (value_of text.now k)) ≤ length out.old }
+// The bytes of a constant: its tag, then Bool's byte, Num's halves, or String. Answers the place behind them. The tags 0, 1, 3, 4 are the format's.
+#[tactic(auto, using(crate::proofs::Blocks::num_put, crate::proofs::Blocks::str_put))]
+fn put_constant(out: &mut [u8], at: usize, text: &[u8], k: Constant, size_4: bool) -> usize
     ensures { Puts (dump_constant size_4 (value_of text.now k)) at out.old result out.new }
 {
     match k {
-        Constant::Nil => {
-            out[at] = 0;
-            at + 1
-        }
-        Constant::Bool(b) => {
-            out[at] = 1;
-            out[at + 1] = u8::from(b);
-            at + 2
-        }
+        Constant::Nil => put(out, at, 0),
+        Constant::Bool(b) => put_array(out, at, [1, u8::from(b)]),
         Constant::Num(high, low) => {
-            out[at] = 3;
-            dump_int(out, at + 1, low);
-            dump_int(out, at + 5, high);
-            at + 9
+            let start = put(out, at, 3);
+            let bits = u64::from(low) + 4294967296 * u64::from(high);
+            put_array(out, start, bits.to_le_bytes())
         }
-        Constant::String(place, n) => {
-            let s = part(text, place, n);
-            out[at] = 4;
-            dump_string(out, at + 1, s, size_4)
+        Constant::String(s) => {
+            let start = put(out, at, 4);
+            dump_string(out, start, s.of(text), size_4)
         }
     }
-}
-
-// No debug lists: three counts of 0. Over the space and the place, as put_constant.
-#[tactic(auto, using(crate::proofs::Steps::no_debug_law))]
-fn put_no_debug(out: &mut [u8], at: usize) -> usize
-    requires { at + 12 ≤ length out.old }
-    ensures { (size4 : Bool) → Puts (dump_debug size4 no_debug) at out.old result out.new }
-{
-    dump_int(out, at, 0);
-    dump_int(out, at + 4, 0);
-    dump_int(out, at + 8, 0);
-    at + 12
 }

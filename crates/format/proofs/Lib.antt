@@ -3,6 +3,7 @@ pub mod Stored
 pub mod Loaded
 pub mod Calls
 pub mod Measured
+pub mod Refusals
 pub mod Samples
 pub mod Widths
 pub mod Writing

@@ -138,4 +138,4 @@ pub constant_numbered : (bytes : List ℕ) (k : Answer) → LiesIn bytes k → (
 constant_numbered bytes Nil h = refl
 constant_numbered bytes (Truth b) h = refl
 constant_numbered bytes (Num high low) h = refl
-constant_numbered bytes (String place n) h = let e : length (part bytes place n) ≡ n = simp (length-take, length-drop) (omega arith) in rw (e, add-zero place)
+constant_numbered bytes (String s) h = let e : length (part bytes s.start s.len) ≡ s.len = simp (length-take, length-drop) (omega arith) in rw (e, add-zero s.start)

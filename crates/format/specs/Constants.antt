@@ -12,12 +12,12 @@ pub record Meaning : Type 0 where
   pub second : ℕ
   pub value : List ℕ → Value
 
--- every case of the enum: Nil, Bool, Num by its halves, String by its place and length
+-- every case of the enum: Nil, Bool, Num by its halves, String by where it stands
 abbrev pub meaning_of : Constant → Meaning
 meaning_of Nil = record { number = 0; first = 0; second = 0; value = λ bytes. Value.nil }
 meaning_of (Truth b) = record { number = 1; first = cond b 1 0; second = 0; value = λ bytes. Value.bool b }
 meaning_of (Num high low) = record { number = 3; first = high; second = low; value = λ bytes. Value.num high low }
-meaning_of (String place n) = record { number = 4; first = place; second = n; value = λ bytes. Value.str (part bytes place n) }
+meaning_of (String s) = record { number = 4; first = s.start; second = s.len; value = λ bytes. Value.str (part bytes s.start s.len) }
 
 -- the constant of a tree that it stands for
 abbrev pub value_of : List ℕ → Constant → Value
@@ -32,4 +32,4 @@ abbrev pub LiesIn : List ℕ → Constant → Type 0
 LiesIn bytes Nil = Unit {0}
 LiesIn bytes (Truth b) = Unit {0}
 LiesIn bytes (Num high low) = Unit {0}
-LiesIn bytes (String place n) = place + n ≤ length bytes
+LiesIn bytes (String s) = s.start + s.len ≤ length bytes

@@ -3,12 +3,11 @@
 // What the calls answer and leave in lent memory is defined in specs/. Beside the answers stand the limits, the width of sizes and the test of a chunk name, which the calls share.
 #![tactic(auto)]
 
-ghost use Rattle.std.specs.Prelude.{◌≡◌, ◌≤◌, []};
+ghost use Rattle.std.specs.Prelude.{◌≡◌, ◌≤◌, ◌^◌, ◌%◌, take, drop, List, ℕ};
 ghost use Rattle.format.specs.Read.{limit, width_of};
 ghost use Rattle.format.specs.Valid.{depth, most};
-ghost use Rattle.format.specs.Dump.{write_refused};
-ghost use Rattle.format.specs.Undump.{name_ok};
-ghost use Rattle.format.specs.Refusal.{number};
+ghost use Rattle.format.specs.Dump.{write_left, written_left, name_refusal};
+ghost use Rattle.format.specs.Refusal.{number, RefusedBy};
 
 // Why a call is refused: by the number that callers see.
 #[derive(Clone, Copy, Debug, PartialEq, Eq)]
@@ -58,25 +57,46 @@ pub struct Written {
     pub len: usize,
 }
 
-impl Written {
-    // A refused answer.
-    pub fn refused(e: Refusal) -> Written
-        ensures { result ≡ (write_refused (number e) []).answer }
-    {
-        Written {
-            refusal: e.number(),
-            len: 0,
+// What a call that writes answers: the bytes that it wrote, or why it is refused.
+impl From<Result<usize, Refusal>> for Written {
+    ghost from_gives = { λ r w. (out : List ℕ) → write_left w out ≡ written_left r out };
+
+    fn from(r: Result<usize, Refusal>) -> Written {
+        match r {
+            Ok(len) => Written { refusal: 0, len },
+            Err(e) => Written {
+                refusal: e.number(),
+                len: 0,
+            },
         }
     }
 }
 
-// A constant: a number by its halves, a string by its place and length in the bytes that hold it.
+// A part of a list, by its place and its length.
+#[derive(Clone, Copy, Default)]
+pub struct Span {
+    pub start: usize,
+    pub len: usize,
+}
+
+impl Span {
+    // The part, as far as the list goes.
+    pub fn of<T>(self, list: &[T]) -> &[T]
+        ensures { result.now ≡ take self.len (drop self.start list.now) }
+    {
+        let start = self.start.min(list.len());
+        let len = self.len.min(list.len() - start);
+        &list[start..start + len]
+    }
+}
+
+// A constant: a number by its halves, a string by where it stands in the bytes that hold it.
 #[derive(Clone, Copy)]
 pub enum Constant {
     Nil,
     Bool(bool),
     Num(u32, u32),
-    String(usize, usize),
+    String(Span),
 }
 
 // The most functions nested, the root being 1.
@@ -100,9 +120,20 @@ pub fn width(size_4: bool) -> usize
     if size_4 { 4 } else { 8 }
 }
 
-// Whether a chunk name is UTF-8 and not too long: refusal 1 where it is not.
-pub fn name_ok(name: &[u8]) -> bool
-    ensures { result ≡ name_ok name.now }
+// The low 32 bits of a number: any below 2^32 keeps its value. By the remainder, which takes no instruction; try_from would test.
+pub fn low(n: usize) -> u32
+    ensures { result ≡ n % 2 ^ 32 }
 {
-    utf8::is_utf8(name) && name.len() <= MOST
+    (n % 4294967296) as u32
+}
+
+// Whether a chunk name is UTF-8 and not too long: refused by 1.
+pub fn check_name(name: &[u8]) -> Result<(), Refusal>
+    ensures { RefusedBy (name_refusal name.now) result }
+{
+    if utf8::is_utf8(name) && name.len() <= MOST {
+        Ok(())
+    } else {
+        Err(Refusal::BadName)
+    }
 }

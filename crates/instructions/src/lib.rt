@@ -1,10 +1,10 @@
 // Instructions of Lua 5.1 and their opcodes, as lopcodes.h and lopcodes.c have them.
 #![tactic(auto)]
 
-ghost use Rattle.std.specs.Prelude.{◌≡◌, map, ◌+◌, ◌≤◌, ◌<◌};
+ghost use Rattle.std.specs.Prelude.{◌≡◌, [], ◌∷◌, map, ◌+◌, ◌≤◌, ◌<◌};
 ghost use Rattle.instructions.specs.Fields.{field, placed, GETARG_A, GETARG_B, GETARG_C, GETARG_Bx, GETARG_sBx};
 ghost use Rattle.instructions.specs.Fields.{CREATE_ABC, CREATE_ABx, CREATE_AsBx, ISK, INDEXK, RKASK};
-ghost use Rattle.instructions.specs.OpCodes.{Row, opcodes, opcode, or_move, op_modes, op_name, padded};
+ghost use Rattle.instructions.specs.OpCodes.{op_numbers, Row, opcodes, opcode, or_move, op_modes, op_name, padded};
 ghost use Rattle.instructions.specs.OpCodes.{is_jump, next_is_c, modes_of_byte, mode_of, arg_of};
 
 // Size and position of opcode arguments. From the low bit: the opcode, A, C, B; Bx is C and B together.
@@ -29,15 +29,9 @@ const POS_B: u32 = POS_C + SIZE_C;
 const POS_BX: u32 = POS_C;
 
 // Limits for opcode arguments. sBx is Bx less MAXARG_SBX.
-pub const MAXARG_SBX: i32 = 131071;
+pub const MAXARG_SBX: u32 = 131071;
 
 pub const MAXARG_A: u32 = 255;
-
-// How many values Bx has.
-const NUM_BX: u64 = 1 << SIZE_BX;
-
-// MAXARG_SBX and 2 ^ 31: added to any i32 it gives no less than 0, and the low 18 bits are those of MAXARG_SBX.
-const RAISED: i64 = MAXARG_SBX as i64 + (1 << 31);
 
 // The size bits of i that begin at bit from.
 fn field(i: u32, from: u32, size: u32) -> u32
@@ -99,7 +93,7 @@ impl Instruction {
     pub fn sbx(self) -> i32
         ensures { result ≡ GETARG_sBx self.0 }
     {
-        self.bx() as i32 - MAXARG_SBX
+        self.bx().cast_signed() - MAXARG_SBX.cast_signed()
     }
 
     // Whether the next word is no instruction, but this one's C: SETLIST, where C is 0.
@@ -132,12 +126,12 @@ impl Instruction {
         )
     }
 
-    // The instruction of an opcode, A and sBx. An sbx out of range wraps, as in a release build of the Rust.
+    // The instruction of an opcode, A and sBx. An sbx out of range wraps, as in a release build of the Rust; Bx takes the low bits of the sum, which
+    // are the same where it wraps.
     pub fn a_sbx(op: u8, a: u32, sbx: i32) -> Instruction
         ensures { result.0 ≡ CREATE_AsBx op a sbx }
     {
-        let raised = (i64::from(sbx) + RAISED) as u64;
-        Instruction::a_bx(op, a, (raised % NUM_BX) as u32)
+        Instruction::a_bx(op, a, sbx.cast_unsigned().wrapping_add(MAXARG_SBX))
     }
 }
 
@@ -250,6 +244,15 @@ pub const OP_VARARG: u8 = 37;
 
 pub const NUM_OPCODES: u8 = 38;
 
+// The opcodes' numbers are the definitions'.
+fn opcode_numbers()
+    ensures { op_numbers ≡ OP_MOVE ∷ OP_LOADK ∷ OP_LOADBOOL ∷ OP_LOADNIL ∷ OP_GETUPVAL ∷ OP_GETGLOBAL ∷ OP_GETTABLE ∷ OP_SETGLOBAL
+        ∷ OP_SETUPVAL ∷ OP_SETTABLE ∷ OP_NEWTABLE ∷ OP_SELF ∷ OP_ADD ∷ OP_SUB ∷ OP_MUL ∷ OP_DIV
+        ∷ OP_MOD ∷ OP_POW ∷ OP_UNM ∷ OP_NOT ∷ OP_LEN ∷ OP_CONCAT ∷ OP_JMP ∷ OP_EQ
+        ∷ OP_LT ∷ OP_LE ∷ OP_TEST ∷ OP_TESTSET ∷ OP_CALL ∷ OP_TAILCALL ∷ OP_RETURN ∷ OP_FORLOOP
+        ∷ OP_FORPREP ∷ OP_TFORLOOP ∷ OP_SETLIST ∷ OP_CLOSE ∷ OP_CLOSURE ∷ OP_VARARG ∷ [] }
+{}
+
 // A number that is no opcode's stands for MOVE.
 fn or_move(n: u8) -> u8
     ensures { result ≡ or_move n }
@@ -350,6 +353,7 @@ const OP_MODES: [u8; 38] = [
 ];
 
 // The table, with its rule. It is lent, so that a lookup copies no table.
+#[tactic(auto, unfolding(crate::specs::OpCodes::opcodes))]
 fn op_mode_bytes() -> &'static [u8; 38]
     ensures { map modes_of_byte result.now ≡ map (λ (o : Row). o.modes) opcodes }
 {
@@ -396,6 +400,7 @@ fn modes_of_byte(m: u8) -> OpModes
 }
 
 // The attributes of an opcode, MOVE's for a number that is no opcode's.
+#[tactic(auto, using(crate::proofs::Table::looked_up))]
 pub fn op_modes(op: u8) -> OpModes
     ensures { result ≡ op_modes op }
 {
@@ -404,50 +409,62 @@ pub fn op_modes(op: u8) -> OpModes
     modes_of_byte(table[n])
 }
 
-// The name of an opcode, padded with spaces, MOVE's for a number that is no opcode's.
+// The names by opcode number, padded with spaces.
+const OP_NAMES: [[u8; 9]; 38] = [
+    *b"MOVE     ",
+    *b"LOADK    ",
+    *b"LOADBOOL ",
+    *b"LOADNIL  ",
+    *b"GETUPVAL ",
+    *b"GETGLOBAL",
+    *b"GETTABLE ",
+    *b"SETGLOBAL",
+    *b"SETUPVAL ",
+    *b"SETTABLE ",
+    *b"NEWTABLE ",
+    *b"SELF     ",
+    *b"ADD      ",
+    *b"SUB      ",
+    *b"MUL      ",
+    *b"DIV      ",
+    *b"MOD      ",
+    *b"POW      ",
+    *b"UNM      ",
+    *b"NOT      ",
+    *b"LEN      ",
+    *b"CONCAT   ",
+    *b"JMP      ",
+    *b"EQ       ",
+    *b"LT       ",
+    *b"LE       ",
+    *b"TEST     ",
+    *b"TESTSET  ",
+    *b"CALL     ",
+    *b"TAILCALL ",
+    *b"RETURN   ",
+    *b"FORLOOP  ",
+    *b"FORPREP  ",
+    *b"TFORLOOP ",
+    *b"SETLIST  ",
+    *b"CLOSE    ",
+    *b"CLOSURE  ",
+    *b"VARARG   ",
+];
+
+// The table, with its rule. It is lent, as that of the attributes.
 #[tactic(auto, unfolding(crate::specs::OpCodes::opcodes))]
+fn op_names() -> &'static [[u8; 9]; 38]
+    ensures { result.now ≡ map (λ (o : Row). padded o.name) opcodes }
+{
+    &OP_NAMES
+}
+
+// The name of an opcode, padded with spaces, MOVE's for a number that is no opcode's.
+#[tactic(auto, using(crate::proofs::Table::listed))]
 pub fn name(op: u8) -> [u8; 9]
     ensures { result ≡ padded (op_name op) }
 {
-    match op {
-        OP_MOVE => *b"MOVE     ",
-        OP_LOADK => *b"LOADK    ",
-        OP_LOADBOOL => *b"LOADBOOL ",
-        OP_LOADNIL => *b"LOADNIL  ",
-        OP_GETUPVAL => *b"GETUPVAL ",
-        OP_GETGLOBAL => *b"GETGLOBAL",
-        OP_GETTABLE => *b"GETTABLE ",
-        OP_SETGLOBAL => *b"SETGLOBAL",
-        OP_SETUPVAL => *b"SETUPVAL ",
-        OP_SETTABLE => *b"SETTABLE ",
-        OP_NEWTABLE => *b"NEWTABLE ",
-        OP_SELF => *b"SELF     ",
-        OP_ADD => *b"ADD      ",
-        OP_SUB => *b"SUB      ",
-        OP_MUL => *b"MUL      ",
-        OP_DIV => *b"DIV      ",
-        OP_MOD => *b"MOD      ",
-        OP_POW => *b"POW      ",
-        OP_UNM => *b"UNM      ",
-        OP_NOT => *b"NOT      ",
-        OP_LEN => *b"LEN      ",
-        OP_CONCAT => *b"CONCAT   ",
-        OP_JMP => *b"JMP      ",
-        OP_EQ => *b"EQ       ",
-        OP_LT => *b"LT       ",
-        OP_LE => *b"LE       ",
-        OP_TEST => *b"TEST     ",
-        OP_TESTSET => *b"TESTSET  ",
-        OP_CALL => *b"CALL     ",
-        OP_TAILCALL => *b"TAILCALL ",
-        OP_RETURN => *b"RETURN   ",
-        OP_FORLOOP => *b"FORLOOP  ",
-        OP_FORPREP => *b"FORPREP  ",
-        OP_TFORLOOP => *b"TFORLOOP ",
-        OP_SETLIST => *b"SETLIST  ",
-        OP_CLOSE => *b"CLOSE    ",
-        OP_CLOSURE => *b"CLOSURE  ",
-        OP_VARARG => *b"VARARG   ",
-        _ => *b"MOVE     ",
-    }
+    let table = op_names();
+    let n = usize::from(or_move(op));
+    table[n]
 }

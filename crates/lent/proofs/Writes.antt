@@ -1,6 +1,6 @@
 -- Writing to lent memory: one write, and writes one after the other.
 use borrow.Rule.Slice.PartMut.{put_mid}
-use Rattle.lent.proofs.Prelude.{ℕ, suc, ◌+◌, ◌-◌, ◌≤◌, ◌<◌, min, ◌≡◌, refl, sym, ap, ◌∙◌, List, [], ◌∷◌, ◌++◌, arith, dec_le, add-zero, add-one, length, take, drop, set, length-append, length-take, length-drop, take-append-drop, sets, length-sets, set_out, set-set, set_comm, take-add, sets-eq, take_all, length-take-le, drop-drop, append_assoc}
+use Rattle.lent.proofs.Prelude.{ℕ, suc, ◌+◌, ◌-◌, ◌≤◌, ◌<◌, min, ◌≡◌, refl, sym, ap, ◌∙◌, List, [], ◌∷◌, ◌++◌, arith, dec_le, add-zero, length, take, drop, set, length-append, length-take, length-drop, take-append-drop, sets, length-sets, set_out, set-set, set_comm, take-add, sets-eq, take_all, length-take-le, drop-drop, append_assoc}
 use Rattle.lent.specs.Memory.{far, Puts}
 
 -- ---- items stored one after the other
@@ -15,9 +15,6 @@ sets_append [] l b i = rw add-zero
 sets_append (v ∷ a) l b i =
     let e : i + suc (length a) ≡ suc i + length a = omega arith in
     rw e (sets_append a (set l i v) b (suc i))
-
-pub sets_two : {A : Type 0} (l : List A) (i : ℕ) (a b : A) → set (set l i a) (i + 1) b ≡ sets l i (a ∷ b ∷ [])
-sets_two l i a b = rw add-one
 
 -- what is stored over no more items takes their place
 sets_over : {A : Type 0} (p q l : List A) (i : ℕ) → length p ≤ length q → sets (sets l i p) i q ≡ sets l i q

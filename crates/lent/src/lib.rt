@@ -74,17 +74,21 @@ pub fn put_all<T: Copy>(out: &mut [T], at: usize, s: &[T]) -> usize
 }
 
 // N items: where all fit, the room is tested once. Answers the next place.
+#[tactic(auto, using(crate::proofs::Writes::put_lost))]
 pub fn put_array<T: Copy, const N: usize>(out: &mut [T], at: usize, items: [T; N]) -> usize
     ensures { Puts items at out.old result out.new }
 {
-    if at < out.len() && N <= out.len() - at {
-        copy_part(out, at, &items);
-        return at + N;
+    if out.len() <= at {
+        return at.saturating_add(N);
     }
-    put_cut(out, at, items)
+    if out.len() - at < N {
+        return put_cut(out, at, items);
+    }
+    copy_part(out, at, &items);
+    at + N
 }
 
-// The same where they may not fit.
+// The same where not all fit.
 #[cold]
 fn put_cut<T: Copy, const N: usize>(out: &mut [T], at: usize, items: [T; N]) -> usize
     ensures { Puts items at out.old result out.new }

@@ -1,5 +1,6 @@
 -- The loop over the code of a function: the line of each instruction, with the child that a CLOSURE names.
-use Rattle.lent.proofs.Prelude.{ℕ, ◌+◌, ◌*◌, ◌≤◌, ◌<◌, min, ◌≡◌, ◌∙◌, cond, List, arith, length, drop, get_or, drop_of_length-le}
+use Rattle.lent.proofs.Prelude.{ℕ, ◌+◌, ◌*◌, ◌≤◌, ◌<◌, min, ◌≡◌, ◌∙◌, cond, arith, length, drop, get_or, drop_of_length-le}
+use Rattle.std.specs.Prelude.{Option as Answer}
 use Rattle.lent.specs.Memory.{far}
 use Rattle.lent.specs.Writer.{Writes}
 use Rattle.lent.specs.declared.Writer.{Writer}
@@ -12,47 +13,51 @@ use Rattle.proto.proofs.Items.{ints_count, ints_item}
 use Rattle.proto.specs.declared.lists.Lists.{Lists}
 use Rattle.listing_lines.specs.Line.{format_instruction}
 use Rattle.proto.specs.Lists.{ListsAt}
-use Rattle.proto.specs.Children.{ChildAt}
 use Rattle.listing_comments.specs.Shown.{ChildIs}
-use Rattle.proto.specs.declared.child.Child.{Child}
+use Rattle.proto.specs.declared.child.Children.{Children}
 use Rattle.listing.specs.Listing.{print_code, format_code}
 use Rattle.listing.specs.Closures.{ClosureChild}
 use Rattle.listing.proofs.PrintCode.{print_turn}
 
 -- a function's lists stand there
-pub record Owns (words text : List ℕ) (lists : Lists) (allowance number : ℕ) (p : Parts) (fs : Functions) : Type 0 where
-  pub at_lists : ListsAt words text lists p fs
+pub record Owns (lists : Lists) (allowance number : ℕ) (p : Parts) (fs : Functions) : Type 0 where
+  pub at_lists : ListsAt lists p fs
   pub valid : ValidAll fs allowance
   pub small : number + 1 + total_all fs ≤ far
 
--- before the instruction at pc: a child is kept, and the lines from here on are left
-pub record Codes (words text : List ℕ) (lists : Lists) (allowance number : ℕ) (kept : Child) (pc : ℕ) (w w₀ : Writer) : Type 0 where
-  pub keeps : ChildAt words lists.functions number allowance kept
-  pub left : (p : Parts) (fs : Functions) → Owns words text lists allowance number p fs → WritesLeft (print_code (format_instruction p fs number) pc (drop pc p.code)) w (format_code p fs number) w₀
+-- the functions in it
+abbrev pub children_of : Lists → ℕ → ℕ → Children
+children_of lists allowance number = record { words = lists.store.words; list = lists.functions; number = number; allowance = allowance }
 
-module _ {words text : List ℕ} {lists : Lists} {allowance number : ℕ} where
-  count_is : {n : ℕ} {p : Parts} {fs : Functions} → n ≡ get_or words lists.code 0 → Owns words text lists allowance number p fs → n ≡ length p.code
+-- before the instruction at pc: its functions are looked up, and the lines from here on are left
+pub record Codes (lists : Lists) (allowance number : ℕ) (of : Children) (pc : ℕ) (w w₀ : Writer) : Type 0 where
+  pub functions : of ≡ children_of lists allowance number
+  pub left : (p : Parts) (fs : Functions) → Owns lists allowance number p fs → WritesLeft (print_code (format_instruction p fs number) pc (drop pc p.code)) w (format_code p fs number) w₀
+
+module _ {lists : Lists} {allowance number : ℕ} where
+  count_is : {n : ℕ} {p : Parts} {fs : Functions} → n ≡ get_or lists.store.words.now lists.code 0 → Owns lists allowance number p fs → n ≡ length p.code
   count_is {p = p} e k = e ∙ ints_count p.code k.at_lists.code.stands
 
-  pub codes_turn : {kept kept' : Child} {n pc i r next : ℕ} {w w' w₀ : Writer} → n ≡ get_or words lists.code 0 → pc < n → Codes words text lists allowance number kept pc w w₀
-      → Skips words (1 + 1 * pc) lists.code r → i ≡ get_or words r 0 → ClosureChild words lists.functions number allowance i kept kept'
-      → ((p : Parts) (fs : Functions) (m : ℕ) → ListsAt words text lists p fs → ChildIs fs m (opcode i) i kept'.number → Writes (format_instruction p fs m pc i) w w')
-      → next ≡ cond (next_is_c i) (min (pc + 2) n) (pc + 1) → Codes words text lists allowance number kept' next w' w₀
-  codes_turn {n = n} {pc} {i} e h t s f c put g =
+  pub codes_turn : {of of' : Children} {child : Answer ℕ} {n pc i r next : ℕ} {w w' w₀ : Writer} → n ≡ get_or lists.store.words.now lists.code 0 → pc < n → Codes lists allowance number of pc w w₀
+      → Skips lists.store.words.now (1 + 1 * pc) lists.code r → i ≡ get_or lists.store.words.now r 0 → of' ≡ of → ClosureChild of i child
+      → ((p : Parts) (fs : Functions) (m : ℕ) → ListsAt lists p fs → ChildIs fs m (opcode i) i child → Writes (format_instruction p fs m pc i) w w')
+      → next ≡ cond (next_is_c i) (min (pc + 2) n) (pc + 1) → Codes lists allowance number of' next w' w₀
+  codes_turn {child = child} {n} {pc} {i} e h t s f same c put g =
+      let d : ClosureChild (children_of lists allowance number) i child = rw t.functions at c in
       record {
-        keeps = c.found t.keeps;
+        functions = same ∙ t.functions;
         left = λ p fs x.
             let l = p.code in
             let m : n ≡ length l = count_is e x in
             let q : i ≡ get_or l pc 0 = ints_item l (omega arith) x.at_lists.code.stands s f in
             left_put (format_instruction p fs number pc i) (print_turn (format_instruction p fs number) l m h q g) (t.left p fs x)
-            (put p fs number x.at_lists (c.is text fs x.at_lists.functions x.valid x.small t.keeps));
+            (put p fs number x.at_lists (d.is lists.store.text.now fs x.at_lists.functions x.valid x.small));
       }
 
-  pub codes_end : {kept : Child} {n pc : ℕ} {w w₀ : Writer} → n ≡ get_or words lists.code 0 → n ≤ pc → Codes words text lists allowance number kept pc w w₀
-      → (p : Parts) (fs : Functions) → ListsAt words text lists p fs → ValidAll fs allowance → number + 1 + total_all fs ≤ far → Writes (format_code p fs number) w₀ w
+  pub codes_end : {of : Children} {n pc : ℕ} {w w₀ : Writer} → n ≡ get_or lists.store.words.now lists.code 0 → n ≤ pc → Codes lists allowance number of pc w w₀
+      → (p : Parts) (fs : Functions) → ListsAt lists p fs → ValidAll fs allowance → number + 1 + total_all fs ≤ far → Writes (format_code p fs number) w₀ w
   unfolding print_code
   codes_end {pc = pc} e h t p fs l v s =
-      let x : Owns words text lists allowance number p fs = record { at_lists = l; valid = v; small = s } in
+      let x : Owns lists allowance number p fs = record { at_lists = l; valid = v; small = s } in
       let m = count_is e x in
       left_end (rw (drop_of_length-le p.code {i = pc} (omega arith))) (t.left p fs x)

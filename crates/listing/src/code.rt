@@ -13,29 +13,20 @@ ghost use Rattle.listing.specs.Closures.{ClosureChild};
 use instructions::{Instruction, OP_CLOSURE};
 use lent::Writer;
 use listing_lines::format_instruction;
-use proto::child::{Child, child_at, first_child};
+use proto::child::{ByIndex, Children};
 use proto::lists::Lists;
-use proto::store::Store;
 use proto::walk::{item_at, word_at};
 
-// The child that instruction i makes a closure of, from the last one looked up; that one if there is none.
-#[tactic(auto, using(crate::proofs::Closures::closure_found))]
-fn closure_child(
-    words: &[u32],
-    functions: usize,
-    number: usize,
-    kept: Child,
-    i: u32,
-    allowance: u32,
-) -> Child
-    ensures { ClosureChild words.now functions number allowance i kept result }
+// The number of the function that instruction i makes a closure of: none where it is no CLOSURE, or there is no such function.
+#[tactic(auto, using(crate::proofs::Closures::closure_none, crate::proofs::Closures::closure_past, crate::proofs::Closures::closure_found))]
+fn closure_child(functions: &mut ByIndex, i: u32) -> Option<usize>
+    ensures of { functions.new.of ≡ functions.old.of }
+    ensures number { ClosureChild functions.old.of i result }
 {
-    let bx = Instruction(i).bx();
-    if Instruction(i).opcode() == OP_CLOSURE && bx < word_at(words, functions) {
-        child_at(words, functions, number, kept, bx, allowance)
-    } else {
-        kept
+    if Instruction(i).opcode() != OP_CLOSURE {
+        return None;
     }
+    Some(functions.get(Instruction(i).bx())?.number)
 }
 
 // The pc behind the instruction i at pc, of n words, and behind the word that is its C.
@@ -50,18 +41,25 @@ fn pc_behind(n: u32, pc: u32, i: u32) -> u32
     }
 }
 
-// The code, a line for each instruction. The last child looked up is kept, so that children named in order cost one walk.
-pub fn format_code(w: &mut Writer, store: Store, lists: Lists, number: usize, allowance: u32)
-    ensures { (p : Parts) (fs : Functions) → ListsAt store.entry.words.now store.entry.text.now lists p fs → ValidAll fs allowance → number + 1 + total_all fs ≤ far → Writes (format_code p fs number) w.old w.new }
+// The code, a line for each instruction. The functions in it are looked up by index, so that those named in order cost one walk.
+pub fn format_code(w: &mut Writer, lists: Lists, number: usize, allowance: u32)
+    ensures { (p : Parts) (fs : Functions) → ListsAt lists.entry p fs → ValidAll fs allowance → number + 1 + total_all fs ≤ far → Writes (format_code p fs number) w.old w.new }
 {
-    let n = word_at(store.words, lists.code);
-    let mut kept = first_child(store.words, lists.functions, number);
+    let words = lists.store.words;
+    let n = word_at(words, lists.code);
+    let children = Children {
+        words,
+        list: lists.functions,
+        number,
+        allowance,
+    };
+    let mut functions = children.by_index();
     let mut pc = 0;
     // A turn passes one or two words, so pc is no counter.
     while pc < n {
-        let i = word_at(store.words, item_at(store.words, lists.code, 1, pc));
-        kept = closure_child(store.words, lists.functions, number, kept, i, allowance);
-        format_instruction(w, store, lists, kept.number, pc, i);
+        let i = word_at(words, item_at(words, lists.code, 1, pc));
+        let child = closure_child(&mut functions, i);
+        format_instruction(w, lists, child, pc, i);
         pc = pc_behind(n, pc, i);
     }
 }

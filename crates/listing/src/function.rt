@@ -13,9 +13,9 @@ use lent::Writer;
 use listing_headers::header::Header;
 use listing_headers::list::{Constants, Locals, Upvalues, put_list};
 use proto::head::head_at;
-use proto::lists::{Kept, Lists, lists_on_way};
+use proto::lists::{Kept, Lists};
 use proto::store::Store;
-use proto::walk::{Next, after_debug, functions_at, skip, word_at};
+use proto::walk::{Next, after_debug, first_in, functions_at, word_at};
 
 // A store to list, with the lists of a full listing or without.
 #[derive(Clone, Copy)]
@@ -30,12 +30,12 @@ impl<'a> Lister<'a> {
 
     // What a full listing adds.
     fn put_lists(self, w: &mut Writer, lists: Lists, number: usize)
-        ensures { (p : Parts) (fs : Functions) → ListsAt self.entry.store.words.now self.entry.store.text.now lists p fs → Writes (format_lists self.entry.full p number) w.old w.new }
+        ensures { (p : Parts) (fs : Functions) → ListsAt lists.entry p fs → Writes (format_lists self.entry.full p number) w.old w.new }
     {
         if self.full {
-            put_list::<Constants>(w, self.store, lists.constants, number);
-            put_list::<Locals>(w, self.store, lists.locals, number);
-            put_list::<Upvalues>(w, self.store, lists.upvalues, number);
+            put_list::<Constants>(w, lists.store, lists.constants, number);
+            put_list::<Locals>(w, lists.store, lists.locals, number);
+            put_list::<Upvalues>(w, lists.store, lists.upvalues, number);
         }
     }
 
@@ -52,20 +52,16 @@ impl<'a> Lister<'a> {
         ensures kept { LinesKept self.entry.store.words.now kept.new }
         ensures lists { (p : Parts) (fs : Functions) → ValidParts p → ValidAll fs allowance → StandsAt self.entry.store.words.now self.entry.store.text.now s.at (function_piece (Function.function p fs)) → s.number + 1 + total_all fs ≤ far → Writes (format_function p fs self.entry.full source.now s.number) w.old w.new }
     {
-        let words = self.store.words;
-        let lists = lists_on_way(words, s.at, allowance, kept);
-        let header = Header {
-            words,
-            head: head_at(words, s.at),
-            lists,
-        };
-        header.put(w, source, s.number);
-        format_code(w, self.store, lists, s.number, allowance);
+        let lists = self.store.lists_on_way(s.at, allowance, kept);
+        let head = head_at(self.store.words, s.at);
+        Header { head, lists }.put(w, source, s.number);
+        format_code(w, lists, s.number, allowance);
         self.put_lists(w, lists, s.number);
     }
 
     // The function at s, and those in it, with so many nested at most. Answers what is behind it. outer is the source that an inherited one
     // stands for.
+    #[tactic(auto, using(proto::proofs::Walks::none_deep))]
     pub fn list(
         self,
         w: &mut Writer,
@@ -86,10 +82,7 @@ impl<'a> Lister<'a> {
         self.put_function(w, kept, source, s, allowance - 1);
         let list = functions_at(words, s.at);
         let n = word_at(words, list);
-        let mut r = Next {
-            at: skip(words, list, 1),
-            number: s.number.saturating_add(1),
-        };
+        let mut r = first_in(words, list, s.number);
         for _i in 0..n {
             w.put_byte(b'\n');
             r = self.list(w, kept, source, r, allowance - 1);

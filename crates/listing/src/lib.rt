@@ -8,10 +8,10 @@ ghost use Rattle.std.specs.Prelude.{◌≡◌};
 ghost use Rattle.lent.specs.Memory.{Puts};
 ghost use Rattle.format.specs.Tree.{Function};
 ghost use Rattle.format.specs.Valid.{Holds};
-ghost use Rattle.format.specs.Dump.{write_left};
+ghost use Rattle.format.specs.Dump.{write_left, written_left};
 ghost use Rattle.listing.specs.Listing.{list_function, listed};
 
-use format::{DEPTH, Refusal, Written, name_ok};
+use format::{DEPTH, Refusal, Written, check_name};
 use function::Lister;
 use lent::Writer;
 use proto::store::Store;
@@ -29,7 +29,27 @@ fn list_root<'a>(store: Store<'a>, name: &'a [u8], full: bool, out: &mut [u8]) -
     w.at
 }
 
-// Writes the listing of a store to lent memory: once with no space, to count, then, where all fits, to write. Refused by 1, 10, 11.
+// Writes the listing of the tree that a store holds: once with no space, to count, then, where all fits, to write. Refused by 1, 10, 11.
+#[tactic(auto, using(proto::proofs::Calls::refused_name, proto::proofs::Calls::refused_store), unfolding(crate::specs::Listing::listed))]
+fn list_store<'a>(
+    store: Store<'a>,
+    name: &'a [u8],
+    full: bool,
+    out: &mut [u8],
+) -> Result<usize, Refusal>
+    ensures { written_left result out.new ≡ listed store.entry.words.now store.entry.text.now name.now full out.old }
+{
+    check_name(name)?;
+    store.check_held()?;
+    let len = list_root(store, name, full, &mut []);
+    if out.len() < len {
+        return Err(Refusal::TooLittleOutput);
+    }
+    list_root(store, name, full, out);
+    Ok(len)
+}
+
+// Writes the listing of a store to lent memory. Refused by 1, 10, 11.
 pub fn list_function<'a>(
     words: &[u32],
     text: &'a [u8],
@@ -39,17 +59,5 @@ pub fn list_function<'a>(
 ) -> Written
     ensures { write_left result out.new ≡ listed words.now text.now name.now full out.old }
 {
-    let store = Store { words, text };
-    if !name_ok(name) {
-        return Written::refused(Refusal::BadName);
-    }
-    if !store.is_held() {
-        return Written::refused(Refusal::BadStore);
-    }
-    let len = list_root(store, name, full, &mut []);
-    if out.len() < len {
-        return Written::refused(Refusal::TooLittleOutput);
-    }
-    list_root(store, name, full, out);
-    Written { refusal: 0, len }
+    Written::from(list_store(Store { words, text }, name, full, out))
 }

@@ -1,7 +1,7 @@
 // The comment of an instruction. Each call writes its text by a writer; what is past the end is not written.
 #![tactic(auto)]
 
-ghost use Rattle.std.specs.Prelude.{ℕ, ◌≡◌, ◌||◌, ltb, get_or, List, ◌++◌};
+ghost use Rattle.std.specs.Prelude.{ℕ, ◌≡◌, ◌||◌, ltb, get_or, ◌++◌};
 ghost use Rattle.lent.specs.Writer.{Writes};
 ghost use Rattle.digits.specs.Digits.{decimal};
 ghost use Rattle.format.specs.Tree.{Parts, Functions};
@@ -13,7 +13,7 @@ ghost use Rattle.listing_operands.specs.Operands.{constant_text, format_constant
 ghost use Rattle.listing_comments.specs.Comment.{address, comment, when, upvalue_text, operand_constant, jump_target, format_set_list, format_comment, operand_ops};
 ghost use Rattle.listing_operands.specs.Shown.{Shows};
 ghost use Rattle.proto.specs.Lists.{ListsAt};
-ghost use Rattle.listing_comments.specs.Shown.{ChildIs};
+ghost use Rattle.listing_comments.specs.Shown.{ChildIs, closure_text};
 
 use digits::text::put_decimal;
 use instructions::{
@@ -25,8 +25,7 @@ use lent::Writer;
 use listing_operands::constant::format_constant;
 use listing_operands::operand::put_difference;
 use proto::lists::Lists;
-use proto::store::Store;
-use proto::walk::{ints_at, item_at, word_at};
+use proto::walk::{ints_at, nth_at, word_at};
 
 // A number in base 10.
 pub fn put_u32(w: &mut Writer, n: u32)
@@ -36,6 +35,7 @@ pub fn put_u32(w: &mut Writer, n: u32)
 }
 
 // The number of a function, for its address.
+#[tactic(auto, using(lent::proofs::Writers::writes_first))]
 pub fn put_address(w: &mut Writer, n: usize)
     ensures { Writes (address n) w.old w.new }
 {
@@ -50,55 +50,54 @@ fn put_comment(w: &mut Writer)
     w.put_bytes(b"\t; ");
 }
 
-// A constant; a global's name as it is, so RAW. The store and the place of its constants are no struct: each call passes them on once.
-fn comment_constant<const RAW: bool>(w: &mut Writer, store: Store, constants: usize, idx: u32)
-    ensures { Shows store.entry.words.now store.entry.text.now constants (list constant_piece) (λ l. comment (constant_text RAW (item l idx))) w.old w.new }
+// A constant; a global's name as it is, so RAW.
+fn comment_constant<const RAW: bool>(w: &mut Writer, lists: Lists, idx: u32)
+    ensures { Shows lists.entry.store lists.entry.constants (list constant_piece) (λ l. comment (constant_text RAW (item l idx))) w.old w.new }
 {
     put_comment(w);
-    format_constant::<RAW>(w, store, constants, idx);
+    format_constant::<RAW>(w, lists, idx);
 }
 
 // The name of an upvalue, - where there is none.
-fn comment_upvalue(w: &mut Writer, store: Store, upvalues: usize, b: u32)
-    ensures { Shows store.entry.words.now store.entry.text.now upvalues (list string) (λ l. comment (upvalue_text (item l b))) w.old w.new }
+fn comment_upvalue(w: &mut Writer, lists: Lists, b: u32)
+    ensures { Shows lists.entry.store lists.entry.upvalues (list string) (λ l. comment (upvalue_text (item l b))) w.old w.new }
 {
     put_comment(w);
-    if word_at(store.words, upvalues) <= b {
-        w.put_byte(b'-');
-        return;
+    match nth_at(lists.store.words, lists.upvalues, 2, b) {
+        None => w.put_byte(b'-'),
+        Some(name) => w.put_bytes(lists.store.string_at(name)),
     }
-    w.put_bytes(store.string_at(item_at(store.words, upvalues, 2, b)));
 }
 
 // The key of a table, where it is a constant.
-fn comment_key(w: &mut Writer, store: Store, constants: usize, c: u32)
-    ensures { Shows store.entry.words.now store.entry.text.now constants (list constant_piece) (λ l. when (ISK c) (comment (format_constant l (INDEXK c)))) w.old w.new }
+fn comment_key(w: &mut Writer, lists: Lists, c: u32)
+    ensures { Shows lists.entry.store lists.entry.constants (list constant_piece) (λ l. when (ISK c) (comment (format_constant l (INDEXK c)))) w.old w.new }
 {
     if is_k(c) {
-        comment_constant::<false>(w, store, constants, index_k(c));
+        comment_constant::<false>(w, lists, index_k(c));
     }
 }
 
 // The constant of an operand, - for a register.
-fn operand_constant(w: &mut Writer, store: Store, constants: usize, x: u32)
-    ensures { Shows store.entry.words.now store.entry.text.now constants (list constant_piece) (λ l. operand_constant l x) w.old w.new }
+fn operand_constant(w: &mut Writer, lists: Lists, x: u32)
+    ensures { Shows lists.entry.store lists.entry.constants (list constant_piece) (λ l. operand_constant l x) w.old w.new }
 {
     if is_k(x) {
-        format_constant::<false>(w, store, constants, index_k(x));
+        format_constant::<false>(w, lists, index_k(x));
     } else {
         w.put_byte(b'-');
     }
 }
 
 // Two operands, where one is a constant.
-fn comment_operands(w: &mut Writer, store: Store, constants: usize, b: u32, c: u32)
-    ensures { Shows store.entry.words.now store.entry.text.now constants (list constant_piece) (λ l. when (ISK b || ISK c) (comment (operand_constant l b ++ ascii " " ++ operand_constant l c))) w.old w.new }
+fn comment_operands(w: &mut Writer, lists: Lists, b: u32, c: u32)
+    ensures { Shows lists.entry.store lists.entry.constants (list constant_piece) (λ l. when (ISK b || ISK c) (comment (operand_constant l b ++ ascii " " ++ operand_constant l c))) w.old w.new }
 {
     if is_k(b) || is_k(c) {
         put_comment(w);
-        operand_constant(w, store, constants, b);
+        operand_constant(w, lists, b);
         w.put_byte(b' ');
-        operand_constant(w, store, constants, c);
+        operand_constant(w, lists, c);
     }
 }
 
@@ -109,16 +108,19 @@ fn comment_jump(w: &mut Writer, pc: u32, i: u32)
     put_comment(w);
     w.put_bytes(b"to ");
     let to = u64::from(Instruction(i).bx()) + u64::from(pc) + 2;
-    put_difference(w, to, MAXARG_SBX as u64);
+    put_difference(w, to, u64::from(MAXARG_SBX));
 }
 
-// The number of the function that a CLOSURE makes.
-fn comment_closure(w: &mut Writer, words: &[u32], functions: usize, bx: u32, child: usize)
-    ensures { Writes (when (ltb bx (get_or words.now functions 0)) (comment (address child))) w.old w.new }
+// The number of the function that a CLOSURE makes, where there is such a function; where there is none, whatever child says.
+fn comment_closure(w: &mut Writer, lists: Lists, bx: u32, child: Option<usize>)
+    ensures { Writes (when (ltb bx (get_or lists.entry.store.words.now lists.entry.functions 0)) (closure_text child)) w.old w.new }
 {
-    if bx < word_at(words, functions) {
+    if word_at(lists.store.words, lists.functions) <= bx {
+        return;
+    }
+    if let Some(n) = child {
         put_comment(w);
-        put_address(w, child);
+        put_address(w, n);
     }
 }
 
@@ -131,6 +133,7 @@ fn comment_vararg(w: &mut Writer)
 }
 
 // The number of items that a SETLIST sets.
+#[tactic(auto, using(crate::proofs::Comments::comment_put))]
 fn comment_items(w: &mut Writer, n: u32)
     ensures { Writes (comment (decimal n)) w.old w.new }
 {
@@ -139,12 +142,12 @@ fn comment_items(w: &mut Writer, n: u32)
 }
 
 // That is C, or else the word behind the instruction, where there is one.
-fn comment_set_list(w: &mut Writer, words: &[u32], code: usize, pc: u32, c: u32)
-    ensures { (t : List ℕ) → Shows words.now t code ints (λ l. format_set_list l pc c) w.old w.new }
+fn comment_set_list(w: &mut Writer, lists: Lists, pc: u32, c: u32)
+    ensures { Shows lists.entry.store lists.entry.code ints (λ l. format_set_list l pc c) w.old w.new }
 {
     if c != 0 {
         comment_items(w, c);
-    } else if let Some(&n) = ints_at(words, code).get(pc as usize + 1) {
+    } else if let Some(&n) = ints_at(lists.store.words, lists.code).get(pc as usize + 1) {
         comment_items(w, n);
     }
 }
@@ -159,30 +162,22 @@ fn has_operands(op: u8) -> bool
     )
 }
 
-// The comment of the instruction at pc. child is the number of the function that a CLOSURE makes.
-pub fn format_comment(
-    w: &mut Writer,
-    store: Store,
-    lists: Lists,
-    child: usize,
-    pc: u32,
-    op: u8,
-    i: u32,
-)
-    ensures { (p : Parts) (fs : Functions) (number : ℕ) → ListsAt store.entry.words.now store.entry.text.now lists p fs → ChildIs fs number op i child → Writes (format_comment op p fs number pc i) w.old w.new }
+// The comment of the instruction at pc. child is the number of the function that a CLOSURE makes, where there is one.
+pub fn format_comment(w: &mut Writer, lists: Lists, child: Option<usize>, pc: u32, op: u8, i: u32)
+    ensures { (p : Parts) (fs : Functions) (number : ℕ) → ListsAt lists.entry p fs → ChildIs fs number op i child → Writes (format_comment op p fs number pc i) w.old w.new }
 {
     let b = Instruction(i).b();
     let c = Instruction(i).c();
     let bx = Instruction(i).bx();
     match op {
-        OP_LOADK => comment_constant::<false>(w, store, lists.constants, bx),
-        OP_GETUPVAL | OP_SETUPVAL => comment_upvalue(w, store, lists.upvalues, b),
-        OP_GETGLOBAL | OP_SETGLOBAL => comment_constant::<true>(w, store, lists.constants, bx),
-        OP_GETTABLE | OP_SELF => comment_key(w, store, lists.constants, c),
-        OP_CLOSURE => comment_closure(w, store.words, lists.functions, bx, child),
-        OP_SETLIST => comment_set_list(w, store.words, lists.code, pc, c),
+        OP_LOADK => comment_constant::<false>(w, lists, bx),
+        OP_GETUPVAL | OP_SETUPVAL => comment_upvalue(w, lists, b),
+        OP_GETGLOBAL | OP_SETGLOBAL => comment_constant::<true>(w, lists, bx),
+        OP_GETTABLE | OP_SELF => comment_key(w, lists, c),
+        OP_CLOSURE => comment_closure(w, lists, bx, child),
+        OP_SETLIST => comment_set_list(w, lists, pc, c),
         OP_VARARG => comment_vararg(w),
-        _ if has_operands(op) => comment_operands(w, store, lists.constants, b, c),
+        _ if has_operands(op) => comment_operands(w, lists, b, c),
         _ if is_jump(op) => comment_jump(w, pc, i),
         _ => {}
     }

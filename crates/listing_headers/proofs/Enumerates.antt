@@ -4,7 +4,9 @@ use Rattle.lent.specs.Writer.{Writes}
 use Rattle.lent.specs.declared.Writer.{Writer}
 use Rattle.lent.proofs.Writers.{WritesLeft, left_put, left_end, writes_then}
 use Rattle.format.specs.Store.{Piece, list}
-use Rattle.proto.specs.Walk.{item, Skips, StandsAt}
+use Rattle.proto.specs.Walk.{item, Skips}
+use Rattle.proto.specs.Lists.{StandsIn}
+use Rattle.proto.specs.declared.store.Store.{Store}
 use Rattle.proto.proofs.Items.{list_count, list_item}
 use Rattle.listing_operands.specs.Shown.{Shows}
 use Rattle.listing_headers.specs.Tables.{enumerated, title, format_list}
@@ -22,13 +24,13 @@ item_at (a ∷ l) zero h = record { value = a; is = refl; behind = refl }
 item_at (a ∷ l) (suc i) h = let x = item_at l i (omega arith) in record { value = x.value; is = x.is; behind = x.behind }
 
 -- before item i of whatever list stands there, the loop having begun at w₀
-pub record EnumeratesList {A : Type 0} (words text : List ℕ) (place : ℕ) (piece : A → Piece) (say : ℕ → A → List ℕ) (i : ℕ) (w w₀ : Writer) : Type 0 where
-  pub left : (l : List A) → StandsAt words text place (list piece l) → WritesLeft (enumerated say i (drop i l)) w (enumerated say 0 l) w₀
+pub record EnumeratesList {A : Type 0} (store : Store) (place : ℕ) (piece : A → Piece) (say : ℕ → A → List ℕ) (i : ℕ) (w w₀ : Writer) : Type 0 where
+  pub left : (l : List A) → StandsIn store place (list piece l) → WritesLeft (enumerated say i (drop i l)) w (enumerated say 0 l) w₀
 
-module _ {A : Type 0} {words text : List ℕ} {place : ℕ} {piece : A → Piece} {say : ℕ → A → List ℕ} {w w₀ : Writer} where
+module _ {A : Type 0} {store : Store} {place : ℕ} {piece : A → Piece} {say : ℕ → A → List ℕ} {w w₀ : Writer} where
   -- item i stands k words behind the one before it
-  pub list_turn : {i n k r : ℕ} {w' : Writer} → EnumeratesList words text place piece say i w w₀ → Shows words text r piece (say i) w w' → Skips words (1 + k * i) place r → ((a : A) (to : ℕ) → length ((piece a).words to) ≡ k)
-      → n ≡ get_or words place 0 → i < n → EnumeratesList words text place piece say (i + 1) w' w₀
+  pub list_turn : {i n k r : ℕ} {w' : Writer} → EnumeratesList store place piece say i w w₀ → Shows store r piece (say i) w w' → Skips store.words.now (1 + k * i) place r → ((a : A) (to : ℕ) → length ((piece a).words to) ≡ k)
+      → n ≡ get_or store.words.now place 0 → i < n → EnumeratesList store place piece say (i + 1) w' w₀
   unfolding enumerated
   list_turn {i} {k = k} t p s wide e h =
       record {
@@ -40,8 +42,8 @@ module _ {A : Type 0} {words text : List ℕ} {place : ℕ} {piece : A → Piece
       }
 
   -- behind a title
-  pub list_end : {i n : ℕ} {start : Writer} (what : List ℕ) (number : ℕ) → EnumeratesList words text place piece say i w w₀ → Writes (title what n number) start w₀ → n ≡ get_or words place 0 → n ≤ i
-      → Shows words text place (list piece) (λ l. format_list what say l number) start w
+  pub list_end : {i n : ℕ} {start : Writer} (what : List ℕ) (number : ℕ) → EnumeratesList store place piece say i w w₀ → Writes (title what n number) start w₀ → n ≡ get_or store.words.now place 0 → n ≤ i
+      → Shows store place (list piece) (λ l. format_list what say l number) start w
   unfolding enumerated
   list_end {i} {n} what number t p e h =
       record {

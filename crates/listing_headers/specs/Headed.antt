@@ -1,12 +1,11 @@
 -- Whose header it is.
-use Rattle.std.specs.Prelude.{ℕ, ◌≡◌, List}
+use Rattle.std.specs.Prelude.{◌≡◌}
 use Rattle.format.specs.Tree.{Parts, Functions}
 use Rattle.proto.specs.Head.{head_of}
 use Rattle.proto.specs.Lists.{ListsAt}
 use Rattle.listing_headers.specs.declared.header.Header.{Header}
 
--- the function's: its numbers, and where its lists stand
+-- the function's: its numbers, and its lists
 pub record HeaderOf (h : Header) (p : Parts) (fs : Functions) : Type 0 where
-  pub text : List ℕ
   pub head : h.head ≡ head_of p
-  pub lists : ListsAt h.words.now text h.lists p fs
+  pub lists : ListsAt h.lists p fs

@@ -107,12 +107,11 @@ fn put_params(w: &mut Writer, n: u32, bits: u32)
     put_noun(w, b" param", n);
 }
 
-// What the header of a function is made of: its numbers, and where its lists stand in the words.
+// What the header of a function is made of: its numbers and its lists.
 #[derive(Clone, Copy)]
 pub struct Header<'a> {
-    pub words: &'a [u32],
     pub head: Head,
-    pub lists: Lists,
+    pub lists: Lists<'a>,
 }
 
 impl Header<'_> {
@@ -127,19 +126,20 @@ impl Header<'_> {
             self.head.line_defined,
             self.head.last_line_defined,
         );
-        put_code_size(w, word_at(self.words, self.lists.code), number);
+        put_code_size(w, word_at(self.lists.store.words, self.lists.code), number);
     }
 
     // Line two.
     fn put_counts(self, w: &mut Writer)
         ensures { (p : Parts) (fs : Functions) → HeaderOf self.entry p fs → Writes (header_counts p fs) w.old w.new }
     {
+        let words = self.lists.store.words;
         put_params(w, self.head.num_params, self.head.is_vararg);
         put_and_amount(w, self.head.max_stack_size, b" slot");
         put_and_amount(w, self.head.num_upvalues, b" upvalue");
-        put_and_amount(w, word_at(self.words, self.lists.locals), b" local");
-        put_and_amount(w, word_at(self.words, self.lists.constants), b" constant");
-        put_and_amount(w, word_at(self.words, self.lists.functions), b" function");
+        put_and_amount(w, word_at(words, self.lists.locals), b" local");
+        put_and_amount(w, word_at(words, self.lists.constants), b" constant");
+        put_and_amount(w, word_at(words, self.lists.functions), b" function");
         w.put_byte(b'\n');
     }
 

@@ -16,8 +16,8 @@ use proto::constant::constant_at;
 use proto::store::Store;
 use proto::walk::{item_at, skip, word_at};
 
-// What a list of a full listing holds: items that stand as pieces of SIZE words, and a line for each. Other crates have
-// an Item too: each says what its own walk does with an item.
+// What a list of a full listing holds: items that stand as pieces of SIZE words, and a line for each. proto and dump have an Item of their own, and
+// no trait above one of proto's: a ghost member's type cannot name a member of a supertrait (only a law's can), and line is of Value.
 pub trait Item {
     ghost Value: { Type 0 };
 
@@ -37,7 +37,7 @@ pub trait Item {
 
     // The line of item i, which stands at a place.
     fn put_line(w: &mut Writer, store: Store, place: usize, i: u32)
-        ensures { Shows store.entry.words.now store.entry.text.now place piece (line i) w.old w.new };
+        ensures { Shows store.entry place piece (line i) w.old w.new };
 
     ghost size: { (v : Value) (to : ℕ) → length ((piece v).words to) ≡ SIZE };
 }
@@ -154,7 +154,7 @@ fn put_raised(w: &mut Writer, pc: u32)
 
 // A list: its title, and a line for each item.
 pub fn put_list<T: Item>(w: &mut Writer, store: Store, place: usize, number: usize)
-    ensures { Shows store.entry.words.now store.entry.text.now place (list T.piece) (λ l. format_list T.noun T.line l number) w.old w.new }
+    ensures { Shows store.entry place (list T.piece) (λ l. format_list T.noun T.line l number) w.old w.new }
 {
     let n = word_at(store.words, place);
     put_title(w, T::noun(), n, number);

@@ -2,7 +2,7 @@
 use Rattle.std.specs.Prelude.{ℕ}
 use Rattle.std.proofs.Math.Option.{Option}
 use Rattle.std.specs.declared.option.Option as rust
-use Rattle.listing_operands.specs.Shown.{read}
+use Rattle.proto.specs.Constants.{read}
 
 abbrev pub line_of : rust.Option ℕ → Option ℕ
 line_of line = read (λ n. n) line

@@ -7,12 +7,12 @@ ghost use Rattle.digits.specs.Room.{PutsWithin};
 ghost use Rattle.lent.specs.Writer.{Writes};
 ghost use Rattle.format.specs.Tree.{Parts, Functions};
 ghost use Rattle.format.specs.Store.{ints};
-ghost use Rattle.proto.specs.Walk.{item, StandsAt};
+ghost use Rattle.proto.specs.Walk.{item};
 ghost use Rattle.instructions.specs.OpCodes.{opcode, op_name, padded};
 ghost use Rattle.listing_operands.specs.Fit.{room, Fits};
 ghost use Rattle.listing_lines.specs.Line.{index, format_line, start_of, format_instruction};
 ghost use Rattle.listing_lines.specs.Shown.{line_of};
-ghost use Rattle.proto.specs.Lists.{ListsAt};
+ghost use Rattle.proto.specs.Lists.{StandsIn, ListsAt};
 ghost use Rattle.listing_comments.specs.Shown.{ChildIs};
 
 use digits::text::put_decimal;
@@ -22,10 +22,10 @@ use listing_comments::format_comment;
 use listing_operands::fit::{fit_byte, fit_decimal};
 use listing_operands::operand::fit_operands;
 use proto::lists::Lists;
-use proto::store::Store;
 use proto::walk::ints_at;
 
 // A tab, an index and a tab.
+#[tactic(auto, using(lent::proofs::Writers::writes_first, lent::proofs::Writers::writes_then))]
 pub fn put_index(w: &mut Writer, n: u64)
     ensures { Writes (index n) w.old w.new }
 {
@@ -35,10 +35,12 @@ pub fn put_index(w: &mut Writer, n: u64)
 }
 
 // The line of the instruction at pc, where it is known.
-fn line_at(words: &[u32], lines: usize, pc: u32) -> Option<u32>
-    ensures { (t : List ℕ) (l : List ℕ) → StandsAt words.now t lines (ints l) → line_of result ≡ item l pc }
+fn line_at(lists: Lists, pc: u32) -> Option<u32>
+    ensures { (l : List ℕ) → StandsIn lists.entry.store lists.entry.lines (ints l) → line_of result ≡ item l pc }
 {
-    ints_at(words, lines).get(pc as usize).copied()
+    ints_at(lists.store.words, lists.lines)
+        .get(pc as usize)
+        .copied()
 }
 
 // A line, which fits.
@@ -98,7 +100,7 @@ fn fit_start<const STORED: bool>(
 }
 
 // What stands in front of the comment. Past the end it is only counted.
-#[tactic(auto, unfolding(listing_operands::specs::Fit::room))]
+#[tactic(auto, using(lent::proofs::Writes::put_lost, digits::proofs::Rooms::fit_written, listing_operands::proofs::Fits::counted_length), unfolding(listing_operands::specs::Fit::room))]
 fn format_start(w: &mut Writer, line: Option<u32>, op: u8, n: u32, i: u32)
     ensures { Writes (start_of (line_of line) op n i) w.old w.new }
 {
@@ -115,14 +117,14 @@ fn format_start(w: &mut Writer, line: Option<u32>, op: u8, n: u32, i: u32)
     }
 }
 
-// The line of instruction i at pc. child is the number of the function that a CLOSURE makes.
-pub fn format_instruction(w: &mut Writer, store: Store, lists: Lists, child: usize, pc: u32, i: u32)
+// The line of instruction i at pc. child is the number of the function that a CLOSURE makes, where there is one.
+pub fn format_instruction(w: &mut Writer, lists: Lists, child: Option<usize>, pc: u32, i: u32)
     requires { pc < 2 ^ 32 - 1 }
-    ensures { (p : Parts) (fs : Functions) (number : ℕ) → ListsAt store.entry.words.now store.entry.text.now lists p fs → ChildIs fs number (opcode i) i child → Writes (format_instruction p fs number pc i) w.old w.new }
+    ensures { (p : Parts) (fs : Functions) (number : ℕ) → ListsAt lists.entry p fs → ChildIs fs number (opcode i) i child → Writes (format_instruction p fs number pc i) w.old w.new }
 {
     let op = Instruction(i).opcode();
-    let line = line_at(store.words, lists.lines, pc);
+    let line = line_at(lists, pc);
     format_start(w, line, op, pc + 1, i);
-    format_comment(w, store, lists, child, pc, op, i);
+    format_comment(w, lists, child, pc, op, i);
     w.put_byte(b'\n');
 }

@@ -1,5 +1,5 @@
 -- Laws of what the calls promise: texts one after the other, under a test, and of an item of a list.
-use Rattle.lent.proofs.Prelude.{ℕ, zero, suc, ◌+◌, ◌*◌, ◌≤◌, ◌<◌, ◌≡◌, sym, ap, ◌∙◌, List, [], ◌∷◌, ◌++◌, Option, none, some, arith, length, get_or, ltb, ltb-true}
+use Rattle.lent.proofs.Prelude.{ℕ, zero, suc, ◌<◌, ◌≡◌, sym, ap, List, [], ◌∷◌, ◌++◌, Option, some, arith, length, get_or, ltb, ltb-true}
 use Rattle.std.proofs.Common.{Bor, is_some, IfSome, ltb-false}
 use Rattle.std.specs.Option.{option_copied}
 use Rattle.std.specs.declared.option.Option as rust
@@ -11,9 +11,12 @@ use Rattle.format.specs.Tree.{Constant as Value}
 use Rattle.format.specs.Store.{Piece, string, list, ints, constant_piece}
 use Rattle.format.specs.declared.Constant.{Constant}
 use Rattle.format.specs.Constants.{value_of}
-use Rattle.proto.specs.Walk.{Stands, item, Skips, StandsAt}
-use Rattle.proto.proofs.Items.{item_past, item_there, list_count, list_item}
-use Rattle.listing_operands.specs.Shown.{Shows, read}
+use Rattle.proto.specs.Walk.{Stands, item}
+use Rattle.proto.specs.Constants.{read}
+use Rattle.proto.specs.Lists.{StandsIn}
+use Rattle.proto.specs.declared.store.Store.{Store}
+use Rattle.proto.proofs.Items.{item_past}
+use Rattle.listing_operands.specs.Shown.{Shows}
 
 -- ---- item i of a list
 
@@ -29,45 +32,33 @@ pub got_copied : (l : List ℕ) (i : ℕ) (o : rust.Option (Bor ℕ)) → is_som
 got_copied l i None e h = sym (item_past l i (ltb-false i (length l) (sym e)))
 got_copied l i (Some x) e h = sym (got_some l i (ltb-true i (length l) (sym e)) h)
 
--- whose count is n
-module _ {A : Type 0} {words text : List ℕ} {place n i : ℕ} (piece : A → Piece) (l : List A) (e : n ≡ get_or words place 0) (s : StandsAt words text place (list piece l)) where
-  pub past_none : n ≤ i → none ≡ item l i
-  past_none h = let k : length l ≤ i = omega (arith, list_count piece l s.stands) in sym (item_past l i k)
-
-  -- its k words are x's
-  pub there_some : (k : ℕ) → ((a : A) (to : ℕ) → length ((piece a).words to) ≡ k) → {r : ℕ} {x : A} → i < n → Skips words (1 + k * i) place r → ((a : A) → StandsAt words text r (piece a) → x ≡ a) → some x ≡ item l i
-  there_some k wide h q f =
-      let g : i < length l = omega (arith, list_count piece l s.stands) in
-      let y = item_there l i g in
-      ap some (f y.value (list_item piece k wide l i y.value y.is s.stands q)) ∙ sym y.is
-
-module _ {A : Type 0} {words text : List ℕ} {place : ℕ} {w w' : Writer} where
+module _ {A : Type 0} {store : Store} {place : ℕ} {w w' : Writer} where
   module _ {piece : A → Piece} where
     -- ---- one after the other, and under a test
 
-    pub shows_put : {t : List ℕ} → Writes t w w' → Shows words text place piece (λ a. t) w w'
+    pub shows_put : {t : List ℕ} → Writes t w w' → Shows store place piece (λ a. t) w w'
     shows_put p = record { shows = λ a h. p }
 
-    pub shows_then : {say more : A → List ℕ} {w'' : Writer} → Shows words text place piece say w w' → Shows words text place piece more w' w'' → Shows words text place piece (λ a. say a ++ more a) w w''
+    pub shows_then : {say more : A → List ℕ} {w'' : Writer} → Shows store place piece say w w' → Shows store place piece more w' w'' → Shows store place piece (λ a. say a ++ more a) w w''
     shows_then s t = record { shows = λ a h. writes_then (s.shows a h) (t.shows a h) }
 
-    pub shows_is : {say more : A → List ℕ} → Shows words text place piece more w w' → ((a : A) → say a ≡ more a) → Shows words text place piece say w w'
+    pub shows_is : {say more : A → List ℕ} → Shows store place piece more w w' → ((a : A) → say a ≡ more a) → Shows store place piece say w w'
     shows_is s e = record { shows = λ a h. rw (e a) (s.shows a h) }
 
   -- ---- item i of a list, which is x
 
-  pub shows_of : (piece : A → Piece) (say : Option A → List ℕ) (i : ℕ) (x : Option A) → ((l : List A) → StandsAt words text place (list piece l) → x ≡ item l i) → Writes (say x) w w' → Shows words text place (list piece) (λ l. say (item l i)) w w'
+  pub shows_of : (piece : A → Piece) (say : Option A → List ℕ) (i : ℕ) (x : Option A) → ((l : List A) → StandsIn store place (list piece l) → x ≡ item l i) → Writes (say x) w w' → Shows store place (list piece) (λ l. say (item l i)) w w'
   shows_of piece say i x e p = record { shows = λ l s. rw (e l s) at p }
 
-module _ {words text : List ℕ} {place : ℕ} {w w' : Writer} where
+module _ {store : Store} {place : ℕ} {w w' : Writer} where
   -- the words of a list that stands at a place
-  pub shows_ints : {r : List ℕ} {say : List ℕ → List ℕ} → ((l t : List ℕ) (to : ℕ) → Stands words t place to (ints l) → r ≡ l) → Writes (say r) w w' → Shows words text place ints say w w'
-  shows_ints e p = record { shows = λ l s. rw (e l text s.to s.stands) at p }
+  pub shows_ints : {r : List ℕ} {say : List ℕ → List ℕ} → ((l t : List ℕ) (to : ℕ) → Stands store.words.now t place to (ints l) → r ≡ l) → Writes (say r) w w' → Shows store place ints say w w'
+  shows_ints e p = record { shows = λ l s. rw (e l store.text.now s.to s.stands) at p }
 
   -- the constant that stands at a place
-  pub constant_shown : (k : Constant) (say : Value → List ℕ) → ((v : Value) (t : List ℕ) (to : ℕ) → Stands words t place to (constant_piece v) → value_of t k ≡ v) → Writes (say (value_of text k)) w w' → (v : Value) → StandsAt words text place (constant_piece v) → Writes (say v) w w'
-  constant_shown k say e p v s = rw (e v text s.to s.stands) at p
+  pub constant_shown : (k : Constant) (say : Value → List ℕ) → ((v : Value) (t : List ℕ) (to : ℕ) → Stands store.words.now t place to (constant_piece v) → value_of t k ≡ v) → Writes (say (value_of store.text.now k)) w w' → Shows store place constant_piece say w w'
+  constant_shown k say e p = record { shows = λ v s. rw (e v store.text.now s.to s.stands) at p }
 
   -- the string that stands at a place
-  pub string_shown : {r : List ℕ} (say : List ℕ → List ℕ) → ((s : List ℕ) (to : ℕ) → Stands words text place to (string s) → r ≡ s) → Writes (say r) w w' → (s : List ℕ) → StandsAt words text place (string s) → Writes (say s) w w'
-  string_shown {r} say e p s x = rw (e s x.to x.stands) at p
+  pub string_shown : {r : List ℕ} (say : List ℕ → List ℕ) → ((s : List ℕ) (to : ℕ) → Stands store.words.now store.text.now place to (string s) → r ≡ s) → Writes (say r) w w' → Shows store place string say w w'
+  string_shown say e p = record { shows = λ s x. rw (e s x.to x.stands) at p }

@@ -1,4 +1,4 @@
-// The operands of an instruction, which goes as its word: the definitions speak of the word.
+// The operands of an instruction, which goes as its word: the definitions speak of the word. Those that fit go over (out, at), as fit.rt says.
 ghost use Rattle.std.specs.Prelude.{◌+◌, ◌≤◌};
 ghost use Rattle.lent.specs.Writer.{Writes};
 ghost use Rattle.instructions.specs.Fields.{GETARG_Bx};
@@ -104,11 +104,11 @@ fn fit_asbx<const STORED: bool>(op: u8, i: u32, out: &mut [u8], at: usize) -> us
 {
     let bx = Instruction(i).bx();
     if op == instructions::OP_JMP {
-        return fit_difference::<STORED>(bx, MAXARG_SBX as u32, out, at);
+        return fit_difference::<STORED>(bx, MAXARG_SBX, out, at);
     }
     let a = fit_decimal::<STORED>(out, at, Instruction(i).a());
     let b = fit_byte::<STORED>(out, a, b' ');
-    fit_difference::<STORED>(bx, MAXARG_SBX as u32, out, b)
+    fit_difference::<STORED>(bx, MAXARG_SBX, out, b)
 }
 
 // The operands of an instruction, which fit.

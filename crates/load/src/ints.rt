@@ -11,6 +11,7 @@ use format::Refusal;
 use load_state::cursor::four_at;
 
 // n integers, which fit, go from the chunk to the words.
+#[tactic(auto, using(crate::proofs::Fours::fill_more), unfolding(crate::specs::Loads::fours))]
 fn fill(chunk: &[u8], from: usize, n: usize, words: &mut [u32], at: usize)
     requires { (4 * n ≤ length chunk.now - from) × (n ≤ length words.old - at) }
     ensures { words.new ≡ sets words.old at (fours chunk.now from n) }
@@ -21,6 +22,7 @@ fn fill(chunk: &[u8], from: usize, n: usize, words: &mut [u32], at: usize)
 }
 
 // n integers go from the chunk to the words, as many as there is room for. Answers the next place.
+#[tactic(auto, using(crate::proofs::Fours::ints_stored))]
 fn put_ints(chunk: &[u8], from: usize, n: usize, words: &mut [u32], at: usize) -> usize
     requires { 4 * n ≤ length chunk.now - from }
     ensures { Puts (fours chunk.now from n) at words.old result words.new }

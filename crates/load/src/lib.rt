@@ -6,14 +6,13 @@ pub mod ints;
 
 ghost use Rattle.std.specs.Prelude.{◌≡◌, [], ◌∷◌, ◌<◌};
 ghost use Rattle.utf8.specs.Utf8.{repair};
-ghost use Rattle.lent.specs.Writer.{Writes};
 ghost use Rattle.format.specs.Read.{load_byte, load_int, load_count, load_string, load_text};
 ghost use Rattle.format.specs.Store.{plain, string, ◌⊕◌};
 ghost use Rattle.format.specs.Store.{word as word_piece};
 ghost use Rattle.load.specs.Loads.{space, Does, PutsText, Stores, Loads, LoadsBy, repaired_name, repaired_source_piece};
 
 use cursor::{load_count, load_string, load_text};
-use format::Refusal;
+use format::{Refusal, low};
 use lent::Writer;
 use load_state::LoadState;
 
@@ -30,25 +29,6 @@ pub struct Loader<'a> {
     pub text_at: usize,
 }
 
-// A number as a word: any below 2^32 keeps its value. By the remainder, which takes no instruction; try_from would test.
-fn word(n: usize) -> u32
-    ensures { n < 4294967296 → result ≡ n }
-{
-    (n % 4294967296) as u32
-}
-
-// Bytes are written, repaired. ASCII is copied here, without a call: measured, 7 % of both calls on real programs.
-#[tactic(auto, using(utf8::proofs::Ascii::repair_ascii))]
-fn put_repaired(w: &mut Writer, bytes: &[u8])
-    ensures { Writes (repair bytes.now) w.old w.new }
-{
-    if utf8::is_ascii(bytes) {
-        w.put_bytes(bytes);
-    } else {
-        utf8::put_repaired(w, bytes);
-    }
-}
-
 impl<'a> Loader<'a> {
     // Bytes go to the text, repaired.
     fn put_repaired(&mut self, bytes: &[u8])
@@ -59,7 +39,7 @@ impl<'a> Loader<'a> {
             out,
             at: self.text_at,
         };
-        put_repaired(&mut w, bytes);
+        utf8::put_repaired(&mut w, bytes);
         self.text_at = w.at;
     }
 
@@ -84,7 +64,7 @@ impl<'a> Loader<'a> {
         let start = self.text_at;
         self.put_repaired(bytes);
         let len = self.text_at.saturating_sub(start);
-        self.words_at = lent::put_array(self.words, self.words_at, [word(start), word(len)]);
+        self.words_at = lent::put_array(self.words, self.words_at, [low(start), low(len)]);
     }
 
     // A source of a function's own: 1 before what stands of a name.
@@ -102,7 +82,7 @@ impl<'a> Loader<'a> {
         let start = self.text_at;
         self.text_at = lent::put_all(self.text, start, bytes);
         let len = self.text_at.saturating_sub(start);
-        self.words_at = lent::put_array(self.words, self.words_at, [4, word(start), word(len)]);
+        self.words_at = lent::put_array(self.words, self.words_at, [4, low(start), low(len)]);
     }
 
     // A name goes from the chunk to lent memory.
@@ -111,9 +91,7 @@ impl<'a> Loader<'a> {
     {
         let z = load_text(self.reader, self.size_4)?;
         self.reader.pos = z.next;
-        let chunk = self.reader.chunk;
-        let end = z.value.start + z.value.len;
-        self.put_name(&chunk[z.value.start..end]);
+        self.put_name(z.value.of(self.reader.chunk));
         Ok(())
     }
 
@@ -125,11 +103,7 @@ impl<'a> Loader<'a> {
         self.reader.pos = z.next;
         match z.value {
             None => self.put3(0, 0, 0),
-            Some(s) => {
-                let chunk = self.reader.chunk;
-                let end = s.start + s.len;
-                self.put_source(&chunk[s.start..end]);
-            }
+            Some(s) => self.put_source(s.of(self.reader.chunk)),
         }
         Ok(())
     }

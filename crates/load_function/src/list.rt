@@ -6,7 +6,7 @@ ghost use Rattle.format.specs.Read.{Reader, load_text, load_local, load_constant
 ghost use Rattle.format.specs.Read.{load_list as list_reader};
 ghost use Rattle.format.specs.Store.{Piece, constant_piece};
 ghost use Rattle.format.specs.Store.{list as list_piece};
-ghost use Rattle.format.specs.Constants.{value_of, LiesIn};
+ghost use Rattle.format.specs.Constants.{value_of};
 ghost use Rattle.load.specs.Loads.{Stores, Loads, repaired_name};
 ghost use Rattle.load_function.specs.Repaired.{repaired_local_piece};
 
@@ -42,18 +42,13 @@ pub struct Pool;
 
 // A constant that was read goes to the store.
 fn put_constant(s: &mut Loader, k: Constant)
-    requires { LiesIn s.old.reader.chunk.now k }
     ensures { Stores (constant_piece (value_of s.old.reader.chunk.now k)) s.old s.new }
 {
     match k {
         Constant::Nil => s.put3(0, 0, 0),
         Constant::Bool(b) => s.put3(1, u32::from(b), 0),
         Constant::Num(high, low) => s.put3(3, high, low),
-        Constant::String(start, len) => {
-            let chunk = s.reader.chunk;
-            let end = start + len;
-            s.put_str(&chunk[start..end]);
-        }
+        Constant::String(z) => s.put_str(z.of(s.reader.chunk)),
     }
 }
 
@@ -67,7 +62,7 @@ impl Item for Pool {
     fn load(s: &mut Loader) -> Result<(), Refusal> {
         let z = load_constant(s.reader, s.size_4)?;
         s.reader.pos = z.next;
-        put_constant(s, z.constant);
+        put_constant(s, z.value);
         Ok(())
     }
 }

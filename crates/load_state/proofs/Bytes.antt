@@ -3,7 +3,7 @@ use Rattle.std.specs.Prelude.{Ok}
 use Rattle.lent.proofs.Prelude.{refl, ℕ, ◌+◌, ◌*◌, ◌-◌, ◌≤◌, ◌<◌, ◌≡◌, sym, ◌∙◌, List, ◌∷◌, arith, add-zero, length, take, drop, get_or, length-drop, drop-drop, le-leb, lt-leb}
 use Rattle.lent.proofs.Lists.{drop_more}
 use Rattle.format.specs.Read.{got, refused, load_byte, load_block, load_number, load_int, little_endian}
-use Rattle.load_state.specs.ReadAt.{four_at, ReadAt}
+use Rattle.load_state.specs.ReadAt.{four_at, ReadAt, HalvesAt}
 
 pub byte_got : (bs : List ℕ) (at : ℕ) → at < length bs → load_byte (drop at bs) ≡ got (get_or bs at 0) (drop (at + 1) bs)
 byte_got bs at h = rw (drop_more bs at h)
@@ -60,3 +60,8 @@ module _ {bs : List ℕ} {at v : ℕ} where
 
   pub size_taken : 8 ≤ length bs - at → v ≡ four_at bs at + 4294967296 * four_at bs (at + 4) → ReadAt bs (load_number 8) at (Ok (record { value = v; next = at + 8 }))
   size_taken h e = record { ends = rw (number_got 8 bs at h) (refl, sym (e ∙ eight_is bs at h)) }
+
+  pub number_taken : {u : ℕ} → 8 ≤ length bs - at → v ≡ four_at bs at → u ≡ four_at bs (at + 4) → HalvesAt bs at (Ok (record { value = (v, u); next = at + 8 }))
+  number_taken h e f =
+      let n : at + 4 + 4 ≡ at + 8 = omega arith in
+      record { ends = rw (int_got bs at (omega arith), int_got bs (at + 4) (omega arith), n) (refl, rw (e, f)) }

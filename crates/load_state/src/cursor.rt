@@ -1,7 +1,7 @@
 // What stands at a place of the chunk: a byte, a 4-byte integer, a size; refused by 2 where too few bytes are left.
 ghost use Rattle.std.specs.Prelude.{◌≡◌, ◌+◌, ◌≤◌, length};
 ghost use Rattle.format.specs.Read.{load_byte, load_number, load_int};
-ghost use Rattle.load_state.specs.ReadAt.{four_at, ReadAt};
+ghost use Rattle.load_state.specs.ReadAt.{four_at, ReadAt, HalvesAt};
 
 use format::Refusal;
 
@@ -42,6 +42,20 @@ pub fn int_at(chunk: &[u8], at: usize) -> Result<Got<u32>, Refusal>
     Ok(Got {
         value: four_at(chunk, at),
         next: at + 4,
+    })
+}
+
+// The number at a place, of eight bytes: its low half, then its high half. One test for both.
+#[tactic(auto, using(crate::proofs::Bytes::number_taken))]
+pub fn number_at(chunk: &[u8], at: usize) -> Result<Got<(u32, u32)>, Refusal>
+    ensures { HalvesAt chunk.now at result }
+{
+    if chunk.len().saturating_sub(at) < 8 {
+        return Err(Refusal::Truncated);
+    }
+    Ok(Got {
+        value: (four_at(chunk, at), four_at(chunk, at + 4)),
+        next: at + 8,
     })
 }
 

@@ -4,9 +4,9 @@
 pub mod cursor;
 
 ghost use Rattle.format.specs.Read.{load_byte, load_number, load_int};
-ghost use Rattle.load_state.specs.ReadAt.{ReadAt};
+ghost use Rattle.load_state.specs.ReadAt.{ReadAt, HalvesAt};
 
-use cursor::{Got, byte_at, int_at, size_at};
+use cursor::{Got, byte_at, int_at, number_at, size_at};
 use format::Refusal;
 
 // The chunk, and the place of the next byte.
@@ -33,5 +33,11 @@ impl<'a> LoadState<'a> {
         ensures { ReadAt self.entry.chunk.now (load_number 8) self.entry.pos result }
     {
         size_at(self.chunk, self.pos)
+    }
+
+    pub fn load_number(self) -> Result<Got<(u32, u32)>, Refusal>
+        ensures { HalvesAt self.entry.chunk.now self.entry.pos result }
+    {
+        number_at(self.chunk, self.pos)
     }
 }

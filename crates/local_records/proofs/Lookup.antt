@@ -1,6 +1,6 @@
 -- The lookup: where the locals stand, what their records lead to, and what the call leaves.
 use Rattle.std.specs.Prelude.{Option, Result, Ok, Err}
-use Rattle.lent.proofs.Prelude.{ℕ, ◌+◌, ◌*◌, ◌≤◌, ◌<◌, ◌%◌, ◌^◌, min, ◌≡◌, refl, sym, ap, ◌∙◌, List, [], ◌∷◌, ◌++◌, Bool, true, false, cond, arith, length, take, drop, length-take-le, get_or, leb, eq-eqb, ne_eqb, le-leb, lt-leb, leb-true}
+use Rattle.lent.proofs.Prelude.{ℕ, ◌+◌, ◌*◌, ◌/◌, ◌≤◌, ◌<◌, ◌%◌, ◌^◌, min, ◌≡◌, refl, sym, ap, ◌∙◌, List, [], ◌∷◌, ◌++◌, Bool, true, false, cond, arith, length, take, drop, length-take-le, length-drop, get_or, leb, eq-eqb, ne_eqb, le-leb, lt-leb, leb-true}
 use Rattle.lent.specs.Memory.{far, Puts}
 use Rattle.format.specs.Tree.{Local, Parts, Function, Functions}
 use Rattle.format.specs.Store.{word, ◌⊕◌, string, pieces, list, ints, local_piece, function_piece}
@@ -8,6 +8,7 @@ use Rattle.format.specs.Stored.{part}
 use Rattle.format.specs.Undump.{over}
 use Rattle.format.specs.Refusal.{number}
 use Rattle.format.specs.declared.Refusal.{Refusal}
+use Rattle.format.specs.declared.Span.{Span}
 use Rattle.format.specs.Dump.{write_refused}
 use Rattle.format.specs.Valid.{depth, ValidAll}
 use Rattle.format.proofs.Stored.{here_left, here_part}
@@ -31,8 +32,8 @@ use Rattle.debug_info.specs.declared.list.Seen.{Seen}
 use Rattle.debug_info.specs.declared.list.Seen.TheVariants.{Nothing, Found, Left}
 use Rattle.debug_info.specs.Seen.{look, after}
 use Rattle.debug_info.proofs.Lists.{active_step}
-use Rattle.local_records.specs.declared.Locals.{Locals}
 use Rattle.local_records.specs.Records.{record_at, records_at, records_filled, look_at, unnamed, text_named, active_in}
+use Rattle.local_records.proofs.Records.{records_part}
 use Rattle.local_records.specs.Lookup.{locals_of, locals_at, LookupLeft, lookup_left, with_records, local_named_in, no_locals, locals_for}
 
 -- ---- what the records of locals lead to
@@ -80,8 +81,8 @@ module _ {words text : List ℕ} {place : ℕ} where
       record { behind = rw (e, (locals_steady p fs).steady to 0); stand = somewhere (locals_stand p fs h w) }
 
   module _ (o : On words text place) where
-    pub walked_from : {s : Lists} → ((p : Parts) (fs : Functions) → ValidAll fs depth → ListsFound words place p fs s) → LocalsFrom words text place o.function.function s.locals
-    walked_from {s} w = of_function o (λ f. LocalsFrom words text place f s.locals) (λ p fs u v h. locals_from p fs h.stands (w p fs v).locals)
+    pub walked_from : {s : Lists} → s.store.words.now ≡ words → ((p : Parts) (fs : Functions) → ValidAll fs depth → ListsFound place p fs s) → LocalsFrom words text place o.function.function s.locals
+    walked_from {s} e w = of_function o (λ f. LocalsFrom words text place f s.locals) (λ p fs u v h. locals_from p fs h.stands (rw e at (w p fs v).locals))
 
     pub locals_there : LocalsFrom words text place o.function.function (to_list place o.function.function)
     locals_there = of_function o (λ f. LocalsFrom words text place f (to_list place f)) (λ p fs u v h. locals_from p fs h.stands (record { past = λ to g. ap (λ (k : ℕ). place + k) ((locals_steady p fs).steady 0 to) }))
@@ -97,22 +98,22 @@ module _ {words text : List ℕ} {place : ℕ} where
 -- ---- before the records are filled
 
 module _ (words text : List ℕ) (place n pc records space : ℕ) where
-  abbrev choose : Function → Result Locals ℕ
+  abbrev choose : Function → Result Span ℕ
   choose f =
       cond (leb (length (locals_of f)) records)
-      (cond (leb (length (active_local (locals_of f) n pc).name) space) (Ok (record { at = locals_at place f; count = length (locals_of f) })) (no_locals 11)) (no_locals 8)
+      (cond (leb (length (active_local (locals_of f) n pc).name) space) (Ok (record { start = locals_at place f; len = 4 * length (locals_of f) })) (no_locals 11)) (no_locals 8)
 
   -- the place is refused
   pub for_refused : (e : Refusal) → number e ≡ place_refusal words text place → no_locals (number e) ≡ locals_for words text place n pc records space
   unfolding locals_for
   for_refused e h = place_refused no_locals choose words text place e h
 
-  module _ (z : 0 ≡ place_refusal words text place) (lists : Lists) {m : ℕ} (w : (p : Parts) (fs : Functions) → ValidAll fs depth → ListsFound words place p fs lists) (c : m ≡ get_or words lists.locals 0) where
+  module _ (z : 0 ≡ place_refusal words text place) (lists : Lists) {m : ℕ} (q : lists.store.words.now ≡ words) (w : (p : Parts) (fs : Functions) → ValidAll fs depth → ListsFound place p fs lists) (c : m ≡ get_or words lists.locals 0) where
     abbrev o : On words text place
     o = place_on words text place (sym z)
 
     from : LocalsFrom words text place o.function.function lists.locals
-    from = walked_from o w
+    from = walked_from o q w
 
     counted : m ≡ length (locals_of o.function.function)
     counted = c ∙ list_count local_piece (locals_of o.function.function) from.stand.stands
@@ -137,7 +138,7 @@ module _ (words text : List ℕ) (place n pc records space : ℕ) where
           let q = lt-leb (length (active_local (locals_of o.function.function) n pc).name) space (omega (arith, name_len)) in
           sym (chosen ∙ rw (le-leb (length (locals_of o.function.function)) records (omega (arith, counted)), q))
 
-      pub for_0 : {at : ℕ} → x ≤ space → Skips words 1 lists.locals at → Ok (record { at = at; count = m }) ≡ locals_for words text place n pc records space
+      pub for_0 : {at : ℕ} → x ≤ space → Skips words 1 lists.locals at → Ok (record { start = at; len = 4 * m }) ≡ locals_for words text place n pc records space
       for_0 {at} l j =
           let q = le-leb (length (active_local (locals_of o.function.function) n pc).name) space (omega (arith, name_len)) in
           let d : at ≡ locals_at place o.function.function = j.skips (length (locals_of o.function.function) ∷ []) refl (here_left (length (locals_of o.function.function) ∷ []) _ from.stand.stands.in_words) ∙ from.behind in
@@ -164,18 +165,18 @@ module _ (rs : List LocalRecord) (words text : List ℕ) (place n pc : ℕ) (out
       (λ m k h. let d : number r ≡ m = cc in rw (d, ne_eqb m 0 (λ z. omega arith)))
       (λ o. by o.function.function (leb (length (locals_of o.function.function)) (length rs)) (leb (length (get_local_name (locals_of o.function.function) n pc).name) (length out)))
     where
-      by : (f : Function) (a b : Bool) → Err (number r) ≡ cond a (cond b (Ok (record { at = locals_at place f; count = length (locals_of f) })) (no_locals 11)) (no_locals 8) → lookup_left (record { refusal = number r; kind = 0; len = 0 }) rs out
+      by : (f : Function) (a b : Bool) → Err (number r) ≡ cond a (cond b (Ok (record { start = locals_at place f; len = 4 * length (locals_of f) })) (no_locals 11)) (no_locals 8) → lookup_left (record { refusal = number r; kind = 0; len = 0 }) rs out
           ≡ cond a (with_records rs (records_filled rs words (locals_at place f) (length (locals_of f))) (named_by (get_local_name (locals_of f) n pc).kind (cond b (record { answer = record { refusal = 0; len = length (get_local_name (locals_of f) n pc).name }; out = over (get_local_name (locals_of f) n pc).name out }) (write_refused 11 out))))
           (with_records rs rs (name_refused out 8))
       by f true true h = absurd (cc)
       by f true false h = let d : number r ≡ 11 = cc in rw d
       by f false b h = let d : number r ≡ 8 = cc in rw d
 
-  module _ (v : Locals) (e : Ok v ≡ locals_for words text place n (pc % 2 ^ 32) (length rs) (length out)) where
+  module _ (v : Span) (e : Ok v ≡ locals_for words text place n (pc % 2 ^ 32) (length rs) (length out)) where
     -- what is known where the call is not refused
     pub record Ready : Type 0 where
       pub on : On words text place
-      pub is : v ≡ record { at = locals_at place on.function.function; count = length (locals_of on.function.function) }
+      pub is : v ≡ record { start = locals_at place on.function.function; len = 4 * length (locals_of on.function.function) }
       pub enough : length (locals_of on.function.function) ≤ length rs
       pub fits : length (get_local_name (locals_of on.function.function) n pc).name ≤ length out
 
@@ -187,7 +188,7 @@ module _ (rs : List LocalRecord) (words text : List ℕ) (place n pc : ℕ) (out
         (λ o. by o (leb (length (locals_of o.function.function)) (length rs)) (leb (length (get_local_name (locals_of o.function.function) n pc).name) (length out)) refl refl) e
       where
         by : (o : On words text place) (a b : Bool) → leb (length (locals_of o.function.function)) (length rs) ≡ a → leb (length (get_local_name (locals_of o.function.function) n pc).name) (length out) ≡ b
-            → Ok v ≡ cond a (cond b (Ok (record { at = locals_at place o.function.function; count = length (locals_of o.function.function) })) (no_locals 11)) (no_locals 8) → Ready
+            → Ok v ≡ cond a (cond b (Ok (record { start = locals_at place o.function.function; len = 4 * length (locals_of o.function.function) })) (no_locals 11)) (no_locals 8) → Ready
         by o true true p q d = record { on = o; is = cc; enough = leb-true _ _ p; fits = leb-true _ _ q }
         by o true false p q d = absurd (cc)
         by o false b p q d = absurd (cc)
@@ -198,39 +199,55 @@ module _ (rs : List LocalRecord) (words text : List ℕ) (place n pc : ℕ) (out
     abbrev f : Function
     f = y.on.function.function
 
-    at_is : v.at ≡ locals_at place f
-    at_is = ap (λ (x : Locals). x.at) y.is
+    start_is : v.start ≡ locals_at place f
+    start_is = ap (λ (x : Span). x.start) y.is
 
-    count_is : v.count ≡ length (locals_of f)
-    count_is = ap (λ (x : Locals). x.count) y.is
+    -- their words
+    module _ {locals : List ℕ} (t : locals ≡ take v.len (drop v.start words)) where
+      within : v.start + 4 * length (locals_of f) ≤ length words
+      within =
+          let x = locals_there y.on in
+          let k = pieces_words local_piece 4 (λ a to. refl) (locals_of f) (x.stand.to + 0) in
+          let h = here_length _ x.stand.stands.in_words in
+          omega (arith, start_is, x.behind, k, h)
 
-    pub count_enough : v.count ≤ length rs
-    count_enough = omega (arith, count_is, y.enough)
+      long : length locals ≡ 4 * length (locals_of f)
+      long =
+          let m : v.len ≡ 4 * length (locals_of f) = ap (λ (x : Span). x.len) y.is in
+          ap length t ∙ length-take-le v.len (drop v.start words) (omega (arith, length-drop v.start words, m, within)) ∙ m
 
-    pub count_taken : v.count ≡ length (take v.count rs)
-    count_taken = sym (length-take-le v.count rs count_enough)
+      count_is : length locals / 4 ≡ length (locals_of f)
+      count_is = omega (arith, long)
 
-    pub words_enough : v.at + 4 * length (take v.count rs) ≤ length words
-    words_enough =
-        let x = locals_there y.on in
-        let k = pieces_words local_piece 4 (λ a to. refl) (locals_of f) (x.stand.to + 0) in
-        let h = here_length _ x.stand.stands.in_words in
-        omega (arith, at_is, count_is, count_taken, x.behind, k, h)
+      pub count_enough : length locals / 4 ≤ length rs
+      count_enough = omega (arith, count_is, y.enough)
 
-    -- the records are filled, searched, and the name is given
-    pub in_answered : {filled : List LocalRecord} {k : Option Known} {r : Named} {out' : List ℕ} → filled ≡ records_at words v.at (length (take v.count rs)) → k ≡ active_in filled n (pc % 2 ^ 32) → name_left r out' ≡ named (object_of text k) out
-        → lookup_left r (filled ++ drop v.count rs) out' ≡ local_named_in rs words text place n pc out
-    unfolding get_local_name
-    in_answered {filled} {k} {r} {out'} a b g =
-        let t : filled ≡ records_at words v.at v.count = a ∙ ap (records_at words v.at) (sym count_taken) in
-        let F = records_filled rs words (locals_at place f) (length (locals_of f)) in
-        let l : object_of text k ≡ get_local_name (locals_of f) n pc = ap (object_of text) (b ∙ ap (λ (u : List LocalRecord). active_in u n (pc % 2 ^ 32)) t) ∙ locals_lead y.on n (pc % 2 ^ 32) at_is count_is in
-        let w : name_left r out' ≡ named (get_local_name (locals_of f) n pc) out = g ∙ ap (λ (o : Object). named o out) l in
-        let z : r.refusal ≡ 0 = ap (λ (u : NameLeft). u.answer.refusal) w ∙ rw (le-leb (length (get_local_name (locals_of f) n pc).name) (length out) y.fits) in
-        let d : filled ++ drop v.count rs ≡ F = ap (λ (u : List LocalRecord). u ++ drop v.count rs) t ∙ ap (λ (u : ℕ). records_filled rs words u v.count) at_is ∙ ap (records_filled rs words (locals_at place f)) count_is in
-        rw d (ap (λ (b : Bool). lookup_left r (cond b F rs) out') (sym (eq-eqb r.refusal 0 z)))
-        ∙ ap (with_records rs F) w
-        ∙ sym (left_by y.on ∙ rw (le-leb (length (locals_of f)) (length rs) y.enough))
+      pub count_taken : length locals / 4 ≡ length (take (length locals / 4) rs)
+      count_taken = sym (length-take-le (length locals / 4) rs count_enough)
+
+      pub words_enough : 4 * length (take (length locals / 4) rs) ≤ length locals
+      words_enough = omega (arith, long, count_is, count_taken)
+
+      records_are : records_at locals 0 (length (take (length locals / 4) rs)) ≡ records_at words (locals_at place f) (length (locals_of f))
+      records_are =
+          let z : v.start + 0 ≡ locals_at place f = omega (arith, start_is) in
+          let m : v.len ≡ 4 * length (locals_of f) = ap (λ (x : Span). x.len) y.is in
+          ap (records_at locals 0) (sym count_taken ∙ count_is) ∙ rw t (records_part words v.start v.len 0 (length (locals_of f)) (omega (arith, m)) ∙ ap (λ (u : ℕ). records_at words u (length (locals_of f))) z)
+
+      -- the records are filled, searched, and the name is given
+      pub in_answered : {filled : List LocalRecord} {k : Option Known} {r : Named} {out' : List ℕ} → filled ≡ records_at locals 0 (length (take (length locals / 4) rs)) → k ≡ active_in filled n (pc % 2 ^ 32) → name_left r out' ≡ named (object_of text k) out
+          → lookup_left r (filled ++ drop (length locals / 4) rs) out' ≡ local_named_in rs words text place n pc out
+      unfolding get_local_name
+      in_answered {filled} {k} {r} {out'} a b g =
+          let q : filled ≡ records_at words (locals_at place f) (length (locals_of f)) = a ∙ records_are in
+          let F = records_filled rs words (locals_at place f) (length (locals_of f)) in
+          let l : object_of text k ≡ get_local_name (locals_of f) n pc = ap (object_of text) (b ∙ ap (λ (u : List LocalRecord). active_in u n (pc % 2 ^ 32)) q) ∙ locals_lead y.on n (pc % 2 ^ 32) refl refl in
+          let w : name_left r out' ≡ named (get_local_name (locals_of f) n pc) out = g ∙ ap (λ (o : Object). named o out) l in
+          let z : r.refusal ≡ 0 = ap (λ (u : NameLeft). u.answer.refusal) w ∙ rw (le-leb (length (get_local_name (locals_of f) n pc).name) (length out) y.fits) in
+          let d : filled ++ drop (length locals / 4) rs ≡ F = rw (q, count_is) in
+          rw d (ap (λ (b : Bool). lookup_left r (cond b F rs) out') (sym (eq-eqb r.refusal 0 z)))
+          ∙ ap (with_records rs F) w
+          ∙ sym (left_by y.on ∙ rw (le-leb (length (locals_of f)) (length rs) y.enough))
 
 -- ==== the statement: but for 8, the answer and what is left in out are get_local_name's
 

@@ -1,6 +1,6 @@
 -- Records: one is filled after the other, and each tells how the search goes on.
 use Rattle.std.specs.Prelude.{Option}
-use Rattle.lent.proofs.Prelude.{ℕ, zero, suc, ◌+◌, ◌*◌, ◌≤◌, ◌<◌, ◌≡◌, refl, sym, ap, ◌∙◌, List, ◌∷◌, arith, add-one, length, drop, get_or, set, drop_of_length-le, paste, paste-suc, drop-cons, append-nil, take_all}
+use Rattle.lent.proofs.Prelude.{ℕ, zero, suc, ◌+◌, ◌*◌, ◌≤◌, ◌<◌, ◌≡◌, refl, sym, ap, ◌∙◌, List, ◌∷◌, arith, add-one, length, drop, get_or, set, drop_of_length-le, paste, paste-suc, drop-cons, append-nil, take_all, take, get_or-take, get_or-drop}
 use Rattle.local_records.specs.declared.record.LocalRecord.{LocalRecord}
 use Rattle.debug_info.specs.declared.name.Known.{Known}
 use Rattle.debug_info.specs.declared.list.Seen.{Seen}
@@ -23,6 +23,18 @@ unfolding records_at
 records_get words at zero i h = absurd (omega arith)
 records_get words at (suc n) zero h = ap (record_at words) (omega arith)
 records_get words at (suc n) (suc i) h = records_get words (at + 4) n i (omega arith) ∙ ap (record_at words) (omega arith)
+
+-- those of a part of the words
+pub records_part : (words : List ℕ) (at m i n : ℕ) → i + 4 * n ≤ m → records_at (take m (drop at words)) i n ≡ records_at words (at + i) n
+unfolding records_at
+records_part words at m i zero h = refl
+records_part words at m i (suc n) h =
+    let g : (j : ℕ) → j < m → get_or (take m (drop at words)) j 0 ≡ get_or words (at + j) 0 = λ j k. get_or-take m (drop at words) j 0 k ∙ get_or-drop at words j 0 in
+    let a : at + i + 1 ≡ at + (i + 1) = omega arith in
+    let b : at + i + 2 ≡ at + (i + 2) = omega arith in
+    let c : at + i + 3 ≡ at + (i + 3) = omega arith in
+    let d : at + (i + 4) ≡ at + i + 4 = omega arith in
+    rw (g i (omega arith), g (i + 1) (omega arith), g (i + 2) (omega arith), g (i + 3) (omega arith), ← a, ← b, ← c) (ap (λ (l : List LocalRecord). record_at words (at + i) ∷ l) (records_part words at m (i + 4) n (omega arith) ∙ ap (λ (u : ℕ). records_at words u n) d))
 
 -- i of the n records are filled
 abbrev pub Filling : List LocalRecord → List ℕ → ℕ → ℕ → ℕ → List LocalRecord → Type 0

@@ -1,8 +1,9 @@
 -- get_local_name_in: the lookup of get_local_name in a lent slice of records.
-use Rattle.std.specs.Prelude.{ℕ, ◌+◌, List, cond, length, eqb, leb, Result, Ok, Err}
+use Rattle.std.specs.Prelude.{ℕ, ◌+◌, ◌*◌, List, cond, length, eqb, leb, Result, Ok, Err}
 use Rattle.format.specs.Tree.{Local, Function, parts_of}
 use Rattle.format.specs.Refusal.{number}
 use Rattle.format.specs.declared.Refusal.{Refusal}
+use Rattle.format.specs.declared.Span.{Span}
 use Rattle.proto.specs.Walk.{to_locals}
 use Rattle.proto.specs.Places.{on_place}
 use Rattle.debug_info.specs.Names.{active_local, get_local_name}
@@ -10,7 +11,6 @@ use Rattle.debug_info.specs.Calls.{NameLeft, name_refused, named}
 use Rattle.debug_info.specs.declared.answer.Named.{Named}
 use Rattle.local_records.specs.Records.{records_filled}
 use Rattle.local_records.specs.declared.record.LocalRecord.{LocalRecord}
-use Rattle.local_records.specs.declared.Locals.{Locals}
 
 abbrev pub locals_of : Function → List Local
 locals_of f = (parts_of f).debug.locals
@@ -47,13 +47,13 @@ abbrev pub numbered : {A : Type 0} → Result A Refusal → Result A ℕ
 numbered (Ok a) = Ok a
 numbered (Err e) = Err (number e)
 
-abbrev pub no_locals : ℕ → Result Locals ℕ
+abbrev pub no_locals : ℕ → Result Span ℕ
 no_locals r = Err r
 
--- the refusal for so many records and so much space, or where the locals stand
-unfoldable pub locals_for : List ℕ → List ℕ → ℕ → ℕ → ℕ → ℕ → ℕ → Result Locals ℕ
+-- the refusal for so many records and so much space, or where the words of the locals stand
+unfoldable pub locals_for : List ℕ → List ℕ → ℕ → ℕ → ℕ → ℕ → ℕ → Result Span ℕ
 locals_for words text place n pc records space =
     on_place no_locals
     (λ x. cond (leb (length (locals_of x.function)) records)
-    (cond (leb (length (active_local (locals_of x.function) n pc).name) space) (Ok (record { at = locals_at place x.function; count = length (locals_of x.function) })) (no_locals 11))
+    (cond (leb (length (active_local (locals_of x.function) n pc).name) space) (Ok (record { start = locals_at place x.function; len = 4 * length (locals_of x.function) })) (no_locals 11))
     (no_locals 8)) words text place

@@ -26,7 +26,7 @@ abbrev pub unnamed : Option Known
 unnamed = None
 
 abbrev pub text_named : ℕ → ℕ → Option Known
-text_named place n = Some (record { kind = Local; name = Text place n })
+text_named place n = Some (record { kind = Local; name = Text (record { start = place; len = n }) })
 
 -- what a record tells of the search for number n, from it on, of those active at pc
 abbrev pub look_at : LocalRecord → ℕ → ℕ → Seen

@@ -3,28 +3,20 @@
 
 pub mod record;
 
-ghost use Rattle.std.specs.Prelude.{[], ◌≡◌, ◌+◌, ◌*◌, ◌<◌, ◌≤◌, length};
+ghost use Rattle.std.specs.Prelude.{[], ◌≡◌, ◌*◌, ◌<◌, ◌≤◌, length};
 ghost use Rattle.lent.specs.Memory.{far, Puts};
 ghost use Rattle.debug_info.specs.Known.{object_of};
 ghost use Rattle.local_records.specs.Records.{records_at, active_in};
 ghost use Rattle.local_records.specs.Lookup.{numbered, locals_for, lookup_left, local_named_in};
 
 use debug_info::answer::Named;
+use debug_info::give;
 use debug_info::list::{Seen, active_local, look};
 use debug_info::name::{Known, name_len};
-use debug_info::{PCS, give};
-use format::Refusal;
-use proto::lists::lists_at;
+use format::{Refusal, Span, low};
 use proto::store::Store;
 use proto::walk::{skip, word_at};
 use record::{LocalRecord, record_at};
-
-// Where a function's locals stand in the words, behind their count, and how many there are.
-#[derive(Clone, Copy)]
-struct Locals {
-    at: usize,
-    count: usize,
-}
 
 // How many bytes the name of what is known has, none where nothing is.
 fn known_len(text: &[u8], v: Option<Known>) -> usize
@@ -33,7 +25,8 @@ fn known_len(text: &[u8], v: Option<Known>) -> usize
     v.map_or(0, |known| name_len(text, known.name))
 }
 
-// Those of the function at a place, for a lookup with so many records and so much space: refused by 10, 12, 8, 11.
+// Where the words of the locals of the function at a place stand, four for each, for a lookup with so many records and so much space: refused
+// by 10, 12, 8, 11.
 fn locals_for(
     store: Store,
     place: usize,
@@ -41,12 +34,12 @@ fn locals_for(
     pc: u32,
     records: usize,
     space: usize,
-) -> Result<Locals, Refusal>
+) -> Result<Span, Refusal>
     requires { space < far }
     ensures { numbered result ≡ locals_for store.entry.words.now store.entry.text.now place local_number pc records space }
 {
     store.has_function(place)?;
-    let locals = lists_at(store.words, place).locals;
+    let locals = store.lists_at(place).locals;
     let count = word_at(store.words, locals) as usize;
     if records < count {
         return Err(Refusal::TooFewWords);
@@ -55,23 +48,24 @@ fn locals_for(
     if space < known_len(store.text, v) {
         return Err(Refusal::TooLittleOutput);
     }
-    Ok(Locals {
-        at: skip(store.words, locals, 1),
-        count,
+    Ok(Span {
+        start: skip(store.words, locals, 1),
+        len: 4 * count,
     })
 }
 
-// Fills records with the locals from a place on.
-fn fill(records: &mut [LocalRecord], words: &[u32], locals: usize)
-    requires { locals + 4 * length records.old ≤ length words.now }
-    ensures { records.new ≡ records_at words.now locals (length records.old) }
+// Fills records with the locals whose words these are. By the index: where iter_mut is zipped, nothing is known of the records behind the loop.
+fn fill(records: &mut [LocalRecord], locals: &[u32])
+    requires { 4 * length records.old ≤ length locals.now }
+    ensures { records.new ≡ records_at locals.now 0 (length records.old) }
 {
     for (i, r) in records.iter_mut().enumerate() {
-        *r = record_at(words, locals + 4 * i);
+        *r = record_at(locals, 4 * i);
     }
 }
 
 // The local that is number local_number of those active at pc, among the records.
+#[tactic(auto, using(crate::proofs::Records::seen_nothing, crate::proofs::Records::seen_found, crate::proofs::Records::seen_left, crate::proofs::Records::searching_over))]
 fn find(records: &[LocalRecord], local_number: usize, pc: u32) -> Option<Known>
     ensures { result ≡ active_in records.now local_number pc }
 {
@@ -100,12 +94,13 @@ pub fn get_local_name_in(
 ) -> Named
     ensures { lookup_left result records.new out.new ≡ local_named_in records.old words.now text.now place local_number pc out.old }
 {
-    let last = (pc % PCS) as u32;
+    let last = low(pc);
     let store = Store { words, text };
     match locals_for(store, place, local_number, last, records.len(), out.len()) {
-        Ok(locals) => {
-            let filled = &mut records[..locals.count];
-            fill(filled, words, locals.at);
+        Ok(span) => {
+            let locals = span.of(words);
+            let filled = &mut records[..locals.len() / 4];
+            fill(filled, locals);
             give(text, find(filled, local_number, last), out)
         }
         Err(e) => Named::refused(e),

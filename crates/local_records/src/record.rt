@@ -3,6 +3,7 @@ ghost use Rattle.std.specs.Prelude.{◌≡◌, ◌+◌, ◌≤◌, length};
 ghost use Rattle.local_records.specs.Records.{record_at, text_named};
 
 use debug_info::name::{Kind, Known, Name};
+use format::Span;
 
 // A local: where its name stands in the text, how many bytes it has, and the pcs from which and before which it is active.
 #[repr(C)]
@@ -21,7 +22,10 @@ impl LocalRecord {
     {
         Known {
             kind: Kind::Local,
-            name: Name::Text(self.place as usize, self.len as usize),
+            name: Name::Text(Span {
+                start: self.place as usize,
+                len: self.len as usize,
+            }),
         }
     }
 }

@@ -1,15 +1,19 @@
 -- The functions in a function: where each begins, and its number.
-use Rattle.lent.proofs.Prelude.{ℕ, zero, suc, ◌+◌, ◌-◌, ◌≤◌, min, ◌≡◌, refl, sym, ap, ◌∙◌, List, some, arith, add-zero}
+use Rattle.lent.proofs.Prelude.{ℕ, zero, suc, ◌+◌, ◌-◌, ◌≤◌, ◌<◌, min, ◌≡◌, refl, sym, ap, ◌∙◌, List, [], ◌∷◌, none, some, arith, add-zero}
 use Rattle.lent.specs.Memory.{far}
 use Rattle.format.specs.Tree.{Function, Functions, count}
 use Rattle.format.specs.Store.{word, ◌⊕◌, function_piece, function_pieces, children_piece}
 use Rattle.format.specs.Valid.{Valid, ValidAll}
+use Rattle.format.proofs.Stored.{here_left}
 use Rattle.proto.specs.declared.walk.Next.{Next}
-use Rattle.proto.specs.declared.child.Child.{Child}
-use Rattle.proto.specs.Walk.{Stands, StandsAt, item, Skips, total_all, total_before, Passes, PassesAll, children}
-use Rattle.proto.specs.Children.{child_number, child_next, ChildAt}
-use Rattle.proto.proofs.Pieces.{Same, same_sym, same_trans, same_behind, same_assoc, stands_same, stands_left}
-use Rattle.proto.proofs.Walks.{past_word, past_stands, passes_past, passes_same, passes_then, all_none}
+use Rattle.proto.specs.declared.child.Children.{Children}
+use Rattle.proto.specs.Walk.{Stands, StandsAt, item, children, Skips, total_all, total_before, Passes, PassesAll}
+use Rattle.proto.specs.Children.{child_number, counted, first, ChildAt}
+use Rattle.proto.proofs.Sublists.{here_get}
+use Rattle.proto.proofs.Pieces.{Same, same_sym, same_trans, same_behind, same_assoc, stands_same, stands_left, stands_right}
+use Rattle.proto.proofs.Walks.{past_stands, passes_past, passes_same, passes_then, all_none}
+use Rattle.proto.proofs.Items.{item_past, item_there}
+use Rattle.proto.proofs.Stores.{children_count}
 
 -- ---- the first i functions, and those behind them
 
@@ -70,41 +74,57 @@ all_then {allowance = allowance} {i} w v =
 
 -- ---- from the first function to one behind it
 
-pub child_first : {words : List ℕ} {functions number at m : ℕ} → Skips words 1 functions at → m ≡ min (number + 1) far
-    → (allowance : ℕ) → ChildAt words functions number allowance (record { index = 0; at = at; number = m })
-child_first {at = at} {m = m} k e allowance = record { first = record { at = at; number = m }; begins = k; numbered = e; passes = all_none }
+module _ {c : Children} where
+  pub child_first : {n : Next} → Skips c.words.now 1 c.list n.at × (n.number ≡ min (c.number + 1) far) → ChildAt c 0 n
+  child_first k = record { passes = λ n h. let d = k.0.skips (n ∷ []) refl h in rw (d, k.1) all_none }
 
-pub child_further : {words : List ℕ} {functions number allowance i at m : ℕ} {c : Child} → c.index ≤ i → PassesAll words allowance (i - c.index) (child_next c) (record { at = at; number = m })
-    → ChildAt words functions number allowance c → ChildAt words functions number allowance (record { index = i; at = at; number = m })
-child_further {i = i} {c = c} h w x =
-    let e : c.index + (i - c.index) ≡ i = omega arith in
-    record { first = x.first; begins = x.begins; numbered = x.numbered; passes = rw e at (all_then x.passes w) }
+  pub child_further : {i j : ℕ} {n r : Next} → j ≤ i → ChildAt c j n → PassesAll c.words.now c.allowance (i - j) n r → ChildAt c i r
+  child_further {i} {j} h x w = let e : j + (i - j) ≡ i = omega arith in record { passes = λ n k. rw e at (all_then (x.passes n k) w) }
 
--- ---- where the functions of a function stand at a place, with those from an index on
+-- ---- the functions of a list that stands there, looked up by an index
 
-module _ {words text : List ℕ} {functions number allowance : ℕ} {c : Child} (fs : Functions) (h : StandsAt words text functions (children_piece fs)) (v : ValidAll fs allowance) (b : c.index ≤ count fs) (w : ChildAt words functions number allowance c) where
-  at_index : Split fs c.index
-  at_index = split fs c.index b
+-- none with an index
+pub child_past : (c : Children) {text : List ℕ} {i : ℕ} (fs : Functions) → StandsAt c.words.now text c.list (children_piece fs) → counted c ≤ i → item (children fs) i ≡ none
+child_past c {i = i} fs h p = item_past (children fs) i (omega (arith, here_get (count fs) _ h.stands.in_words, children_count fs))
 
-  begin : Stands words text w.first.at (h.to + 0) (function_pieces at_index.before ⊕ function_pieces at_index.behind)
-  begin = stands_same at_index.pieces (past_stands {p = word (count fs)} {q = function_pieces fs} (past_word (count fs) w.begins) h.stands)
+-- the one with an index: what stands at its place, and its number
+pub record Child (c : Children) (text : List ℕ) (fs : Functions) (i : ℕ) (n : Next) : Type 0 where
+  pub function : Function
+  pub is : item (children fs) i ≡ some function
+  pub stands : StandsAt c.words.now text n.at (function_piece function)
+  pub valid : Valid function c.allowance
+  pub numbered : c.number + 1 + total_all fs ≤ far → n.number ≡ child_number c.number fs i
 
-  passed : Passes words (function_pieces at_index.before) (total_all at_index.before) w.first (child_next c)
-  passed = w.passes.all at_index.before (at_index.valid allowance v).0 at_index.many
+module _ {c : Children} {text : List ℕ} {i : ℕ} {n : Next} (fs : Functions) (h : StandsAt c.words.now text c.list (children_piece fs)) (v : ValidAll fs c.allowance) (b : i < counted c) (w : ChildAt c i n) where
+  within : i < count fs
+  within = omega (arith, here_get (count fs) _ h.stands.in_words)
 
-  -- the one with the index has this number
-  pub child_numbered : number + 1 + total_all fs ≤ far → c.number ≡ child_number number fs c.index
-  child_numbered k =
-      let n = (passed.passes _ (stands_left (function_pieces at_index.before) (function_pieces at_index.behind) begin).in_words).1 in
-      omega (arith, n (omega (arith, w.numbered)), w.numbered, at_index.number, at_index.all)
+  at_index : Split fs i
+  at_index = split fs i (omega (arith, within))
 
-  -- and begins where ChildAt says, well formed
-  pub child_stands : (f : Function) → item (children fs) c.index ≡ some f → StandsAt words text c.at (function_piece f) × Valid f allowance
+  passes : PassesAll c.words.now c.allowance i (first c) n
+  passes = w.passes (count fs) (here_left (count fs ∷ []) _ h.stands.in_words)
+
+  begin : Stands c.words.now text (c.list + 1) (h.to + 0) (function_pieces at_index.before ⊕ function_pieces at_index.behind)
+  begin = stands_same at_index.pieces (stands_right (word (count fs)) (function_pieces fs) h.stands)
+
+  passed : Passes c.words.now (function_pieces at_index.before) (total_all at_index.before) (first c) n
+  passed = passes.all at_index.before (at_index.valid c.allowance v).0 at_index.many
+
+  numbered : c.number + 1 + total_all fs ≤ far → n.number ≡ child_number c.number fs i
+  numbered k =
+      let m = (passed.passes _ (stands_left (function_pieces at_index.before) (function_pieces at_index.behind) begin).in_words).1 in
+      omega (arith, m (omega arith), at_index.number, at_index.all)
+
+  pub child_stands : Child c text fs i n
   unfolding item children function_pieces ValidAll
-  child_stands f e = go at_index.behind (at_index.valid allowance v).1 (sym at_index.items ∙ e) (past_stands {p = function_pieces at_index.before} {q = function_pieces at_index.behind} (passes_past passed) begin)
+  child_stands =
+      let y = item_there (children fs) i (omega (arith, within, children_count fs)) in
+      let x = go y.value at_index.behind (at_index.valid c.allowance v).1 (sym at_index.items ∙ y.is) (past_stands {p = function_pieces at_index.before} {q = function_pieces at_index.behind} (passes_past passed) begin) in
+      record { function = y.value; is = y.is; stands = x.0; valid = x.1; numbered = numbered }
     where
-      go : (gs : Functions) {to : ℕ} → ValidAll gs allowance → item (children gs) 0 ≡ some f → Stands words text c.at to (function_pieces gs) → StandsAt words text c.at (function_piece f) × Valid f allowance
-      go Functions.none v e s = let z : ◌≡◌ {A = ℕ} 0 1 = cc in absurd (omega arith)
-      go (Functions.more g gs) v e s =
+      go : (f : Function) (gs : Functions) {to : ℕ} → ValidAll gs c.allowance → item (children gs) 0 ≡ some f → Stands c.words.now text n.at to (function_pieces gs) → StandsAt c.words.now text n.at (function_piece f) × Valid f c.allowance
+      go f Functions.none v e s = let z : ◌≡◌ {A = ℕ} 0 1 = cc in absurd (omega arith)
+      go f (Functions.more g gs) v e s =
           let q : g ≡ f = cc in
           rw (← q) (record { to = _; stands = stands_left (function_piece g) (function_pieces gs) s }, v.0)

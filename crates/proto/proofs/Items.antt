@@ -1,5 +1,6 @@
 -- What stands at the places that walking finds: the lists of a function, their counts, their items, strings and constants.
 use Rattle.lent.proofs.Prelude.{ℕ, zero, suc, ◌+◌, ◌*◌, ◌≤◌, ◌<◌, ◌≡◌, refl, sym, ap, ◌∙◌, List, [], ◌∷◌, ◌++◌, true, false, cond, not, none, some, arith, add-zero, mul-suc, mul-zero, length, take, get_or, length-take-le, eqb, ne_eqb}
+use Rattle.std.specs.Prelude.{Some, None}
 use Rattle.std.specs.Int.{to_be_bytes}
 use Rattle.std.proofs.lemmas.Nat.{be_bytes_4}
 use mir.Syntax.{w32}
@@ -7,15 +8,16 @@ use Rattle.format.specs.Tree.{Constant as Value, Source, Parts, Function, Functi
 use Rattle.format.specs.Store.{Piece, word, ◌⊕◌, string, pieces, list, ints, source_piece, constant_piece, local_piece, debug_piece, packed, function_piece, children_piece}
 use Rattle.format.specs.Stored.{part, Here}
 use Rattle.format.specs.Constants.{value_of, constant_words}
+use Rattle.format.specs.declared.Span.{Span}
 use Rattle.format.specs.declared.Constant.{Constant}
 use Rattle.format.specs.declared.Constant.TheVariants.{Nil, Bool as Truth, Num, String}
 use Rattle.format.specs.Valid.{ValidParts}
 use Rattle.format.proofs.Stored.{here_left, here_right, here_part}
-use Rattle.proto.specs.Walk.{Stands, StandsAt, item, Skips, Past, to_code, to_constants, to_functions, to_lines, to_locals, to_upvalues}
+use Rattle.proto.specs.Walk.{Stands, StandsAt, item, Skips, NthAt, Past, to_code, to_constants, to_functions, to_lines, to_locals, to_upvalues}
 use Rattle.proto.specs.Constants.{ConstantAt}
 use Rattle.proto.specs.Head.{head_of}
 use Rattle.proto.proofs.Sublists.{here_get, here_item, here_front, skip_item}
-use Rattle.proto.proofs.Pieces.{Same, same_sym, same_assoc, function_debug, stands_same, stands_left, stands_right, pieces_words}
+use Rattle.proto.proofs.Pieces.{same_sym, same_assoc, function_debug, stands_same, stands_left, stands_right, pieces_words}
 use Rattle.proto.proofs.Walks.{past_stands}
 
 -- ---- the lists of a function
@@ -82,20 +84,6 @@ item_there [] i h = absurd (omega arith)
 item_there (a ∷ l) zero h = record { value = a; is = refl }
 item_there (a ∷ l) (suc i) h = let x = item_there l i (omega arith) in record { value = x.value; is = x.is }
 
--- words after their count are a list of pieces of a word
-word_pieces : (l : List ℕ) (to : ℕ) → (pieces word l).words to ≡ l
-unfolding pieces
-word_pieces [] to = refl
-word_pieces (a ∷ l) to = rw (word_pieces l (to + 0))
-
-word_text : (l : List ℕ) → (pieces word l).text ≡ []
-unfolding pieces
-word_text [] = refl
-word_text (a ∷ l) = word_text l
-
-pub ints_list : (l : List ℕ) → Same (ints l) (list word l)
-ints_list l = record { words = λ to. ap (λ (m : List ℕ). length l ∷ m) (sym (word_pieces l (to + 0))); text = sym (word_text l) }
-
 module _ {words text : List ℕ} where
   module _ {at to : ℕ} where
     -- ---- the items of a list
@@ -144,12 +132,8 @@ module _ {words text : List ℕ} where
 
   -- ---- strings and sources
 
-  pub string_here : {at to a y z : ℕ} {r : List ℕ} (s : List ℕ) → Stands words text at to (string s) → y ≡ get_or words at 0 → Skips words 1 at a → z ≡ get_or words a 0 → r ≡ part text y z → r ≡ s
-  string_here {to = to} {y = y} {z = z} s h e f g q =
-      let w = h.in_words in
-      let u : y ≡ to = e ∙ here_get to _ w in
-      let v : z ≡ length s = skip_item (to ∷ length s ∷ []) (omega arith) w f g in
-      q ∙ rw (u, v) (here_part s h.in_text)
+  pub string_here : {at to : ℕ} {z : Span} {r : List ℕ} (s : List ℕ) → z ≡ record { start = to; len = length s } → r ≡ part text z.start z.len → Stands words text at to (string s) → r ≡ s
+  string_here s e q h = q ∙ rw e (here_part s h.in_text)
 
   pub source_inherited : {at to x : ℕ} (around : List ℕ) (s : Source) → Stands words text at to (source_piece s) → x ≡ get_or words at 0 → x ≡ 0 → around ≡ filled around s
   source_inherited around Source.inherited h e z = refl
@@ -162,15 +146,31 @@ module _ {words text : List ℕ} where
       let k : a ≡ at + 1 = f.skips (1 ∷ []) refl (here_left (1 ∷ []) _ h.in_words) in
       q s (to + 0) (rw k (stands_right (word 1) (string s) h))
 
--- ---- constants
+-- ---- an item by its index, and a string
 
--- the place n words on
-pub skips_on : {words : List ℕ} {n at : ℕ} → Skips words n at (at + n)
-skips_on = record { skips = λ l e h. refl }
+-- item i of a list
+module _ {A : Type 0} {words text : List ℕ} {at i : ℕ} (k : ℕ) (piece : A → Piece) (l : List A) (h : StandsAt words text at (list piece l)) where
+  -- there is none
+  pub nth_none : NthAt words at k i None → none ≡ item l i
+  nth_none n = sym (item_past l i (omega (arith, list_count piece l h.stands)))
+
+  -- it stands at r, where x is what is read of it
+  pub nth_some : ((a : A) (to : ℕ) → length ((piece a).words to) ≡ k) → {r : ℕ} {x : A} → NthAt words at k i (Some r) → ((a : A) → StandsAt words text r (piece a) → x ≡ a) → some x ≡ item l i
+  nth_some wide n f =
+      let y = item_there l i (omega (arith, n.0, list_count piece l h.stands)) in
+      ap some (f y.value (list_item piece k wide l i y.value y.is h.stands n.1)) ∙ sym y.is
+
+-- the place and the length of a string
+pub string_span : {words : List ℕ} {at a y z to : ℕ} (s t : List ℕ) → Stands words t at to (string s) → y ≡ get_or words at 0 → Skips words 1 at a → z ≡ get_or words a 0 → ◌≡◌ {A = Span} (record { start = y; len = z }) (record { start = to; len = length s })
+string_span {to = to} s t h e f g =
+    let w = h.in_words in
+    rw (e ∙ here_get to _ w, skip_item (to ∷ length s ∷ []) (omega arith) w f g)
+
+-- ---- constants
 
 -- the constant that three words say
 abbrev constant_from : ℕ → ℕ → ℕ → Constant
-constant_from kind a b = cond (eqb kind 0) Nil (cond (eqb kind 1) (Truth (not (eqb a 0))) (cond (eqb kind 3) (Num a b) (String a b)))
+constant_from kind a b = cond (eqb kind 0) Nil (cond (eqb kind 1) (Truth (not (eqb a 0))) (cond (eqb kind 3) (Num a b) (String (record { start = a; len = b }))))
 
 module _ {words : List ℕ} {at : ℕ} where
   constant_from_law : (k : Value) (text : List ℕ) (to : ℕ) → Stands words text at to (constant_piece k) → let r = constant_from (get_or words at 0) (get_or words (at + 1) 0) (get_or words (at + 2) 0) in
@@ -194,7 +194,7 @@ module _ {words : List ℕ} {at : ℕ} where
   pub constant_num : get_or words at 0 ≡ 3 → ConstantAt words at (Num (get_or words (at + 1) 0) (get_or words (at + 2) 0))
   constant_num n = constant_is (rw n)
 
-  pub constant_str : (get_or words at 0 ≡ 0 → ⊥) → (get_or words at 0 ≡ 1 → ⊥) → (get_or words at 0 ≡ 3 → ⊥) → ConstantAt words at (String (get_or words (at + 1) 0) (get_or words (at + 2) 0))
+  pub constant_str : (get_or words at 0 ≡ 0 → ⊥) → (get_or words at 0 ≡ 1 → ⊥) → (get_or words at 0 ≡ 3 → ⊥) → ConstantAt words at (String (record { start = get_or words (at + 1) 0; len = get_or words (at + 2) 0 }))
   constant_str n₀ n₁ n₃ = constant_is (rw (ne_eqb _ 0 n₀, ne_eqb _ 1 n₁, ne_eqb _ 3 n₃))
 
 -- ---- the head of a function
@@ -212,7 +212,7 @@ bytes_below a b c d ha hb hc hd (suc (suc zero)) = hc
 bytes_below a b c d ha hb hc hd (suc (suc (suc zero))) = hd
 bytes_below a b c d ha hb hc hd (suc (suc (suc (suc i)))) = omega arith
 
-packed_bytes : (p : Parts) → ValidParts p → to_be_bytes w32 (packed p) ≡ p.num_upvalues ∷ p.num_params ∷ p.is_vararg ∷ p.max_stack_size ∷ []
+pub packed_bytes : (p : Parts) → ValidParts p → to_be_bytes w32 (packed p) ≡ p.num_upvalues ∷ p.num_params ∷ p.is_vararg ∷ p.max_stack_size ∷ []
 packed_bytes p v = be_bytes_4 _ _ refl (bytes_below p.num_upvalues p.num_params p.is_vararg p.max_stack_size v.num_upvalues v.num_params v.is_vararg v.max_stack_size) (omega arith)
 
 pub head_here : {words : List ℕ} {at a b c x y z : ℕ} {l : List ℕ} → Skips words 3 at a → x ≡ get_or words a 0 → Skips words 4 at b → y ≡ get_or words b 0 → Skips words 5 at c → z ≡ get_or words c 0 → l ≡ to_be_bytes w32 z

@@ -8,6 +8,7 @@ use Rattle.format.specs.Valid.{ValidAll}
 use Rattle.proto.specs.declared.walk.Next.{Next}
 use Rattle.proto.specs.declared.lists.Lists.{Lists}
 use Rattle.proto.specs.declared.lists.Kept.{Kept}
+use Rattle.proto.specs.declared.store.Store.{Store}
 use Rattle.proto.specs.Walk.{StandsAt, Skips, Past, PassesAll, to_code, to_constants, to_functions, to_lines, to_locals}
 use Rattle.proto.specs.Lists.{ListsAt, ListsFound, LinesAt, LinesKept, WalksToLines}
 use Rattle.proto.proofs.Walks.{past_then, past_ints, past_list, skip_items, all_none, all_more, passes_past, none_deep, pass_inside}
@@ -15,11 +16,11 @@ use Rattle.proto.proofs.Items.{somewhere, code_stands, constants_stand, function
 
 -- ---- the lists of a function
 
-pub lists_found : {words : List ℕ} {at code constants functions lines locals upvalues n m : ℕ} (allowance : ℕ)
-    → ((p : Parts) (fs : Functions) → ValidAll fs allowance → Past words (to_lines p fs) at lines) → n ≡ get_or words lines 0 → Skips words (1 + 1 * n) lines locals → m ≡ get_or words locals 0 → Skips words (1 + 4 * m) locals upvalues
-    → ((p : Parts) (fs : Functions) → Past words (to_code p fs) at code) → ((p : Parts) (fs : Functions) → Past words (to_constants p fs) at constants) → ((p : Parts) (fs : Functions) → Past words (to_functions p fs) at functions)
+pub lists_found : {store : Store} {at code constants functions lines locals upvalues n m : ℕ} (allowance : ℕ)
+    → ((p : Parts) (fs : Functions) → ValidAll fs allowance → Past store.words.now (to_lines p fs) at lines) → n ≡ get_or store.words.now lines 0 → Skips store.words.now (1 + 1 * n) lines locals → m ≡ get_or store.words.now locals 0 → Skips store.words.now (1 + 4 * m) locals upvalues
+    → ((p : Parts) (fs : Functions) → Past store.words.now (to_code p fs) at code) → ((p : Parts) (fs : Functions) → Past store.words.now (to_constants p fs) at constants) → ((p : Parts) (fs : Functions) → Past store.words.now (to_functions p fs) at functions)
     → (p : Parts) (fs : Functions) → ValidAll fs allowance
-    → ListsFound words at p fs (record { code = code; constants = constants; functions = functions; lines = lines; locals = locals; upvalues = upvalues })
+    → ListsFound at p fs (record { store = store; code = code; constants = constants; functions = functions; lines = lines; locals = locals; upvalues = upvalues })
 lists_found allowance li e lo f up co ks fu p fs v =
     let to-locals = past_then {p = to_lines p fs} {q = ints p.debug.lines} (li p fs v) (past_ints p.debug.lines (skip_items 1 e lo)) in
     record {
@@ -32,9 +33,9 @@ lists_found allowance li e lo f up co ks fu p fs v =
     }
 
 -- where the function stands, so do its lists
-pub lists_stand : {words text : List ℕ} {at : ℕ} {l : Lists} (p : Parts) (fs : Functions) → StandsAt words text at (function_piece (Function.function p fs)) → ListsFound words at p fs l → ListsAt words text l p fs
-lists_stand p fs h l =
-    let s = h.stands in
+pub lists_stand : {s : Store} {at : ℕ} {l : Lists} (p : Parts) (fs : Functions) → l.store ≡ s → StandsAt s.words.now s.text.now at (function_piece (Function.function p fs)) → ListsFound at p fs l → ListsAt l p fs
+lists_stand {at = at} p fs e h l =
+    let s = (rw (← e) at h).stands in
     record {
       code = somewhere (code_stands p fs s l.code);
       constants = somewhere (constants_stand p fs s l.constants);

@@ -7,7 +7,8 @@ use Rattle.format.specs.Valid.{Valid, ValidAll}
 use Rattle.format.specs.Stored.{Here}
 use Rattle.format.proofs.Stored.{here_left, here_right}
 use Rattle.format.proofs.Loops.{Loop, loop_stop, loop_end}
-use Rattle.proto.specs.declared.place.Span.{Span}
+use Rattle.proto.specs.declared.place.SourceSpan.{SourceSpan}
+use Rattle.proto.specs.declared.place.SourceSpan.TheVariants.{Text}
 use Rattle.proto.specs.Walk.{Skips, Past, to_functions, to_lines}
 use Rattle.proto.specs.Places.{span_of, Placed, placed, placed_all, begins_at, Seeks, Search}
 use Rattle.proto.proofs.Sublists.{here_get, skip_item}
@@ -16,8 +17,8 @@ use Rattle.proto.proofs.Walks.{valid_inside}
 
 -- ---- the source of a function
 
-pub span_own : {words : List ℕ} {at x a b y z : ℕ} (around : Span) (s : Source) (to : ℕ) → Here words at ((source_piece s).words to) → x ≡ get_or words at 0 → (x ≡ 0 → ⊥)
-    → Skips words 1 at a → y ≡ get_or words a 0 → Skips words 2 at b → z ≡ get_or words b 0 → record { in_text = true; start = y; end = y + z } ≡ span_of around to s
+pub span_own : {words : List ℕ} {at x a b y z : ℕ} (around : SourceSpan) (s : Source) (to : ℕ) → Here words at ((source_piece s).words to) → x ≡ get_or words at 0 → (x ≡ 0 → ⊥)
+    → Skips words 1 at a → y ≡ get_or words a 0 → Skips words 2 at b → z ≡ get_or words b 0 → Text y (y + z) ≡ span_of around to s
 span_own around Source.inherited to h e n k f l g = absurd (n (e ∙ here_get 0 _ h))
 span_own {y = y} {z} around (Source.own s) to h e n k f l g =
     let u : y ≡ to + 0 = skip_item (1 ∷ (to + 0) ∷ length s ∷ []) (omega arith) h k f in
@@ -36,21 +37,21 @@ begins_append place [] b = refl
 begins_append place (x ∷ a) b =
     elim (eqb place x.place) as (λ t. cond t (some x) (begins_at place (a ++ b)) ≡ or_else (cond t (some x) (begins_at place a)) (begins_at place b)) [ true ↦ refl | false ↦ begins_append place a b ]
 
-same_Err : (a b : ℕ) → ◌≡◌ {A = Result Span ℕ} (Err a) (Err b) → a ≡ b
+same_Err : (a b : ℕ) → ◌≡◌ {A = Result SourceSpan ℕ} (Err a) (Err b) → a ≡ b
 same_Err a b e = cc
 
 -- of n functions, whichever they are
-pub record SearchAll (words : List ℕ) (place : ℕ) (around : Span) (allowance n at : ℕ) (r : Result Span ℕ) : Type 0 where
+pub record SearchAll (words : List ℕ) (place : ℕ) (around : SourceSpan) (allowance n at : ℕ) (r : Result SourceSpan ℕ) : Type 0 where
   pub seeks : (fs : Functions) (to : ℕ) (bytes : List ℕ) → ValidAll fs allowance → count fs ≡ n → Here words at ((function_pieces fs).words to)
       → Seeks (begins_at place (placed_all fs at to (record { bytes = bytes; span = around }))) (at + length ((function_pieces fs).words to)) r
 
-module _ {words : List ℕ} {place : ℕ} {around : Span} {allowance : ℕ} where
+module _ {words : List ℕ} {place : ℕ} {around : SourceSpan} {allowance : ℕ} where
   search_none : {at : ℕ} → SearchAll words place around allowance 0 at (Err at)
   unfolding count function_pieces placed_all begins_at
   search_none {at} = record { seeks = elim [ Functions.none ↦ λ to bytes v e h. rw (add-zero at) | Functions.more f fs ↦ λ to bytes v e h. absurd (omega arith) ] }
 
   -- it is in the first one, or may be behind it
-  search_next : {at : ℕ} {r : Result Span ℕ} → ((f : Function) → Valid f allowance → Search words place around f at r) → (n : ℕ) (q : Result Span ℕ) → ((z : Span) → r ≡ Ok z → r ≡ q)
+  search_next : {at : ℕ} {r : Result SourceSpan ℕ} → ((f : Function) → Valid f allowance → Search words place around f at r) → (n : ℕ) (q : Result SourceSpan ℕ) → ((z : SourceSpan) → r ≡ Ok z → r ≡ q)
       → ((b : ℕ) → r ≡ Err b → SearchAll words place around allowance n b q) → SearchAll words place around allowance (suc n) at q
   unfolding count function_pieces placed_all ValidAll
   search_next {at} {r} one n q here rest = record { seeks = go }
@@ -71,18 +72,18 @@ module _ {words : List ℕ} {place : ℕ} {around : Span} {allowance : ℕ} wher
               rw (length-append ((function_piece f).words to) ((function_pieces fs).words to')) (sym (add_assoc _ _ _)) in
               rw i ((rest _ k).seeks fs to' bytes v.1 (omega arith) (here_right ((function_piece f).words to) _ h))
 
-  pub search_more : {at m : ℕ} → ((f : Function) → Valid f allowance → Search words place around f at (Err m)) → (n : ℕ) (q : Result Span ℕ) → SearchAll words place around allowance n m q
+  pub search_more : {at m : ℕ} → ((f : Function) → Valid f allowance → Search words place around f at (Err m)) → (n : ℕ) (q : Result SourceSpan ℕ) → SearchAll words place around allowance n m q
       → SearchAll words place around allowance (suc n) at q
   search_more one n q rest = search_next one n q (λ z e. absurd cc) (λ b e. let d = same_Err _ _ e in rw (← d) rest)
 
 -- ---- in one function
 
-own_here : {words : List ℕ} {at : ℕ} {around own : Span} → ((s : Source) (to : ℕ) → Here words at ((source_piece s).words to) → own ≡ span_of around to s)
+own_here : {words : List ℕ} {at : ℕ} {around own : SourceSpan} → ((s : Source) (to : ℕ) → Here words at ((source_piece s).words to) → own ≡ span_of around to s)
     → (p : Parts) (fs : Functions) (to : ℕ) → Here words at ((function_piece (Function.function p fs)).words to) → own ≡ span_of around to p.source
 unfolding function_piece
 own_here s p fs to h = s p.source to (here_left ((source_piece p.source).words to) _ h)
 
-module _ {words : List ℕ} {place at : ℕ} {around own : Span} (s : (s : Source) (to : ℕ) → Here words at ((source_piece s).words to) → own ≡ span_of around to s) where
+module _ {words : List ℕ} {place at : ℕ} {around own : SourceSpan} (s : (s : Source) (to : ℕ) → Here words at ((source_piece s).words to) → own ≡ span_of around to s) where
   -- it is this one
   pub search_here : place ≡ at → (f : Function) → Search words place around f at (Ok own)
   unfolding placed begins_at
@@ -90,7 +91,7 @@ module _ {words : List ℕ} {place at : ℕ} {around own : Span} (s : (s : Sourc
 
   module _ {a q n allowance i b : ℕ} (o : allowance ≡ 0 → ⊥) (z : place ≡ at → ⊥) (w : (p : Parts) (fs : Functions) → Past words (to_functions p fs) at a) (e : n ≡ get_or words a 0) (k : Skips words 1 a q)
       (l : Loop (SearchAll words place own (allowance - 1)) n q i b) where
-    inside : {r : Result Span ℕ} → SearchAll words place own (allowance - 1) n q r → (p : Parts) (fs : Functions) (to : ℕ) (bytes : List ℕ) → ValidAll fs (allowance - 1) → Here words at ((function_piece (Function.function p fs)).words to)
+    inside : {r : Result SourceSpan ℕ} → SearchAll words place own (allowance - 1) n q r → (p : Parts) (fs : Functions) (to : ℕ) (bytes : List ℕ) → ValidAll fs (allowance - 1) → Here words at ((function_piece (Function.function p fs)).words to)
         → Seeks (begins_at place (placed (Function.function p fs) at to (record { bytes = bytes; span = around }))) (at + length ((to_lines p fs).words to)) r
     unfolding placed begins_at
     inside all p fs to bytes v h =
@@ -106,7 +107,7 @@ module _ {words : List ℕ} {place at : ℕ} {around own : Span} (s : (s : Sourc
         rw (ne_eqb place at z, b, ← d, ← j, ← own_here s p fs to h) (all.seeks fs to' (filled bytes p.source) v c g)
 
     -- the loop finds it before item i + 1
-    pub search_inside : {z : Span} → i < n → ((f : Function) → Valid f (allowance - 1) → Search words place own f b (Ok z)) → (f : Function) → Valid f allowance → Search words place around f at (Ok z)
+    pub search_inside : {z : SourceSpan} → i < n → ((f : Function) → Valid f (allowance - 1) → Search words place own f b (Ok z)) → (f : Function) → Valid f allowance → Search words place around f at (Ok z)
     search_inside {z} h one (Function.function p fs) v =
         let all : SearchAll words place own (allowance - 1) n q (Ok z) = loop_stop h l (λ m. search_next one m (Ok z) (λ y e. refl) (λ b e. absurd cc)) in
         record { seeks = λ to bytes h. by (begins_at place (placed (Function.function p fs) at to (record { bytes = bytes; span = around }))) _ _ (inside all p fs to bytes (valid_inside o p fs v) h) }

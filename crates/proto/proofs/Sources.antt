@@ -1,7 +1,6 @@
 -- Each function that function_at finds stands in the store, well formed, and its source stands where its span says. So source_at and source answer as defined.
-use Rattle.lent.proofs.Prelude.{ℕ, zero, suc, ◌+◌, ◌-◌, ◌≤◌, ◌<◌, ◌≡◌, refl, sym, ap, ◌∙◌, List, [], ◌∷◌, Bool, true, false, cond, none, some, arith, add-zero, length, take-length, eqb, eqb-true, eq-eqb, ne_eqb}
+use Rattle.lent.proofs.Prelude.{ℕ, zero, suc, ◌+◌, ◌-◌, ◌<◌, ◌≡◌, refl, sym, ap, ◌∙◌, List, [], ◌∷◌, Bool, true, false, cond, none, some, arith, add-zero, length, take-length, eqb, eqb-true}
 use Rattle.std.specs.Prelude.{Result, Ok, Err}
-use mir.Val.{bool_byte}
 use Rattle.lent.specs.Memory.{Every}
 use Rattle.lent.proofs.Lists.{every_append}
 use Rattle.format.specs.Tree.{Source, Parts, Function, Functions, count}
@@ -9,13 +8,16 @@ use Rattle.format.specs.Store.{word, source_piece, debug_piece, function_piece, 
 use Rattle.format.specs.Stored.{part, tree_of}
 use Rattle.format.specs.Undump.{name_ok}
 use Rattle.format.specs.Valid.{depth, Valid, ValidAll, Holds}
-use Rattle.format.specs.Dump.{on_tree}
+use Rattle.format.specs.Dump.{on_tree, name_refusal, store_refusal}
+use Rattle.format.specs.Refusal.{number}
+use Rattle.format.specs.declared.Refusal.{Refusal}
+use Rattle.format.proofs.Refusals.{refusal_above, name_good, by_name}
 use Rattle.format.proofs.Stored.{here_part, tree_holds, holds_tree}
-use Rattle.proto.specs.declared.place.Span.{Span}
+use Rattle.proto.specs.declared.place.SourceSpan.{SourceSpan}
+use Rattle.proto.specs.declared.place.SourceSpan.TheVariants.{Text, Name}
 use Rattle.proto.specs.declared.place.SourceAt.{SourceAt}
 use Rattle.proto.specs.Walk.{Stands, to_functions, to_lines}
-use Rattle.proto.specs.Formed.{is_held}
-use Rattle.proto.specs.Places.{Filled, filled_in, chunk_name, Placed, placed, placed_all, begins_at, function_at, Seeks, Search, on_function, on_place, place_refusal, no_source, span_answer, found_answer, source_answer, source_part}
+use Rattle.proto.specs.Places.{Filled, filled_in, chunk_name, Placed, placed, placed_all, begins_at, function_at, Seeks, Search, on_function, on_place, place_refusal, no_source, span_answer, source_result, found_answer, source_answer, source_part}
 use Rattle.proto.proofs.Pieces.{function_debug, stands_same, stands_left, stands_right}
 use Rattle.proto.proofs.Stores.{held_tree, no_tree}
 use Rattle.proto.proofs.Items.{source_stands}
@@ -23,21 +25,17 @@ use Rattle.proto.proofs.Calls.{root_stands}
 
 -- ---- what stands in a store
 
--- the bytes at a span
-abbrev pub at_span : List ℕ → List ℕ → Bool → ℕ → ℕ → List ℕ
-at_span text name in_text start end = cond in_text (part text start (end - start)) (part name start (end - start))
-
 -- a source stands where its span says
-pub record Sourced (text name : List ℕ) (s : Filled) : Type 0 where
-  pub ordered : s.span.start ≤ s.span.end
-  pub is : at_span text name s.span.in_text s.span.start s.span.end ≡ s.bytes
+abbrev pub Sourced : List ℕ → List ℕ → List ℕ → SourceSpan → Type 0
+Sourced text name source (Text start end) = part text start (end - start) ≡ source
+Sourced text name source (Name start end) = part name start (end - start) ≡ source
 
 -- a function that begins at a place stands there, with at most so many nested
 pub record StandsIn (words text name : List ℕ) (allowance : ℕ) (x : Placed) : Type 0 where
   pub to : ℕ
   pub stands : Stands words text x.place to (function_piece x.function)
   pub valid : Valid x.function allowance
-  pub sourced : Sourced text name x.source
+  pub sourced : Sourced text name x.source.bytes x.source.span
 
 -- a greater allowance does not harm
 mutual
@@ -51,15 +49,16 @@ mutual
   all_suc Functions.none n v = tt
   all_suc (Functions.more f fs) n v = (valid_suc f n v.0, all_suc fs n v.1)
 
-named_sourced : {text : List ℕ} (name : List ℕ) → Sourced text name (chunk_name name)
-named_sourced name = let e : length name - 0 ≡ length name = omega arith in record { ordered = omega arith; is = rw e (take-length name) }
+named_sourced : (text name : List ℕ) → Sourced text name name (Name 0 (length name))
+named_sourced text name = let e : length name - 0 ≡ length name = omega arith in rw e (take-length name)
 
 module _ {words text : List ℕ} (name : List ℕ) where
-  filled_sourced : {at to : ℕ} {around : Filled} (s : Source) → Stands words text at to (source_piece s) → Sourced text name around → Sourced text name (filled_in around to s)
-  filled_sourced Source.inherited h k = k
-  filled_sourced {to = to} (Source.own s) h k =
+  filled_sourced : {at to : ℕ} (around : Filled) (s : Source) → Stands words text at to (source_piece s) → Sourced text name around.bytes around.span
+      → Sourced text name (filled_in around to s).bytes (filled_in around to s).span
+  filled_sourced around Source.inherited h k = k
+  filled_sourced {to = to} around (Source.own s) h k =
       let e : to + length s - to ≡ length s = omega arith in
-      record { ordered = omega arith; is = rw e (here_part s h.in_text) }
+      rw e (here_part s h.in_text)
 
 -- where a function stands, the functions in it stand
 pub stands_children : {words text : List ℕ} {at to : ℕ} (p : Parts) (fs : Functions) → Stands words text at to (function_piece (Function.function p fs))
@@ -73,16 +72,16 @@ module _ {words text : List ℕ} (name : List ℕ) (allowance : ℕ) where
     unfolding placed Valid Every function_pieces
 
     placed_stands : (f : Function) (n at to : ℕ) (around : Filled) → Valid f n → ((g : Function) → Valid g n → Valid g allowance)
-        → Stands words text at to (function_piece f) → Sourced text name around → Every (StandsIn words text name allowance) (placed f at to around)
+        → Stands words text at to (function_piece f) → Sourced text name around.bytes around.span → Every (StandsIn words text name allowance) (placed f at to around)
     placed_stands (Function.function p fs) zero at to around v up h k = absurd v
     placed_stands (Function.function p fs) (suc n) at to around v up h k =
-        let j = filled_sourced name p.source (source_stands p fs h) k in (
+        let j = filled_sourced name around p.source (source_stands p fs h) k in (
           record { to = to; stands = h; valid = up (Function.function p fs) v; sourced = j },
           all_stand fs n _ _ _ v.2 (λ g w. up g (valid_suc g n w)) (stands_children p fs h) j,
         )
 
     all_stand : (fs : Functions) (n at to : ℕ) (around : Filled) → ValidAll fs n → ((g : Function) → Valid g n → Valid g allowance)
-        → Stands words text at to (function_pieces fs) → Sourced text name around → Every (StandsIn words text name allowance) (placed_all fs at to around)
+        → Stands words text at to (function_pieces fs) → Sourced text name around.bytes around.span → Every (StandsIn words text name allowance) (placed_all fs at to around)
     all_stand Functions.none n at to around v up h k = tt
     all_stand (Functions.more f fs) n at to around v up h k =
         every_append (StandsIn words text name allowance) (placed f at to around) _
@@ -101,21 +100,13 @@ begins_every P place (y ∷ l) x h e =
 -- ==== the statement: where function_at finds a function, it stands there
 
 pub function_stands : {words text : List ℕ} (name : List ℕ) {f : Function} (place : ℕ) (x : Placed) → Holds words text f → function_at f name place ≡ some x → StandsIn words text name depth x × (x.place ≡ place)
-function_stands name {f} place x h e =
-    begins_every _ place (placed f 0 0 (chunk_name name)) x (placed_stands name depth f depth 0 0 (chunk_name name) h.valid (λ g v. v) (root_stands h) (named_sourced name)) e
+function_stands {text = text} name {f} place x h e =
+    begins_every _ place (placed f 0 0 (chunk_name name)) x (placed_stands name depth f depth 0 0 (chunk_name name) h.valid (λ g v. v) (root_stands h) (named_sourced text name)) e
 
 -- ---- the calls
 
-pub bool_bit : (b : Bool) → bool_byte b ≡ cond b 1 0
-bool_bit true = refl
-bool_bit false = refl
-
-bit_is : (b : Bool) → eqb (cond b 1 0) 1 ≡ b
-bit_is true = refl
-bit_is false = refl
-
 -- the answer for what the search finds
-abbrev pub sought_answer : Result Span ℕ → SourceAt
+abbrev pub sought_answer : Result SourceSpan ℕ → SourceAt
 sought_answer (Ok z) = span_answer z
 sought_answer (Err behind) = no_source 12
 
@@ -134,16 +125,17 @@ called_by words text name place {P} refused found = (elim (tree_of words text) a
   ]) refl
 ]) refl
 
-module _ (words text name : List ℕ) (place : ℕ) {b : Bool} (h : b ≡ is_held (tree_of words text)) where
-  pub find_10 : b ≡ false → no_source 10 ≡ found_answer words text name place
+module _ (words text name : List ℕ) (place : ℕ) where
+  pub find_refused : (e : Refusal) → number e ≡ store_refusal words text → no_source (number e) ≡ found_answer words text name place
   unfolding found_answer
-  find_10 e = no_tree words text (λ t. no_source 10 ≡ on_tree no_source (λ f. on_function no_source (λ x. span_answer x.source.span) (function_at f name place)) t) (sym h ∙ e) refl
+  find_refused e h =
+      no_tree words text (λ t. no_source (number e) ≡ on_tree no_source (λ f. on_function no_source (λ x. span_answer x.source.span) (function_at f name place)) t) (refusal_above e) h (λ k. rw k)
 
   -- what the search finds
-  pub find_sought : {r : Result Span ℕ} → b ≡ true → ((f : Function) → Valid f depth → Search words place (chunk_name name).span f 0 r) → sought_answer r ≡ found_answer words text name place
+  pub find_sought : {r : Result SourceSpan ℕ} → 0 ≡ store_refusal words text → ((f : Function) → Valid f depth → Search words place (chunk_name name).span f 0 r) → sought_answer r ≡ found_answer words text name place
   unfolding found_answer
   find_sought {r} e s =
-      held_tree words text (λ t. sought_answer r ≡ on_tree no_source (λ f. on_function no_source (λ x. span_answer x.source.span) (function_at f name place)) t) (sym h ∙ e)
+      held_tree words text (λ t. sought_answer r ≡ on_tree no_source (λ f. on_function no_source (λ x. span_answer x.source.span) (function_at f name place)) t) e
       (λ f t.
       (elim (function_at f name place) as (λ o. Seeks o (0 + length ((function_piece f).words 0)) r → sought_answer r ≡ on_function no_source (λ x. span_answer x.source.span) o) [
         | none ↦ λ k. rw k
@@ -151,16 +143,24 @@ module _ (words text name : List ℕ) (place : ℕ) {b : Bool} (h : b ≡ is_hel
       ])
       ((s f t.valid).seeks 0 name (root_stands t).in_words))
 
+span_0 : (z : SourceSpan) → (span_answer z).refusal ≡ 0
+span_0 (Text a b) = refl
+span_0 (Name a b) = refl
+
 -- the refusal of a call on a place
 place_found : (words text : List ℕ) (place : ℕ) → (found_answer words text [] place).refusal ≡ place_refusal words text place
 unfolding found_answer place_refusal
 place_found words text place =
     called_by words text [] place
     (λ n h k. rw (k SourceAt no_source (λ x. span_answer x.source.span), k ℕ (λ n. n) (λ x. 0)))
-    (λ f x h b. rw (holds_tree h, b))
+    (λ f x h b. rw (holds_tree h, b) (span_0 x.source.span))
 
-pub place_refused : (words text : List ℕ) (place : ℕ) {a : SourceAt} → a ≡ found_answer words text [] place → a.refusal ≡ place_refusal words text place
-place_refused words text place e = ap (λ a. a.refusal) e ∙ place_found words text place
+-- of what was found, or is refused
+pub place_here : (words text : List ℕ) (place : ℕ) (z : SourceSpan) → span_answer z ≡ found_answer words text [] place → 0 ≡ place_refusal words text place
+place_here words text place z e = sym (span_0 z) ∙ ap (λ (a : SourceAt). a.refusal) e ∙ place_found words text place
+
+pub place_refused : (words text : List ℕ) (place : ℕ) (n : ℕ) → no_source n ≡ found_answer words text [] place → n ≡ place_refusal words text place
+place_refused words text place n e = ap (λ (a : SourceAt). a.refusal) e ∙ place_found words text place
 
 -- what a call on the function at a place finds, where it is not refused
 pub record On (words text : List ℕ) (place : ℕ) : Type 0 where
@@ -188,36 +188,44 @@ module _ {A : Type 0} (refuse : ℕ → A) (answer : Placed → A) where
   unfolding place_refusal
   on_refused words text place = on_related (λ a n. (n ≡ 0 → ⊥) → a ≡ refuse n) refuse (λ n. n) answer (λ x. 0) words text place (λ n h z. refl) (λ o z. absurd (z refl))
 
-module _ (words text name : List ℕ) (place : ℕ) where
-  module _ {n : Bool} (k : n ≡ name_ok name) where
-    pub source_1 : n ≡ false → no_source 1 ≡ source_answer words text name place
-    unfolding source_answer
-    source_1 e = rw (sym k ∙ e)
+-- where a source stands, or none
+abbrev pub Gives : List ℕ → List ℕ → List ℕ → Result SourceSpan Refusal → Type 0
+Gives text name source (Ok z) = Sourced text name source z
+Gives text name source (Err e) = [] ≡ source
 
-    pub source_found : {a : SourceAt} → n ≡ true → a ≡ found_answer words text name place → a ≡ source_answer words text name place
-    unfolding source_answer
-    source_found e q = q ∙ rw (sym k ∙ e)
+span_same : (z s : SourceSpan) → span_answer z ≡ span_answer s → z ≡ s
+span_same (Text a b) (Text c d) e = let i : a ≡ c = ap (λ (x : SourceAt). x.start) e in let j : b ≡ d = ap (λ (x : SourceAt). x.end) e in rw (i, j)
+span_same (Name a b) (Name c d) e = let i : a ≡ c = ap (λ (x : SourceAt). x.start) e in let j : b ≡ d = ap (λ (x : SourceAt). x.end) e in rw (i, j)
+span_same (Text a b) (Name c d) e = let i : 1 ≡ 0 = ap (λ (x : SourceAt). x.in_text) e in absurd (omega (arith, i))
+span_same (Name a b) (Text c d) e = let i : 0 ≡ 1 = ap (λ (x : SourceAt). x.in_text) e in absurd (omega (arith, i))
+
+module _ (words text name : List ℕ) (place : ℕ) where
+  pub name_refused : (e : Refusal) → number e ≡ name_refusal name → no_source (number e) ≡ source_answer words text name place
+  unfolding source_answer
+  name_refused e h = by_name name no_source _ (refusal_above e) h
+
+  pub source_found : {a : SourceAt} → 0 ≡ name_refusal name → a ≡ found_answer words text name place → a ≡ source_answer words text name place
+  unfolding source_answer
+  source_found e q = q ∙ rw (name_good name e)
 
   -- what source_at answers leads to what source gives
-  source_part_law : (a : SourceAt) → a ≡ source_answer words text name place
-      → (a.start ≤ a.end) × (at_span text name (eqb a.in_text 1) a.start a.end ≡ source_part words text name place)
+  pub source_part_law : (r : Result SourceSpan Refusal) → source_result r ≡ source_answer words text name place → Gives text name (source_part words text name place) r
   unfolding found_answer source_answer source_part
-  source_part_law a e = rw e (by_name (name_ok name))
+  source_part_law r = by_name (name_ok name)
     where
-      by_name : (b : Bool) → let a = cond b (called no_source (λ x. span_answer x.source.span) words text name place) (no_source 1) in
-          (a.start ≤ a.end) × (at_span text name (eqb a.in_text 1) a.start a.end ≡ cond b (called (λ n. []) (λ x. x.source.bytes) words text name place) [])
-      by_name false = (omega arith, refl)
-      by_name true =
+      none : (r : Result SourceSpan Refusal) (n : ℕ) → 0 < n → source_result r ≡ no_source n → Gives text name [] r
+      none (Ok (Text a b)) n l e = let i : 0 ≡ n = ap (λ (x : SourceAt). x.refusal) e in absurd (omega (arith, i))
+      none (Ok (Name a b)) n l e = let i : 0 ≡ n = ap (λ (x : SourceAt). x.refusal) e in absurd (omega (arith, i))
+      none (Err x) n l e = refl
+
+      there : (r : Result SourceSpan Refusal) (x : Filled) → Sourced text name x.bytes x.span → source_result r ≡ span_answer x.span → Gives text name x.bytes r
+      there (Ok z) x k e = rw (span_same z x.span e) k
+      there (Err u) x k e = let i : number u ≡ (span_answer x.span).refusal = ap (λ (x : SourceAt). x.refusal) e in absurd (omega (arith, refusal_above u, i, span_0 x.span))
+
+      by_name : (b : Bool) → source_result r ≡ cond b (called no_source (λ x. span_answer x.source.span) words text name place) (no_source 1)
+          → Gives text name (cond b (called (λ n. []) (λ x. x.source.bytes) words text name place) []) r
+      by_name false e = none r 1 (omega arith) e
+      by_name true e =
           called_by words text name place
-          (λ n h k. rw (k SourceAt no_source (λ x. span_answer x.source.span), k (List ℕ) (λ n. []) (λ x. x.source.bytes)) (omega arith, refl))
-          (λ f x h b. let s = (function_stands name place x h b).0.sourced in rw (holds_tree h, b, bit_is x.source.span.in_text) (s.ordered, s.is))
-
-  module _ {a : SourceAt} (e : a ≡ source_answer words text name place) where
-    pub source_ordered : a.start ≤ a.end
-    source_ordered = (source_part_law a e).0
-
-    pub source_text : {r : List ℕ} → a.in_text ≡ 1 → r ≡ part text a.start (a.end - a.start) → r ≡ source_part words text name place
-    source_text i q = q ∙ rw (eq-eqb _ _ i) at (source_part_law a e).1
-
-    pub source_name : {r : List ℕ} → (a.in_text ≡ 1 → ⊥) → r ≡ part name a.start (a.end - a.start) → r ≡ source_part words text name place
-    source_name i q = q ∙ rw (ne_eqb _ _ i) at (source_part_law a e).1
+          (λ n h k. rw (k (List ℕ) (λ n. []) (λ x. x.source.bytes)) (none r n h (e ∙ k SourceAt no_source (λ x. span_answer x.source.span))))
+          (λ f x h b. rw (holds_tree h, b) (there r x.source (function_stands name place x h b).0.sourced (e ∙ rw (holds_tree h, b))))

@@ -1,5 +1,5 @@
 -- What the check of each part of a function finds, and of a whole store: it holds where, and only where, the store holds a tree.
-use Rattle.lent.proofs.Prelude.{zero-add, ℕ, zero, suc, zero-le, ◌+◌, ◌-◌, ◌*◌, ◌/◌, ◌%◌, ◌≤◌, ◌≡◌, refl, sym, ap, ◌∙◌, List, [], ◌∷◌, Bool, true, false, cond, Option, none, some, arith, ℕ_discrete, length, get_or, eqb, eq-eqb, ne_eqb}
+use Rattle.lent.proofs.Prelude.{zero-add, ℕ, zero, suc, zero-le, ◌+◌, ◌-◌, ◌*◌, ◌/◌, ◌%◌, ◌≤◌, ◌<◌, ◌≡◌, refl, sym, ap, ◌∙◌, List, [], ◌∷◌, Bool, true, false, cond, Option, none, some, arith, ℕ_discrete, length, get_or, eqb, eq-eqb, ne_eqb}
 use Rattle.std.specs.Prelude.{Option as Answer, Some, None, ◌&&◌}
 use Rattle.std.specs.Option.{option_eq}
 use Rattle.std.proofs.lemmas.Option.{same_Some}
@@ -7,15 +7,16 @@ use Rattle.lent.specs.Memory.{Every, Word, Bytes}
 use Rattle.format.specs.Tree.{Constant, Source, Debug, Parts, Function, Functions, count}
 use Rattle.format.specs.Store.{word, string, pieces, list, ints, source_piece, constant_piece, local_piece, debug_piece, packed, function_piece, function_pieces, words_of, text_of, children_piece}
 use Rattle.format.specs.Stored.{tree_of}
+use Rattle.format.specs.Dump.{on_tree, store_refusal}
 use Rattle.format.specs.Valid.{depth, most, Name, ValidSource, ValidConstant, ValidLocal, ValidList, ValidDebug, ValidParts, Valid, ValidAll, Holds}
 use Rattle.format.proofs.Stored.{holds_tree, tree_holds}
 use Rattle.proto.specs.declared.formed.Reached.{Reached}
 use Rattle.proto.specs.Walk.{Stands, children}
-use Rattle.proto.specs.Formed.{is_held, behind, Both, beside, Check, Within, three, Three, ValidChildren}
+use Rattle.proto.specs.Formed.{behind, Both, beside, Check, Within, three, Three, ValidChildren}
 use Rattle.proto.proofs.Sublists.{here_get, here_whole, whole_here}
 use Rattle.proto.proofs.Pieces.{same_refl, same_is}
 use Rattle.proto.proofs.Walks.{none_deep}
-use Rattle.proto.proofs.Checks.{never, no_answer, As, check_wrong, check_as, check_of}
+use Rattle.proto.proofs.Checks.{no_answer, As, check_wrong, check_as, check_of}
 
 -- the first word of a constant
 abbrev kind_of : Constant → ℕ
@@ -261,16 +262,16 @@ module _ {words text : List ℕ} where
 
 -- what is shown of every tree that the store holds, or of none, is shown of tree_of
 module _ (words text : List ℕ) where
-  pub held_tree : (P : Option Function → Type 0) → is_held (tree_of words text) ≡ true → ((f : Function) → Holds words text f → P (some f)) → P (tree_of words text)
+  pub held_tree : (P : Option Function → Type 0) → 0 ≡ store_refusal words text → ((f : Function) → Holds words text f → P (some f)) → P (tree_of words text)
   held_tree P h k =
-      (elim (tree_of words text) as (λ x. tree_of words text ≡ x → is_held x ≡ true → P x) [ none ↦ λ e h. absurd (never h refl) | some f ↦ λ e h. k f (tree_holds words text f e) ]) refl h
+      (elim (tree_of words text) as (λ x. tree_of words text ≡ x → 0 ≡ on_tree (λ n. n) (λ f. 0) x → P x) [ none ↦ λ e h. absurd (omega (arith, h)) | some f ↦ λ e h. k f (tree_holds words text f e) ]) refl h
 
-  pub no_tree : (P : Option Function → Type 0) → is_held (tree_of words text) ≡ false → P none → P (tree_of words text)
-  no_tree P h k = (elim (tree_of words text) as (λ x. is_held x ≡ false → P x) [ none ↦ λ h. k | some f ↦ λ h. absurd (never refl h) ]) h
+  pub no_tree : {n : ℕ} (P : Option Function → Type 0) → 0 < n → n ≡ store_refusal words text → (n ≡ 10 → P none) → P (tree_of words text)
+  no_tree {n} P l h k = (elim (tree_of words text) as (λ x. n ≡ on_tree (λ m. m) (λ f. 0) x → P x) [ none ↦ k | some f ↦ λ h. absurd (omega (arith, h)) ]) h
 
-pub held_no : (words text : List ℕ) → ((f : Function) → Holds words text f → ⊥) → false ≡ is_held (tree_of words text)
+pub held_no : (words text : List ℕ) → ((f : Function) → Holds words text f → ⊥) → 10 ≡ store_refusal words text
 held_no words text k =
-    (elim (tree_of words text) as (λ x. tree_of words text ≡ x → false ≡ is_held x) [ none ↦ λ e. refl | some f ↦ λ e. absurd (k f (tree_holds words text f e)) ]) refl
+    (elim (tree_of words text) as (λ x. tree_of words text ≡ x → 10 ≡ on_tree (λ n. n) (λ f. 0) x) [ none ↦ λ e. refl | some f ↦ λ e. absurd (k f (tree_holds words text f e)) ]) refl
 
 module _ {words text : List ℕ} {r : Answer Reached} (c : Check words text (λ f. Valid f depth) function_piece (record { at = 0; to = 0 }) r) where
   -- what holds a tree is passed to its end
@@ -279,7 +280,7 @@ module _ {words text : List ℕ} {r : Answer Reached} (c : Check words text (λ 
       c.complete f h.valid (record { in_words = whole_here (words_of f) words h.words_are; in_text = whole_here (text_of f) text h.text_is }) ∙ rw (h.words_are, h.text_is, zero-add (length words), zero-add (length text))
 
   -- what is passed to its end holds a tree
-  pub store_held : r ≡ Some (record { at = length words; to = length text }) → length words ≤ most → length text ≤ most → true ≡ is_held (tree_of words text)
+  pub store_held : r ≡ Some (record { at = length words; to = length text }) → length words ≤ most → length text ≤ most → 0 ≡ store_refusal words text
   store_held o k l =
       let x = c.sound _ o in
       let p : record { at = length words; to = length text } ≡ behind (function_piece x.value) (record { at = 0; to = 0 }) = same_Some _ _ (sym o ∙ c.complete x.value x.valid x.stands) in
@@ -289,22 +290,29 @@ module _ {words text : List ℕ} {r : Answer Reached} (c : Check words text (λ 
       let t : text_of x.value ≡ text = here_whole text (text_of x.value) x.stands.in_text (omega arith) in
       rw (holds_tree (record { valid = x.valid; words_are = w; text_is = t; words_fit = k; text_fits = l }))
 
-  pub store_no : (r ≡ Some (record { at = length words; to = length text }) → ⊥) → false ≡ is_held (tree_of words text)
+  pub store_no : (r ≡ Some (record { at = length words; to = length text }) → ⊥) → 10 ≡ store_refusal words text
   store_no n = held_no words text (λ f h. n (store_passed f h))
 
-  -- the answer of the test that it is passed to its end, by a test of places
-  pub store_answer : {b : Bool} (E : Reached → Reached → Bool) → ((x y : Reached) → E x y ≡ (eqb x.at y.at && eqb x.to y.to)) → b ≡ option_eq E r (Some (record { at = length words; to = length text }))
-      → length words ≤ most → length text ≤ most → b ≡ is_held (tree_of words text)
-  store_answer E d e k l = e ∙ go r refl
-    where
-      go : (x : Answer Reached) → r ≡ x → option_eq E x (Some (record { at = length words; to = length text })) ≡ is_held (tree_of words text)
-      go None h = store_no (λ z. no_answer (sym h ∙ z))
-      go (Some q) h =
-          rw d
-          (elim (ℕ_discrete q.at (length words)) [
-            | no a ↦ rw (ne_eqb q.at (length words) a) (store_no (λ z. a (ap (λ p. p.at) (same_Some _ _ (sym h ∙ z)))))
-            | yes a ↦ elim (ℕ_discrete q.to (length text)) [
-              | no t ↦ rw (eq-eqb q.at (length words) a, ne_eqb q.to (length text) t) (store_no (λ z. t (ap (λ p. p.to) (same_Some _ _ (sym h ∙ z)))))
-              | yes t ↦ rw (eq-eqb q.at (length words) a, eq-eqb q.to (length text) t) (store_held (h ∙ rw (a, t)) k l)
-            ]
-          ])
+  -- the test that it is passed to its end, by a test of places
+  module _ {b : Bool} (E : Reached → Reached → Bool) (d : (x y : Reached) → E x y ≡ (eqb x.at y.at && eqb x.to y.to)) (e : b ≡ option_eq E r (Some (record { at = length words; to = length text })))
+      (k : length words ≤ most) (l : length text ≤ most) where
+    store_answer : cond b 0 10 ≡ store_refusal words text
+    store_answer = rw e (go r refl)
+      where
+        go : (x : Answer Reached) → r ≡ x → cond (option_eq E x (Some (record { at = length words; to = length text }))) 0 10 ≡ store_refusal words text
+        go None h = store_no (λ z. no_answer (sym h ∙ z))
+        go (Some q) h =
+            rw d
+            (elim (ℕ_discrete q.at (length words)) [
+              | no a ↦ rw (ne_eqb q.at (length words) a) (store_no (λ z. a (ap (λ p. p.at) (same_Some _ _ (sym h ∙ z)))))
+              | yes a ↦ elim (ℕ_discrete q.to (length text)) [
+                | no t ↦ rw (eq-eqb q.at (length words) a, ne_eqb q.to (length text) t) (store_no (λ z. t (ap (λ p. p.to) (same_Some _ _ (sym h ∙ z)))))
+                | yes t ↦ rw (eq-eqb q.at (length words) a, eq-eqb q.to (length text) t) (store_held (h ∙ rw (a, t)) k l)
+              ]
+            ])
+
+    pub passed_0 : b ≡ true → 0 ≡ store_refusal words text
+    passed_0 h = rw h at store_answer
+
+    pub passed_10 : b ≡ false → 10 ≡ store_refusal words text
+    passed_10 h = rw h at store_answer

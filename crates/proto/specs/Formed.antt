@@ -1,17 +1,11 @@
 -- Whether a store is well formed, and what a step of the check answers.
 use Rattle.std.specs.Prelude.{ℕ, ◌+◌, ◌-◌, ◌≤◌, ◌≡◌, List, [], ◌∷◌, Bool, true, false, Option as Answer, Some, length}
-use Rattle.std.proofs.Math.Option.{Option, none, some}
-use Rattle.format.specs.Tree.{Function, Functions, count}
+use Rattle.format.specs.Tree.{Functions, count}
 use Rattle.format.specs.Read.{limit}
 use Rattle.format.specs.Store.{Piece, ◌⊕◌, plain}
 use Rattle.format.specs.Valid.{ValidAll}
 use Rattle.proto.specs.Walk.{Stands}
 use Rattle.proto.specs.declared.formed.Reached.{Reached}
-
--- whether there is a tree
-abbrev pub is_held : Option Function → Bool
-is_held none = false
-is_held (some f) = true
 
 -- ---- a step of the check
 

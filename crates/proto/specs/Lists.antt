@@ -1,30 +1,35 @@
 -- Where the lists of a function stand.
 use Rattle.std.specs.Prelude.{ℕ, suc, ◌≡◌, List, Option, None, Some, get_or}
 use Rattle.format.specs.Tree.{Parts, Functions}
-use Rattle.format.specs.Store.{list, ints, string, constant_piece, local_piece, children_piece}
+use Rattle.format.specs.Store.{Piece, list, ints, string, constant_piece, local_piece, children_piece}
 use Rattle.format.specs.Valid.{ValidAll}
 use Rattle.proto.specs.Walk.{StandsAt, Past, Passes, total_all, to_code, to_constants, to_functions, to_lines, to_locals, to_upvalues}
 use Rattle.proto.specs.declared.lists.Lists.{Lists}
 use Rattle.proto.specs.declared.lists.Kept.{Kept}
+use Rattle.proto.specs.declared.store.Store.{Store}
 use Rattle.proto.specs.declared.walk.Next.{Next}
 
+-- the piece stands at a place of the store
+abbrev pub StandsIn : Store → ℕ → Piece → Type 0
+StandsIn s at p = StandsAt s.words.now s.text.now at p
+
 -- the lists of a function stand at their places
-pub record ListsAt (words text : List ℕ) (l : Lists) (p : Parts) (fs : Functions) : Type 0 where
-  pub code : StandsAt words text l.code (ints p.code)
-  pub constants : StandsAt words text l.constants (list constant_piece p.constants)
-  pub functions : StandsAt words text l.functions (children_piece fs)
-  pub lines : StandsAt words text l.lines (ints p.debug.lines)
-  pub locals : StandsAt words text l.locals (list local_piece p.debug.locals)
-  pub upvalues : StandsAt words text l.upvalues (list string p.debug.upvalues)
+pub record ListsAt (l : Lists) (p : Parts) (fs : Functions) : Type 0 where
+  pub code : StandsIn l.store l.code (ints p.code)
+  pub constants : StandsIn l.store l.constants (list constant_piece p.constants)
+  pub functions : StandsIn l.store l.functions (children_piece fs)
+  pub lines : StandsIn l.store l.lines (ints p.debug.lines)
+  pub locals : StandsIn l.store l.locals (list local_piece p.debug.locals)
+  pub upvalues : StandsIn l.store l.upvalues (list string p.debug.upvalues)
 
 -- where a function stands at a place, these are the places of its lists
-pub record ListsFound (words : List ℕ) (at : ℕ) (p : Parts) (fs : Functions) (l : Lists) : Type 0 where
-  pub code : Past words (to_code p fs) at l.code
-  pub constants : Past words (to_constants p fs) at l.constants
-  pub functions : Past words (to_functions p fs) at l.functions
-  pub lines : Past words (to_lines p fs) at l.lines
-  pub locals : Past words (to_locals p fs) at l.locals
-  pub upvalues : Past words (to_upvalues p fs) at l.upvalues
+pub record ListsFound (at : ℕ) (p : Parts) (fs : Functions) (l : Lists) : Type 0 where
+  pub code : Past l.store.words.now (to_code p fs) at l.code
+  pub constants : Past l.store.words.now (to_constants p fs) at l.constants
+  pub functions : Past l.store.words.now (to_functions p fs) at l.functions
+  pub lines : Past l.store.words.now (to_lines p fs) at l.lines
+  pub locals : Past l.store.words.now (to_locals p fs) at l.locals
+  pub upvalues : Past l.store.words.now (to_upvalues p fs) at l.upvalues
 
 -- ---- the lines, behind the functions
 

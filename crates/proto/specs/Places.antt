@@ -1,5 +1,5 @@
 -- The functions of a tree in its store: where each begins, and its source.
-use Rattle.std.specs.Prelude.{ℕ, ◌+◌, ◌≡◌, List, [], ◌∷◌, ◌++◌, true, false, cond, length, eqb, Result, Ok, Err}
+use Rattle.std.specs.Prelude.{ℕ, ◌+◌, ◌≡◌, List, [], ◌∷◌, ◌++◌, cond, length, eqb, Result, Ok, Err}
 use Rattle.std.proofs.Math.Option.{Option, none, some}
 use Rattle.format.specs.Tree.{Source, Function, Functions, filled}
 use Rattle.format.specs.Store.{function_piece}
@@ -8,27 +8,28 @@ use Rattle.format.specs.Dump.{under_name, on_tree}
 use Rattle.format.specs.Refusal.{number}
 use Rattle.format.specs.declared.Refusal.{Refusal}
 use Rattle.proto.specs.Walk.{to_functions}
-use Rattle.proto.specs.declared.place.Span.{Span}
+use Rattle.proto.specs.declared.place.SourceSpan.{SourceSpan}
+use Rattle.proto.specs.declared.place.SourceSpan.TheVariants.{Text, Name}
 use Rattle.proto.specs.declared.place.SourceAt.{SourceAt}
 
 -- ---- sources
 
 -- where a function's source stands, its text being at a place: the one around it where it is inherited
-abbrev pub span_of : Span → ℕ → Source → Span
+abbrev pub span_of : SourceSpan → ℕ → Source → SourceSpan
 span_of around to Source.inherited = around
-span_of around to (Source.own s) = record { in_text = true; start = to; end = to + length s }
+span_of around to (Source.own s) = Text to (to + length s)
 
 -- a source filled in: its bytes, and where they stand
 pub record Filled : Type 0 where
   pub bytes : List ℕ
-  pub span : Span
+  pub span : SourceSpan
 
 abbrev pub filled_in : Filled → ℕ → Source → Filled
 filled_in around to s = record { bytes = filled around.bytes s; span = span_of around.span to s }
 
 -- the chunk name, for which the root's stands where it is inherited
 abbrev pub chunk_name : List ℕ → Filled
-chunk_name name = record { bytes = name; span = record { in_text = false; start = 0; end = length name } }
+chunk_name name = record { bytes = name; span = Name 0 (length name) }
 
 -- ---- functions in preorder, each with the place where it begins
 
@@ -61,11 +62,11 @@ function_at f name place = begins_at place (placed f 0 0 (chunk_name name))
 -- ---- the search
 
 -- what it answers: where the function's source stands, or else the place behind those searched
-abbrev pub Seeks : Option Placed → ℕ → Result Span ℕ → Type 0
+abbrev pub Seeks : Option Placed → ℕ → Result SourceSpan ℕ → Type 0
 Seeks none end r = r ≡ Err end
 Seeks (some x) end r = r ≡ Ok x.source.span
 
-pub record Search (words : List ℕ) (place : ℕ) (around : Span) (f : Function) (at : ℕ) (r : Result Span ℕ) : Type 0 where
+pub record Search (words : List ℕ) (place : ℕ) (around : SourceSpan) (f : Function) (at : ℕ) (r : Result SourceSpan ℕ) : Type 0 where
   pub seeks : (to : ℕ) (bytes : List ℕ) → Here words at ((function_piece f).words to)
       → Seeks (begins_at place (placed f at to (record { bytes = bytes; span = around }))) (at + length ((function_piece f).words to)) r
 
@@ -87,11 +88,12 @@ place_refusal words text place = on_place (λ n. n) (λ x. 0) words text place
 abbrev pub no_source : ℕ → SourceAt
 no_source n = record { refusal = n; in_text = 0; start = 0; end = 0 }
 
-abbrev pub span_answer : Span → SourceAt
-span_answer z = record { refusal = 0; in_text = cond z.in_text 1 0; start = z.start; end = z.end }
+abbrev pub span_answer : SourceSpan → SourceAt
+span_answer (Text start end) = record { refusal = 0; in_text = 1; start = start; end = end }
+span_answer (Name start end) = record { refusal = 0; in_text = 0; start = start; end = end }
 
 -- the answer of a call that finds a source or is refused
-abbrev pub source_result : Result Span Refusal → SourceAt
+abbrev pub source_result : Result SourceSpan Refusal → SourceAt
 source_result (Ok z) = span_answer z
 source_result (Err e) = no_source (number e)
 

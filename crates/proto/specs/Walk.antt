@@ -1,5 +1,5 @@
 -- Where the pieces of a tree stand in a store, and which place is behind them.
-use Rattle.std.specs.Prelude.{ℕ, zero, suc, ◌+◌, ◌*◌, ◌≤◌, min, ◌≡◌, List, [], ◌∷◌, length}
+use Rattle.std.specs.Prelude.{ℕ, zero, suc, ◌+◌, ◌*◌, ◌≤◌, ◌<◌, min, ◌≡◌, List, [], ◌∷◌, length, get_or, Option as Answer, Some, None}
 use Rattle.std.proofs.Math.Option.{Option, none, some}
 use Rattle.lent.specs.Memory.{far}
 use Rattle.format.specs.Tree.{Parts, Function, Functions, count}
@@ -31,6 +31,11 @@ pub record Skips (words : List ℕ) (n at r : ℕ) : Type 0 where
 -- where a count stands, and as many items of k words, r is behind them
 pub record SkipsItems (words : List ℕ) (k at r : ℕ) : Type 0 where
   pub skips : (n : ℕ) (l : List ℕ) → length l ≡ k * n → Here words at (n ∷ l) → r ≡ at + (1 + k * n)
+
+-- item i of the list at a place, whose items have k words, begins at r, and with none there are no more than i
+abbrev pub NthAt : List ℕ → ℕ → ℕ → ℕ → Answer ℕ → Type 0
+NthAt words list k i None = get_or words list 0 ≤ i
+NthAt words list k i (Some r) = (i < get_or words list 0) × Skips words (1 + k * i) list r
 
 -- where the piece stands, r is behind it
 pub record Past (words : List ℕ) (p : Piece) (at r : ℕ) : Type 0 where

@@ -1,59 +1,57 @@
-// The functions in a function, looked up by index. The one found last is kept, so that those asked for in order cost one walk.
-// Where no function stands at the place asked the answer is open, since the calls check the store first.
-ghost use Rattle.std.specs.Prelude.{◌≡◌, ℕ, ◌≤◌};
-ghost use Rattle.proto.specs.Children.{ChildAt};
+// The functions in a function, looked up by index. Where none stand at the place asked the answer is open, since the calls check the store first.
+ghost use Rattle.std.specs.Prelude.{◌≡◌, ◌≤◌, ◌<◌, MatchOption};
+ghost use Rattle.proto.specs.Children.{counted, ChildAt};
 
-use crate::walk::{Next, pass_all, skip};
+use crate::walk::{Next, first_in, pass_all, word_at};
 
-// A function in a function: its index, the place where it begins, and its number in preorder. Place and number are no Next, as all who hold a child read them; so the fields are copied.
+// The functions in a function: the words, the place of their list, the function's number in preorder, and how many are nested in each at most.
 #[derive(Clone, Copy)]
-pub struct Child {
-    pub index: u32,
-    pub at: usize,
+pub struct Children<'a> {
+    pub words: &'a [u32],
+    pub list: usize,
     pub number: usize,
+    pub allowance: u32,
 }
 
-// The first one of the list at a place, in the function with a number.
-pub fn first_child(words: &[u32], functions: usize, number: usize) -> Child
-    ensures { (result.index ≡ 0) × ((allowance : ℕ) → ChildAt words.now functions number allowance result) }
-{
-    Child {
-        index: 0,
-        at: skip(words, functions, 1),
-        number: number.saturating_add(1),
+impl<'a> Children<'a> {
+    // To look them up by index, from the first on.
+    #[tactic(auto, using(crate::proofs::Children::child_first))]
+    pub fn by_index(self) -> ByIndex<'a>
+        ensures { (result.of ≡ self.entry) × (result.index ≡ 0) }
+    {
+        ByIndex {
+            of: self,
+            index: 0,
+            next: first_in(self.words, self.list, self.number),
+        }
     }
 }
 
-// The one to start from on the way to index i: the one kept, or the first where i is before it.
-fn start_child(words: &[u32], functions: usize, number: usize, kept: Child, i: u32) -> Child
-    ensures { (result.index ≤ i) × ((allowance : ℕ) → ChildAt words.now functions number allowance kept → ChildAt words.now functions number allowance result) }
-{
-    if kept.index <= i {
-        return kept;
-    }
-    first_child(words, functions, number)
+// Those functions by index. The one found last is kept, so that those asked for in order cost one walk.
+#[derive(Clone, Copy)]
+pub struct ByIndex<'a> {
+    pub of: Children<'a>,
+    pub index: u32,
+    pub next: Next,
+    pub ghost kept: { ChildAt of index next },
 }
 
-// The one with index i, found from the one kept.
-pub fn child_at(
-    words: &[u32],
-    functions: usize,
-    number: usize,
-    kept: Child,
-    i: u32,
-    allowance: u32,
-) -> Child
-    ensures { (result.index ≡ i) × (ChildAt words.now functions number allowance kept → ChildAt words.now functions number allowance result) }
-{
-    let from = start_child(words, functions, number, kept, i);
-    let start = Next {
-        at: from.at,
-        number: from.number,
-    };
-    let r = pass_all(words, start, i - from.index, allowance);
-    Child {
-        index: i,
-        at: r.at,
-        number: r.number,
+impl ByIndex<'_> {
+    // Where the one with index i begins, and its number; nothing where there is none.
+    #[tactic(auto, using(crate::proofs::Children::child_further))]
+    pub fn get(&mut self, i: u32) -> Option<Next>
+        ensures of { self.new.of ≡ self.old.of }
+        ensures found { MatchOption result (counted self.old.of ≤ i) (λ n. (i < counted self.old.of) × ChildAt self.old.of i n) }
+    {
+        let of = self.of;
+        if word_at(of.words, of.list) <= i {
+            return None;
+        }
+        if i < self.index {
+            *self = of.by_index();
+        }
+        self.next = pass_all(of.words, self.next, i - self.index, of.allowance);
+        self.index = i;
+        Some(self.next)
     }
 }

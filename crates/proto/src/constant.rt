@@ -1,7 +1,13 @@
 // The constants of a store. Where none stands at the place asked the answer is open, since the calls check the store first.
-ghost use Rattle.proto.specs.Constants.{ConstantAt};
+ghost use Rattle.std.specs.Prelude.{◌≡◌, List, ℕ};
+ghost use Rattle.format.specs.Tree.{Constant as Value};
+ghost use Rattle.format.specs.Store.{list, constant_piece};
+ghost use Rattle.format.specs.Constants.{value_of};
+ghost use Rattle.proto.specs.Walk.{item, StandsAt};
+ghost use Rattle.proto.specs.Constants.{ConstantAt, read};
 
-use format::Constant;
+use crate::walk::nth_at;
+use format::{Constant, Span};
 
 // The constant at a place, a string by its place and length in the text. Its kind by number: 0, 1, 3, 4 are the format's tags.
 pub fn constant_at(words: &[u32], at: usize) -> Constant
@@ -14,6 +20,16 @@ pub fn constant_at(words: &[u32], at: usize) -> Constant
         0 => Constant::Nil,
         1 => Constant::Bool(*a != 0),
         3 => Constant::Num(*a, *b),
-        _ => Constant::String(*a as usize, *b as usize),
+        _ => Constant::String(Span {
+            start: *a as usize,
+            len: *b as usize,
+        }),
     }
+}
+
+// The constant of an index, of the list at a place.
+pub fn constant_of(words: &[u32], constants: usize, i: u32) -> Option<Constant>
+    ensures { (t : List ℕ) (l : List Value) → StandsAt words.now t constants (list constant_piece l) → read (value_of t) result ≡ item l i }
+{
+    Some(constant_at(words, nth_at(words, constants, 3, i)?))
 }

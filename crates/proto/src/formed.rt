@@ -5,13 +5,14 @@ ghost use Rattle.utf8.specs.Utf8.{is_ascii};
 ghost use Rattle.format.specs.Store.{Piece, string, list, ints, source_piece, constant_piece, local_piece, debug_piece, function_piece, children_piece};
 ghost use Rattle.format.specs.Store.{word as word_piece};
 ghost use Rattle.format.specs.Tree.{Constant as Value, Local};
-ghost use Rattle.format.specs.Stored.{tree_of};
 ghost use Rattle.format.specs.Valid.{Name, Valid, ValidSource, ValidConstant, ValidLocal, ValidList, ValidDebug};
-ghost use Rattle.proto.specs.Formed.{is_held, Check, Both, beside, Room, Within, Three, three, ValidChildren};
+ghost use Rattle.format.specs.Dump.{store_refusal};
+ghost use Rattle.format.specs.Refusal.{RefusedBy};
+ghost use Rattle.proto.specs.Formed.{Check, Both, beside, Room, Within, Three, three, ValidChildren};
 
 use crate::store::Store;
-use crate::walk::{part, word_at};
-use format::{DEPTH, LIMIT, MOST};
+use crate::walk::word_at;
+use format::{DEPTH, LIMIT, MOST, Refusal, Span};
 
 // The greatest word.
 const ANY: u32 = u32::MAX;
@@ -35,7 +36,8 @@ struct Checker<'a> {
     ghost ascii_holds: { ascii ≡ true → is_ascii text.now ≡ true },
 }
 
-// What a list holds: how an item is checked. dump has an Item of its own: each says what its own walk does with an item.
+// What a list holds: how an item is checked. dump and listing_headers have an Item of their own, and no trait above one of proto's: a ghost member's
+// type cannot name a member of a supertrait (only a law's can), and valid is of Value.
 trait Item {
     ghost Value: { Type 0 };
 
@@ -125,6 +127,7 @@ impl<'a> Checker<'a> {
     }
 
     // Three words: a kind, and two with their greatest values.
+    #[tactic(auto, using(crate::proofs::Checks::three_good))]
     fn check_three(self, s: Reached, kind: u32, a: u32, b: u32) -> Option<Reached>
         ensures { Check self.entry.words.now self.entry.text.now (Three kind a b) three s result }
     {
@@ -159,7 +162,11 @@ impl<'a> Checker<'a> {
         ensures { Check self.entry.words.now self.entry.text.now Name string s result }
     {
         let r = self.check_string(s)?;
-        if self.ascii || utf8::is_utf8(part(self.text, s.to, r.to - s.to)) {
+        let name = Span {
+            start: s.to,
+            len: r.to - s.to,
+        };
+        if self.ascii || utf8::is_utf8(name.of(self.text)) {
             Some(r)
         } else {
             None
@@ -189,6 +196,7 @@ impl<'a> Checker<'a> {
     }
 
     // A local: its name, start and end.
+    #[tactic(auto, using(crate::proofs::Checks::check_then, crate::proofs::Checks::check_stop, crate::proofs::Stores::local_checked))]
     fn check_local(self, s: Reached) -> Option<Reached>
         ensures { Check self.entry.words.now self.entry.text.now ValidLocal local_piece s result }
     {
@@ -196,6 +204,7 @@ impl<'a> Checker<'a> {
     }
 
     // A list of words.
+    #[tactic(auto, using(crate::proofs::Checks::ints_within, crate::proofs::Checks::ints_good, crate::proofs::Checks::ints_bad, crate::proofs::Checks::ints_short))]
     fn check_ints(self, s: Reached) -> Option<Reached>
         ensures { Check self.entry.words.now self.entry.text.now (ValidList Word) ints s result }
     {
@@ -220,6 +229,7 @@ impl<'a> Checker<'a> {
     }
 
     // The lists that strip leaves out: the lines, the locals and the upvalues' names.
+    #[tactic(auto, using(crate::proofs::Checks::check_then, crate::proofs::Checks::check_stop, crate::proofs::Stores::debug_checked))]
     fn check_debug(self, s: Reached) -> Option<Reached>
         ensures { Check self.entry.words.now self.entry.text.now ValidDebug debug_piece s result }
     {
@@ -268,17 +278,22 @@ pub fn is_within(len: usize, at: usize, n: usize) -> bool
 }
 
 impl<'a> Store<'a> {
-    // Whether it holds a tree: refusal 10 where it does not.
-    pub fn is_held(self) -> bool
-        ensures { result ≡ is_held (tree_of self.entry.words.now self.entry.text.now) }
+    // Whether it holds a tree: refused by 10.
+    pub fn check_held(self) -> Result<(), Refusal>
+        ensures { RefusedBy (store_refusal self.entry.words.now self.entry.text.now) result }
     {
+        if MOST < self.words.len().max(self.text.len()) {
+            return Err(Refusal::BadStore);
+        }
         let start = Reached { at: 0, to: 0 };
         let end = Reached {
             at: self.words.len(),
             to: self.text.len(),
         };
-        self.words.len() <= MOST
-            && self.text.len() <= MOST
-            && Checker::new(self.words, self.text).check_function(start, DEPTH) == Some(end)
+        if Checker::new(self.words, self.text).check_function(start, DEPTH) == Some(end) {
+            Ok(())
+        } else {
+            Err(Refusal::BadStore)
+        }
     }
 }

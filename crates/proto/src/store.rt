@@ -4,7 +4,7 @@ ghost use Rattle.format.specs.Store.{string, source_piece, function_piece};
 ghost use Rattle.format.specs.Tree.{Source, Parts, Functions, Function, filled};
 ghost use Rattle.proto.specs.Walk.{Stands, StandsAt};
 
-use crate::walk::{part, skip, word_at};
+use crate::walk::{skip, string_at, word_at};
 
 #[derive(Clone, Copy)]
 pub struct Store<'a> {
@@ -17,9 +17,7 @@ impl<'a> Store<'a> {
     pub fn string_at(self, at: usize) -> &'a [u8]
         ensures { (s : List ℕ) (to : ℕ) → Stands self.entry.words.now self.entry.text.now at to (string s) → result.now ≡ s }
     {
-        let place = word_at(self.words, at) as usize;
-        let n = word_at(self.words, skip(self.words, at, 1)) as usize;
-        part(self.text, place, n)
+        string_at(self.words, at).of(self.text)
     }
 
     // The source whose words stand at a place: a function's own, or the one around it.

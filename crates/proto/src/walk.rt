@@ -1,10 +1,13 @@
-// Where the parts of a function stand. Past the end a word is 0, and no place goes on from there. Each answer is that for every tree that
+// Where the parts of a function stand. Past the end a word is 0, and a place stops at the farthest. Each answer is that for every tree that
 // stands at the place asked; where none stands it is open, since the calls check the store first.
-ghost use Rattle.std.specs.Prelude.{List, ◌≡◌, ℕ, ◌+◌, ◌*◌, ◌≤◌, take, drop, get_or};
+ghost use Rattle.std.specs.Prelude.{List, ◌≡◌, ℕ, ◌+◌, ◌*◌, ◌≤◌, min, length, get_or};
+ghost use Rattle.lent.specs.Memory.{far};
 ghost use Rattle.format.specs.Tree.{Debug, Parts, Functions, Function};
-ghost use Rattle.format.specs.Store.{ints, debug_piece, function_piece};
+ghost use Rattle.format.specs.Store.{string, ints, debug_piece, function_piece};
 ghost use Rattle.format.specs.Valid.{Valid};
-ghost use Rattle.proto.specs.Walk.{Stands, Skips, SkipsItems, Past, Passes, PassesAll, total, to_code, to_constants, to_functions};
+ghost use Rattle.proto.specs.Walk.{Stands, Skips, SkipsItems, NthAt, Past, Passes, PassesAll, total, to_code, to_constants, to_functions};
+
+use format::Span;
 
 // A place in the words, and the number in preorder of the function that begins there.
 #[derive(Clone, Copy)]
@@ -20,31 +23,32 @@ pub fn word_at(words: &[u32], at: usize) -> u32
     words.get(at).copied().unwrap_or(0)
 }
 
-// The place behind n words.
+// The place behind n words. The words are named for what is known of their number.
 pub fn skip(words: &[u32], at: usize, n: usize) -> usize
     ensures { Skips words.now n at result }
 {
-    if at <= words.len() && n <= words.len() - at {
-        at + n
-    } else {
-        at
-    }
+    at.saturating_add(n)
 }
 
-// The part of a list at a place, as far as the list goes.
-pub fn part<T>(list: &[T], start: usize, len: usize) -> &[T]
-    ensures { result.now ≡ take len (drop start list.now) }
+// The string whose place and length stand at a place.
+pub fn string_at(words: &[u32], at: usize) -> Span
+    ensures { (s : List ℕ) (t : List ℕ) (to : ℕ) → Stands words.now t at to (string s) → result ≡ record { start = to; len = length s } }
 {
-    let a = start.min(list.len());
-    let e = a + len.min(list.len() - a);
-    &list[a..e]
+    Span {
+        start: word_at(words, at) as usize,
+        len: word_at(words, skip(words, at, 1)) as usize,
+    }
 }
 
 // The items of the list of words at a place.
 pub fn ints_at(words: &[u32], at: usize) -> &[u32]
     ensures { (l : List ℕ) (t : List ℕ) (to : ℕ) → Stands words.now t at to (ints l) → result.now ≡ l }
 {
-    part(words, skip(words, at, 1), word_at(words, at) as usize)
+    let items = Span {
+        start: skip(words, at, 1),
+        len: word_at(words, at) as usize,
+    };
+    items.of(words)
 }
 
 // The place of item i of a list whose items have so many words.
@@ -54,7 +58,29 @@ pub fn item_at(words: &[u32], list: usize, size: u32, i: u32) -> usize
     skip(words, list, 1 + size as usize * i as usize)
 }
 
+// The place of item i of the list at a place, whose items have so many words: none where there is no such item.
+pub fn nth_at(words: &[u32], list: usize, size: u32, i: u32) -> Option<usize>
+    ensures { NthAt words.now list size i result }
+{
+    if i < word_at(words, list) {
+        Some(item_at(words, list, size, i))
+    } else {
+        None
+    }
+}
+
+// The first function of the list at a place, in the function with a number.
+pub fn first_in(words: &[u32], functions: usize, number: usize) -> Next
+    ensures { (Skips words.now 1 functions result.at) × (result.number ≡ min (number + 1) far) }
+{
+    Next {
+        at: skip(words, functions, 1),
+        number: number.saturating_add(1),
+    }
+}
+
 // The place behind a list of items of k words each.
+#[tactic(auto, using(crate::proofs::Walks::skip_items))]
 fn after_list(words: &[u32], at: usize, k: usize) -> usize
     requires { k ≤ 4 }
     ensures { SkipsItems words.now k at result }
@@ -84,6 +110,7 @@ pub fn functions_at(words: &[u32], at: usize) -> usize
 }
 
 // The place behind the debug lists.
+#[tactic(auto, using(crate::proofs::Walks::past_debug))]
 pub fn after_debug(words: &[u32], at: usize) -> usize
     ensures { (d : Debug) → Past words.now (debug_piece d) at result }
 {
@@ -112,11 +139,7 @@ fn pass(words: &[u32], s: Next, allowance: u32) -> Next
     }
     let list = functions_at(words, s.at);
     let n = word_at(words, list);
-    let first = Next {
-        at: skip(words, list, 1),
-        number: s.number.saturating_add(1),
-    };
-    let r = pass_all(words, first, n, allowance - 1);
+    let r = pass_all(words, first_in(words, list, s.number), n, allowance - 1);
     Next {
         at: after_debug(words, r.at),
         ..r

@@ -1,15 +1,13 @@
 -- The tests of one instruction, and the walk from one instruction to the next.
 use Rattle.lent.proofs.Prelude.{ℕ, zero, suc, ◌+◌, ◌-◌, ◌≤◌, ◌<◌, ◌≡◌, ap, ◌∙◌, List, true, false, cond, and-false, arith, dec_lt, length, get_or, lt-ltb, le-ltb}
 use Rattle.format.specs.Tree.{Function, Functions}
-use Rattle.format.specs.Valid.{depth, ValidAll}
-use Rattle.format.specs.Store.{ints, children_piece}
+use Rattle.format.specs.Valid.{ValidAll}
+use Rattle.format.specs.Store.{children_piece}
 use Rattle.instructions.specs.Fields.{MAXARG_sBx, GETARG_Bx}
 use Rattle.instructions.specs.OpCodes.{opcode}
 use Rattle.proto.specs.Walk.{StandsAt, children}
-use Rattle.proto.specs.Children.{ChildAt}
 use Rattle.proto.proofs.Checks.{never}
-use Rattle.proto.specs.declared.child.Child.{Child}
-use Rattle.symbexec.specs.declared.operands.Skipped.{Skipped}
+use Rattle.proto.specs.declared.child.Children.{Children}
 use Rattle.symbexec.specs.Operands.{Behind}
 use Rattle.symbexec.specs.SymbExec.{biased, followed, operands, next_pc, after, writes, last_write}
 
@@ -58,25 +56,23 @@ module _ {l : List ℕ} {fs : List Function} {lastpc reg last pc : ℕ} where
         | suc n ↦ λ s. rw (le-ltb pc lastpc k) at s
       ]) x.same
 
--- so for each function whose code and functions stand there, the child kept being one of these
-pub record Traced (words : List ℕ) (code functions lastpc reg last : ℕ) (child : Child) (pc : ℕ) : Type 0 where
-  pub kept : ChildAt words functions 0 depth child
-  pub traced : (text l : List ℕ) (fs : Functions) → StandsAt words text code (ints l) → StandsAt words text functions (children_piece fs) → ValidAll fs depth → SearchLeft l (children fs) lastpc reg last pc
+-- so for the functions that stand there, whichever they are; those looked up are these
+pub record Traced (c : Children) (l : List ℕ) (lastpc reg last pc : ℕ) (of : Children) : Type 0 where
+  pub same : of ≡ c
+  pub traced : (text : List ℕ) (fs : Functions) → StandsAt c.words.now text c.list (children_piece fs) → ValidAll fs c.allowance → SearchLeft l (children fs) lastpc reg last pc
 
-module _ {words : List ℕ} {code functions lastpc reg : ℕ} where
-  pub trace_start : {last : ℕ} {child : Child} → ((text l : List ℕ) → StandsAt words text code (ints l) → last ≡ length l - 1) → ChildAt words functions 0 depth child → Traced words code functions lastpc reg last child 0
-  trace_start f k = record { kept = k; traced = λ text l fs h c v. record { left = lastpc; enough = omega arith; same = rw (f text l h) } }
+module _ {c : Children} {l : List ℕ} {lastpc reg : ℕ} where
+  pub trace_start : {last : ℕ} {of : Children} → last ≡ length l - 1 → of ≡ c → Traced c l lastpc reg last 0 of
+  trace_start f d = record { same = d; traced = λ text fs h v. record { left = lastpc; enough = omega arith; same = rw f } }
 
-  pub trace_turn : {i last last' pc pc' : ℕ} {child : Child} {b : Skipped} → pc < lastpc → ((text l : List ℕ) → StandsAt words text code (ints l) → i ≡ get_or l pc 0)
-      → last' ≡ cond (writes i reg) pc last → Behind words functions child (λ fs. operands fs i) b
-      → (pc' ≡ next_pc (opcode i) (GETARG_Bx i) b.count lastpc reg pc) × (pc < pc') → Traced words code functions lastpc reg last child pc → Traced words code functions lastpc reg last' b.child pc'
-  trace_turn {i} {pc = pc} {b = b} k e f g m x =
+  pub trace_turn : {i last last' pc pc' n : ℕ} {of of' : Children} → pc < lastpc → i ≡ get_or l pc 0 → last' ≡ cond (writes i reg) pc last → of' ≡ of → Behind of (λ fs. operands fs i) n
+      → (pc' ≡ next_pc (opcode i) (GETARG_Bx i) n lastpc reg pc) × (pc < pc') → Traced c l lastpc reg last pc of → Traced c l lastpc reg last' pc' of'
+  trace_turn {i} {pc = pc} k e f d g m x =
       record {
-        kept = g.found x.kept;
-        traced = λ text l fs h c v.
-            left_turn k (e text l h) f (m.0 ∙ ap (λ (n : ℕ). next_pc (opcode i) (GETARG_Bx i) n lastpc reg pc) (g.many text fs c v x.kept)) m.1 (x.traced text l fs h c v);
+        same = d ∙ x.same;
+        traced = λ text fs h v. left_turn k e f (m.0 ∙ ap (λ (n : ℕ). next_pc (opcode i) (GETARG_Bx i) n lastpc reg pc) ((rw x.same at g).many text fs h v)) m.1 (x.traced text fs h v);
       }
 
-  pub trace_end : {last pc : ℕ} {child : Child} → lastpc ≤ pc → Traced words code functions lastpc reg last child pc
-      → (text l : List ℕ) (fs : Functions) → StandsAt words text code (ints l) → StandsAt words text functions (children_piece fs) → ValidAll fs depth → last ≡ last_write l (children fs) lastpc reg lastpc 0 (length l - 1)
-  trace_end k x text l fs h c v = left_end k (x.traced text l fs h c v)
+  pub trace_end : {last pc : ℕ} {of : Children} → lastpc ≤ pc → Traced c l lastpc reg last pc of
+      → (text : List ℕ) (fs : Functions) → StandsAt c.words.now text c.list (children_piece fs) → ValidAll fs c.allowance → last ≡ last_write l (children fs) lastpc reg lastpc 0 (length l - 1)
+  trace_end k x text fs h v = left_end k (x.traced text fs h v)

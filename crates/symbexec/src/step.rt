@@ -45,7 +45,7 @@ fn writes(i: Instruction, reg: u32) -> bool
 }
 
 // The pc of the last write: this one, or the last before it.
-pub fn latest(i: Instruction, reg: u32, pc: u32, last: u32) -> u32
+pub fn latest(i: Instruction, reg: u32, pc: usize, last: usize) -> usize
     ensures { result ≡ cond (writes i.0 reg) pc last }
 {
     if writes(i, reg) { pc } else { last }
@@ -64,6 +64,7 @@ fn followed(i: Instruction, lastpc: u32, reg: u32, pc: u32) -> bool
 }
 
 // The next pc, where so many words behind the instruction are none.
+#[tactic(auto, using(crate::proofs::Steps::goes_forward, crate::proofs::Steps::next_jump, crate::proofs::Steps::next_on))]
 pub fn next_pc(i: Instruction, skipped: u32, lastpc: u32, reg: u32, pc: u32) -> usize
     ensures { (result ≡ next_pc (opcode i.0) (GETARG_Bx i.0) skipped lastpc reg pc) × (pc < result) }
 {

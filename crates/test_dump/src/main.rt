@@ -52,8 +52,8 @@ fn read(
 // T: the tree of a chunk, read into the store.
 fn tree(cases: &mut Records, store: &mut Space<ROOM, ROOM>, to: &mut impl Write) -> io::Result<()> {
     let name = cases.name();
-    let n = ROOM.min(cases.half() as usize);
-    let m = ROOM.min(cases.half() as usize);
+    let n = ROOM.min(usize::from(cases.half()));
+    let m = ROOM.min(usize::from(cases.half()));
     let chunk = cases.text();
     let words = &mut store.words[0..n];
     let text = &mut store.text[0..m];
@@ -73,7 +73,7 @@ fn append(
     let name = cases.name();
     let strip = cases.byte() != 0;
     let size_4 = cases.byte() != 0;
-    let n = cases.half() as usize;
+    let n = usize::from(cases.half());
     let from = BUFFER.min(dumps.end);
     let until = BUFFER.min(from.saturating_add(n));
     let out = &mut dumps.buffer[from..until];
@@ -87,9 +87,9 @@ fn append(
 // U: the next tree of the buffer, read back.
 fn back(cases: &mut Records, dumps: &mut Dumps, to: &mut impl Write) -> io::Result<()> {
     let name = cases.name();
-    let n = ROOM.min(cases.half() as usize);
-    let m = ROOM.min(cases.half() as usize);
-    let mut words = [UNTOUCHED as u32; ROOM];
+    let n = ROOM.min(usize::from(cases.half()));
+    let m = ROOM.min(usize::from(cases.half()));
+    let mut words = [u32::from(UNTOUCHED); ROOM];
     let mut text = [UNTOUCHED; ROOM];
     let from = BUFFER.min(dumps.read);
     let rest = &dumps.buffer[from..];
@@ -108,7 +108,7 @@ fn case(
     match cases.byte() {
         b'T' => tree(cases, store, to)?,
         b'W' => {
-            let place = cases.half() as usize;
+            let place = usize::from(cases.half());
             put(&mut store.words, place, cases.word());
         }
         b'D' => append(cases, store, dumps, to)?,

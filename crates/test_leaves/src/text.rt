@@ -23,12 +23,11 @@ fn same_short(bytes: &[u8], repaired: &[u8]) -> bool {
         return true;
     };
     let n = short.len();
-    if ROOM <= n + 1 {
-        return false;
-    }
     let mut out = [UNTOUCHED; ROOM];
-    let answer = utf8::repair(bytes, &mut out[0..n], 0);
-    answer == n + 1 && out[n] == UNTOUCHED && &out[..n] == short
+    n + 1 < ROOM
+        && utf8::repair(bytes, &mut out[..n], 0) == n + 1
+        && out[n] == UNTOUCHED
+        && &out[..n] == short
 }
 
 // An R record.

@@ -58,7 +58,7 @@ fn ask_in(
     let number = cases.long();
     let pc = cases.long();
     let mut records = [NO_LOCAL; 8];
-    let k = records.len().min(cases.byte() as usize);
+    let k = records.len().min(usize::from(cases.byte()));
     let r = get_local_name_in(&mut records[..k], words, text, place, number, pc, out);
     tell(r, out, to)?;
     for r in records {
@@ -116,7 +116,7 @@ fn case(
         space.read(cases);
         return Ok(());
     }
-    let n = OUT.min(cases.byte() as usize);
+    let n = OUT.min(usize::from(cases.byte()));
     let mut out = [UNTOUCHED; OUT];
     ask(kind, cases, space, &mut out[..n], to)
 }

@@ -43,20 +43,20 @@ fn case(
     match cases.byte() {
         b'S' => space.read(cases),
         b'W' => {
-            let place = cases.half() as usize;
+            let place = usize::from(cases.half());
             let old = put(&mut space.words, place, cases.word());
             ask(space.words(), space.text(), b"", 0, to)?;
             put(&mut space.words, place, old);
         }
         b'T' => {
-            let place = cases.half() as usize;
+            let place = usize::from(cases.half());
             let old = put(&mut space.text, place, cases.byte());
             ask(space.words(), space.text(), b"", 0, to)?;
             put(&mut space.text, place, old);
         }
         b'N' => {
             let words = first(&space.words, cases.word() as usize);
-            let text = first(&space.text, cases.half() as usize);
+            let text = first(&space.text, usize::from(cases.half()));
             ask(words, text, b"", 0, to)?;
         }
         b'Q' => {

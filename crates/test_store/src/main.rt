@@ -39,9 +39,9 @@ fn case(cases: &mut Records, space: &mut [u8], to: &mut impl Write) -> io::Resul
     let need_words = cases.long();
     let need_text = cases.long();
     let need_read = cases.long();
-    let n = ROOM.min(cases.half() as usize);
-    let m = ROOM.min(cases.half() as usize);
-    let mut words = [UNTOUCHED as u32; ROOM];
+    let n = ROOM.min(usize::from(cases.half()));
+    let m = ROOM.min(usize::from(cases.half()));
+    let mut words = [u32::from(UNTOUCHED); ROOM];
     let mut text = [UNTOUCHED; ROOM];
     let words = &mut words[0..n];
     let text = &mut text[0..m];

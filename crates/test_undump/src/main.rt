@@ -32,9 +32,9 @@ fn read(
 fn case(cases: &mut Records, to: &mut impl Write) -> io::Result<()> {
     let chunk = cases.text();
     let name = cases.name();
-    let n = ROOM.min(cases.half() as usize);
-    let m = ROOM.min(cases.half() as usize);
-    let mut words = [UNTOUCHED as u32; ROOM];
+    let n = ROOM.min(usize::from(cases.half()));
+    let m = ROOM.min(usize::from(cases.half()));
+    let mut words = [u32::from(UNTOUCHED); ROOM];
     let mut text = [UNTOUCHED; ROOM];
     read(chunk, name, &mut words[0..n], &mut text[0..m], to)
 }

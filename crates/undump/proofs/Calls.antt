@@ -9,13 +9,14 @@ use Rattle.lent.proofs.Prelude.{ℕ, ◌+◌, ◌-◌, ◌≤◌, ◌<◌, min, 
 use Rattle.lent.specs.Memory.{far}
 use Rattle.format.specs.Tree.{Function}
 use Rattle.format.specs.Read.{Read, got, refused, ◌>>=◌, return, width_of, load_function, same, signature, format, load_exactly, load_format, load_header}
+use Rattle.format.specs.Dump.{name_refusal}
 use Rattle.format.specs.Refusal.{number}
 use Rattle.format.specs.Store.{function_piece, words_of, text_of}
 use Rattle.format.specs.Valid.{depth, most}
 use Rattle.format.specs.Undump.{repaired, Chunk, load_chunk, refused_by, measured_by, measured, name_ok, over, undumped, as_measured, stored}
 use Rattle.format.specs.declared.Undumped.{Undumped}
 use Rattle.format.specs.declared.Refusal.{Refusal}
-use Rattle.format.specs.declared.Refusal.TheVariants.{BadName, Truncated, BadSignature, BadFormat, BadTag, TooManyItems, TooDeep, TooFewWords, TooLittleText, BadStore, TooLittleOutput, NoFunction, BadPc, BadRegister, NotAsMeasured}
+use Rattle.format.specs.declared.Refusal.TheVariants.{BadFormat}
 use Rattle.load_state.specs.declared.cursor.Got.{Got}
 use Rattle.load_state.specs.ReadAt.{Ends, ReadsBy, ReadAt}
 use Rattle.load.specs.Loads.{Does}
@@ -24,6 +25,7 @@ use Rattle.undump.specs.declared.LoadedChunk.{LoadedChunk}
 use Rattle.undump.specs.Undump.{beginning, unused, used, LoadsChunk, Measures, undump_left}
 use Rattle.load.proofs.Steps.{reads_then, reads_refused}
 use Rattle.format.proofs.RoundTrip.{same_is}
+use Rattle.format.proofs.Refusals.{refusal_above, name_good, by_name}
 use Rattle.format.proofs.Measured.{measured_as, undumped_as, refused_whole, store_refused, store_other, store_as, few_words, few_text, enough}
 use Rattle.load_state.proofs.Bytes.{block_at}
 
@@ -118,22 +120,20 @@ module _ (bs u v : List ℕ) where
       rw (ew, nw, nt, nr, t.0, t.1.0, length-drop)
   measured_by_law c (refused k) t ew en em er = absurd t
 
-module _ {bs : List ℕ} (name : List ℕ) {ok : Bool} {u v : List ℕ} (o : ok ≡ name_ok name) (e : not ok ≡ false) where
-  pub measure_refused : {x : Refusal} {a : Undumped} → LoadsChunk bs [] [] (Err x) u v → a ≡ refused_by (number x) → a ≡ measured bs name
-  unfolding measured
-  measure_refused h r = rw (r, ← o, not-false ok e) (refused_by_law bs u v _ (load_chunk bs) h.ends)
+-- a name that is refused
+pub name_refused : {bs : List ℕ} (name : List ℕ) (x : Refusal) {r : Result Undumped Refusal} → IsErrAnd r (λ y. y ≡ x) → number x ≡ name_refusal name → Measures bs name r
+unfolding measured
+name_refused name x {r} i e = let p = err_from_is_err_and r i in rw (p.1, p.2) (record { answers = by_name name refused_by _ (refusal_above x) e; accepted = tt })
 
+module _ {bs : List ℕ} (name : List ℕ) {u v : List ℕ} (o : 0 ≡ name_refusal name) where
   pub measures_refused : {x : Refusal} {r : Result Undumped Refusal} → IsErrAnd r (λ y. y ≡ x) → LoadsChunk bs [] [] (Err x) u v → Measures bs name r
-  measures_refused {r = r} i h = let p = err_from_is_err_and r i in rw (p.1, p.2) (record { answers = measure_refused h refl; accepted = tt })
+  unfolding measured
+  measures_refused {r = r} i h = let p = err_from_is_err_and r i in rw (p.1, p.2) (record { answers = rw (name_good name o) (refused_by_law bs u v _ (load_chunk bs) h.ends); accepted = tt })
 
   pub measure_whole : {c : LoadedChunk} {w n m read : ℕ} → LoadsChunk bs [] [] (Ok c) u v → w ≡ width_of c.size_4 → n ≡ min c.words (most + 1) → m ≡ min c.text (most + 1) → read ≡ min c.next (length bs)
-      → record { refusal = 0; width = w; words = n; text = m; read = read } ≡ measured bs name
+      → Measures bs name (Ok (record { refusal = 0; width = w; words = n; text = m; read = read }))
   unfolding measured
-  measure_whole h w n m r = rw (← o, not-false ok e) (measured_by_law bs u v _ (load_chunk bs) h.ends w n m r)
-
-pub measure_unnamed : (bs name : List ℕ) {ok : Bool} {a : Undumped} → ok ≡ name_ok name → not ok ≡ true → a ≡ refused_by 1 → a ≡ measured bs name
-unfolding measured
-measure_unnamed bs name {ok} o e r = rw (r, ← o, not-true ok e)
+  measure_whole h w n m r = record { answers = rw (name_good name o) (measured_by_law bs u v _ (load_chunk bs) h.ends w n m r); accepted = refl }
 
 -- ---- store
 
@@ -143,26 +143,6 @@ written w l lent n e h f =
     let g : length (take n lent) ≡ n = length-take-le n lent h in
     let a : sets (take n lent) 0 w ≡ w = sets-eq w (take n lent) 0 (omega arith) ∙ rw (drop_of_length-le (take n lent) {i = 0 + length w} (omega arith)) (append-nil w) in
     rw (f ∙ a, e)
-
--- no refusal is 0
-above_none : (e : Refusal) → 0 < number e
-above_none e = elim e as (λ x. 0 < number x) [
-  | BadName ↦ omega arith
-  | Truncated ↦ omega arith
-  | BadSignature ↦ omega arith
-  | BadFormat ↦ omega arith
-  | BadTag ↦ omega arith
-  | TooManyItems ↦ omega arith
-  | TooDeep ↦ omega arith
-  | TooFewWords ↦ omega arith
-  | TooLittleText ↦ omega arith
-  | BadStore ↦ omega arith
-  | TooLittleOutput ↦ omega arith
-  | NoFunction ↦ omega arith
-  | BadPc ↦ omega arith
-  | BadRegister ↦ omega arith
-  | NotAsMeasured ↦ omega arith
-]
 
 -- what the run over the space left, as long as it was measured
 module _ (bs ws ts : List ℕ) (r : Result LoadedChunk Refusal) (ws' ts' : List ℕ) (n k : ℕ) (hn : n ≤ min (length ws) most) (hk : k ≤ min (length ts) most) where
@@ -185,7 +165,7 @@ module _ (bs ws ts : List ℕ) (r : Result LoadedChunk Refusal) (ws' ts' : List 
       )
   stored_as true (got x rest) (Err e) t z en ek = absurd t
   stored_as true (refused m) (Ok c) t z en ek = absurd t
-  stored_as true (refused m) (Err e) t z en ek = absurd (omega (arith, above_none e))
+  stored_as true (refused m) (Err e) t z en ek = absurd (omega (arith, refusal_above e))
   stored_as false x r t z en ek = absurd (omega arith)
 
   left : (name : List ℕ) → LoadsChunk bs (take n ws) (take k ts) r ws' ts' → (measured bs name).refusal ≡ 0 → n ≡ (measured bs name).words → k ≡ (measured bs name).text
@@ -196,7 +176,7 @@ module _ (bs ws ts : List ℕ) (r : Result LoadedChunk Refusal) (ws' ts' : List 
 pub refused_as : (bs name ws ts : List ℕ) (need_words need_text need_read : ℕ) (x : Refusal) {a : Undumped} → a ≡ refused_by (number x) → refused_by (number x) ≡ measured bs name
     → undump_left a ws ts ≡ stored bs name need_words need_text need_read ws ts
 refused_as bs name ws ts need_words need_text need_read x r e =
-    let some : (measured bs name).refusal ≡ 0 → ⊥ = λ z. let i : number x ≡ (measured bs name).refusal = ap (λ (u : Undumped). u.refusal) e in omega (arith, above_none x) in
+    let some : (measured bs name).refusal ≡ 0 → ⊥ = λ z. let i : number x ≡ (measured bs name).refusal = ap (λ (u : Undumped). u.refusal) e in omega (arith, refusal_above x) in
     rw (r, store_refused bs name ws ts need_words need_text need_read some, e) (ap (λ (a : Undumped). undump_left a ws ts) (refused_whole bs name some))
 
 -- the returns of store, which measures and is handed three numbers

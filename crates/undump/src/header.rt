@@ -14,6 +14,7 @@ const SIZES_OF_4: &[u8] = b"\x51\x00\x01\x04\x04\x04\x08\x00";
 const SIZES_OF_8: &[u8] = b"\x51\x00\x01\x04\x08\x04\x08\x00";
 
 // These bytes, else the refusal given. Answers the place behind them.
+#[tactic(auto, using(crate::proofs::Calls::exactly_others, crate::proofs::Calls::exactly_these))]
 fn load_exactly(chunk: &[u8], at: usize, bytes: &[u8], other: Refusal) -> Result<usize, Refusal>
     requires { 0 < length bytes.now }
     ensures { ReadsBy chunk.now (load_exactly bytes.now (number other)) (λ v n. Unit {0}) (λ n. n) at result }
@@ -29,6 +30,7 @@ fn load_exactly(chunk: &[u8], at: usize, bytes: &[u8], other: Refusal) -> Result
 }
 
 // The eight bytes behind the signature, in one of their two forms, else refusal 4: whether a size takes 4 bytes.
+#[tactic(auto, using(crate::proofs::Calls::format_of_4, crate::proofs::Calls::format_of_8, crate::proofs::Calls::format_other))]
 fn load_format(chunk: &[u8], at: usize) -> Result<Got<bool>, Refusal>
     ensures { ReadAt chunk.now load_format at result }
 {
@@ -47,6 +49,7 @@ fn load_format(chunk: &[u8], at: usize) -> Result<Got<bool>, Refusal>
 }
 
 // The signature, then the version, the format and the sizes: 12 bytes.
+#[tactic(auto, using(crate::proofs::Calls::header_loaded, crate::proofs::Calls::signature_refused))]
 pub fn load_header(chunk: &[u8]) -> Result<Got<bool>, Refusal>
     ensures { ReadAt chunk.now load_header beginning result }
 {

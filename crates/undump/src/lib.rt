@@ -8,7 +8,7 @@ ghost use Rattle.format.specs.Refusal.{number};
 ghost use Rattle.format.specs.Undump.{refused_by, measured, as_measured, stored};
 ghost use Rattle.undump.specs.Undump.{LoadsChunk, Measures, undump_left};
 
-use format::{DEPTH, MOST, Refusal, Undumped, name_ok, width};
+use format::{DEPTH, MOST, Refusal, Undumped, check_name, width};
 use header::load_header;
 use load::Loader;
 use load_function::load_function;
@@ -68,9 +68,7 @@ fn load_chunk(chunk: &[u8], words: &mut [u32], text: &mut [u8]) -> Result<Loaded
 fn load_measured(chunk: &[u8], name: &[u8]) -> Result<Undumped, Refusal>
     ensures { Measures chunk.now name.now result }
 {
-    if !name_ok(name) {
-        return Err(Refusal::BadName);
-    }
+    check_name(name)?;
     let mut no_words = [0u32; 0];
     let mut no_text = [0u8; 0];
     let c = load_chunk(chunk, &mut no_words, &mut no_text)?;

@@ -2,8 +2,7 @@
 use Rattle.lent.proofs.Prelude.{ℕ, zero, suc, ◌≤◌, ◌<◌, min, ◌≡◌, refl, sym, ap, ◌∙◌, List, [], ◌∷◌, ◌++◌, append_assoc, append-nil, true, cond, ◌&&◌, false≢true, and-eq-true_iff, arith, le_refl, length, take, drop, length-drop, take-append-drop, length-take-le, drop_at, take_at, leb-zero, le-leb, eqb-true, eq-eqb}
 use Rattle.lent.specs.Memory.{Every, Byte, Bytes}
 use Rattle.lent.proofs.Lists.{every_append}
-use Rattle.utf8.specs.declared.Step.{Step}
-use Rattle.utf8.specs.Utf8.{Row, table3_7, within, matched, whole, first_step, replacement, repaired_step, repair_up_to, repair, utf8_up_to, is_utf8}
+use Rattle.utf8.specs.Utf8.{Step, Row, table3_7, within, matched, whole, first_step, replacement, repaired_step, repair_up_to, repair, utf8_up_to, is_utf8}
 use Rattle.utf8.specs.Rows.{row_of}
 use Rattle.utf8.proofs.Rows.{step_none, by_test, row_step, in_range, matched_le, row_step_law}
 

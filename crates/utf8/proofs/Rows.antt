@@ -1,8 +1,7 @@
 -- What stands first follows from the row of table 3-7 that the first byte leads, since no two rows share a lead byte (row_step_law);
 -- bytes at places against the ranges of a row; and a lead byte's row, by a test that is computed for each byte.
 use Rattle.lent.proofs.Prelude.{ℕ, zero, suc, ◌+◌, ◌-◌, ◌≤◌, ◌<◌, min, max, ◌≡◌, refl, sym, ◌∙◌, List, [], ◌∷◌, Bool, true, false, cond, ◌&&◌, false≢true, and-eq-true_iff, arith, length, drop, get_or, drop_of_length-le, leb, eqb, eqb-zero-suc, lt-leb, leb-true, eqb-true, ne_eqb, add_assoc, dec_le, drop-drop}
-use Rattle.utf8.specs.declared.Step.{Step}
-use Rattle.utf8.specs.Utf8.{Range, ◌‥◌, Row, table3_7, within, matched, whole, begun, first_step}
+use Rattle.utf8.specs.Utf8.{Step, Range, ◌‥◌, Row, table3_7, within, matched, whole, begun, first_step}
 use Rattle.utf8.specs.Rows.{row_of, second_low, second_high, second_range, ranges, begun_at, begins}
 use Rattle.lent.proofs.Lists.{drop_more}
 
@@ -200,9 +199,9 @@ lead_ranges b h =
 -- ---- the step at a place
 
 -- m bytes begin the row, which has n
-pub step_led : (s : List ℕ) (at n m : ℕ) → at < length s → get_or s at 0 < 256 → n ≡ length (row_of table3_7 (get_or s at 0)) → m ≡ begun_at s at n
-    → record { len = m; well_formed = eqb m n } ≡ first_step (drop at s)
-step_led s at n m h k e q = rw (drop_more s at h, row_step_law, q, e, lead_ranges (get_or s at 0) k)
+pub step_led : (s : List ℕ) (at n m : ℕ) {t : Bool} → at < length s → get_or s at 0 < 256 → n ≡ length (row_of table3_7 (get_or s at 0)) → m ≡ begun_at s at n
+    → t ≡ eqb m n → record { len = m; well_formed = t } ≡ first_step (drop at s)
+step_led s at n m h k e q w = rw (drop_more s at h, row_step_law, w, q, e, lead_ranges (get_or s at 0) k)
 
 pub step_none : (s : List ℕ) (at : ℕ) → length s ≤ at → record { len = 0; well_formed = false } ≡ first_step (drop at s)
 unfolding first_step whole begun matched

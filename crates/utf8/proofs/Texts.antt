@@ -1,8 +1,7 @@
 -- Text within bytes: how it goes on, and what it says of the whole.
 use Rattle.lent.proofs.Prelude.{ℕ, ◌+◌, ◌-◌, ◌≤◌, ◌<◌, min, ◌≡◌, refl, sym, ap, ◌∙◌, List, [], ◌∷◌, ◌++◌, Bool, true, false, not, arith, ℕ_discrete, length, take, drop, get_or, take-append-drop, length-drop, drop_of_length-le, take-add, drop-drop, eqb, eq-eqb, ne_eqb, not-false}
 use Rattle.lent.proofs.Lists.{drop_more}
-use Rattle.utf8.specs.declared.Step.{Step}
-use Rattle.utf8.specs.Utf8.{Range, ◌‥◌, first_step, is_utf8, is_ascii, replacement, repair_up_to, repair}
+use Rattle.utf8.specs.Utf8.{Step, Range, ◌‥◌, first_step, is_utf8, is_ascii, replacement, repair_up_to, repair}
 use Rattle.utf8.proofs.Laws.{step_bounds, utf8_nil, utf8_cons, repair_cons, ascii_sequence, front_sequence, sequence_text, utf8_append, utf8_both, repair_append, utf8_ascii}
 use Rattle.utf8.specs.Rows.{begins}
 use Rattle.utf8.specs.Text.{Text, TextEnd}
@@ -75,7 +74,7 @@ pub text_led : {s : List ℕ} {at : ℕ} {t : Bool} {r : Range} (n low high : �
     → t ≡ begins (low ‥ high) (drop at s) → t ≡ true → Begun s at n n r → Text s at (at + n)
 text_led {s} {at} {t} n low high led k e h l =
     let b = begins_byte s at (low ‥ high) (sym e ∙ h) in
-    text_step s at b.0 (step_led s at n n b.0 (omega arith) (led (get_or s at 0) b.1 b.2) (begun_done (omega arith) l)) (rw (eq-eqb n n refl))
+    text_step s at b.0 (step_led s at n n b.0 (omega arith) (led (get_or s at 0) b.1 b.2) (begun_done (omega arith) l) (sym (eq-eqb n n refl))) refl
 
 -- text that ends at the end of the bytes
 pub text_end : {s : List ℕ} {at to : ℕ} → length s ≤ to → Text s at to → TextEnd s at to

@@ -1,12 +1,17 @@
 -- The row of table 3-7 that a byte leads, and a lead byte's ranges as the code has them.
-use Rattle.std.specs.Prelude.{ℕ, zero, suc, ◌+◌, ◌-◌, List, [], ◌∷◌, Bool, false, cond, drop, get_or, eqb}
-use Rattle.utf8.specs.Utf8.{Range, ◌‥◌, Row, within, matched}
+use Rattle.std.specs.Prelude.{ℕ, zero, suc, ◌+◌, ◌-◌, List, [], ◌∷◌, Bool, true, false, cond, drop, get_or, eqb, Result, Ok, Err}
+use Rattle.utf8.specs.Utf8.{Range, ◌‥◌, Row, within, matched, Step}
 
 -- the row whose first range holds the byte, no ranges where there is none
 unfoldable pub row_of : List Row → ℕ → Row
 row_of [] b = []
 row_of ([] ∷ rows) b = row_of rows b
 row_of ((r ∷ row) ∷ rows) b = cond (within b r) (r ∷ row) (row_of rows b)
+
+-- the step that the code answers
+abbrev pub step_of : Result ℕ ℕ → Step
+step_of (Ok n) = record { len = n; well_formed = true }
+step_of (Err n) = record { len = n; well_formed = false }
 
 -- the least and the greatest second byte behind a lead byte
 abbrev pub second_low : ℕ → ℕ

@@ -1,6 +1,5 @@
 -- UTF-8, from the Unicode Standard, chapter 3: table 3-7, and U+FFFD Substitution of Maximal Subparts (section 3.9).
 use Rattle.std.specs.Prelude.{ℕ, zero, suc, max, min, List, [], ◌∷◌, ◌++◌, Bool, true, false, cond, ◌&&◌, length, take, drop, leb, ltb, eqb}
-use Rattle.utf8.specs.declared.Step.{Step}
 
 -- the range of a byte, both ends in it
 pub record Range : Type 0 where
@@ -51,6 +50,11 @@ begun (row ∷ rows) bs = max (matched row bs) (begun rows bs)
 -- the maximal subpart of an ill-formed subsequence: the longest front that begins a well-formed sequence, or one byte
 abbrev pub maximal_subpart : List ℕ → ℕ
 maximal_subpart bs = min (length bs) (max 1 (begun table3_7 bs))
+
+-- what stands first in some bytes: how many they are, and whether they are a well-formed sequence or a maximal subpart of an ill-formed one
+pub record Step : Type 0 where
+  pub len : ℕ
+  pub well_formed : Bool
 
 -- what stands first: a well-formed sequence, else a maximal subpart
 unfoldable pub first_step : List ℕ → Step

@@ -6,18 +6,10 @@ ghost use Rattle.std.specs.Prelude.{◌+◌, ◌≤◌, ◌<◌, ◌≡◌, true
 ghost use Rattle.lent.specs.Memory.{Puts};
 ghost use Rattle.lent.specs.Writer.{Writes};
 ghost use Rattle.utf8.specs.Utf8.{◌‥◌, table3_7, first_step, is_utf8, is_ascii, repair as repaired};
-ghost use Rattle.utf8.specs.Rows.{row_of, second_low, second_high, second_range, begun_at, begins};
+ghost use Rattle.utf8.specs.Rows.{row_of, step_of, second_low, second_high, second_range, begun_at, begins};
 ghost use Rattle.utf8.specs.Text.{Text, TextEnd};
 
 use lent::Writer;
-
-// What stands first in some bytes: how many they are, and whether they are a well-formed sequence or a maximal subpart of an ill-formed one.
-// Both kinds have a length, by which each caller goes on: an enum of two would hold it twice.
-#[derive(Clone, Copy)]
-pub struct Step {
-    pub len: usize,
-    pub well_formed: bool,
-}
 
 // Whether a byte stands at a place and lies in a range.
 fn in_range(bytes: &[u8], at: usize, low: u8, high: u8) -> bool
@@ -57,7 +49,8 @@ fn second_fits(bytes: &[u8], at: usize) -> bool
     in_range(bytes, at + 1, second_low(b), second_high(b))
 }
 
-// How many bytes the row of a lead byte has. No Option: where the byte leads no row, the row is empty and has length 0, as the definition has it.
+// How many bytes the row of a lead byte has, 0 where it leads none, as the definition has it. An Option made 60,000 bytes of sequences of four slower
+// to test and repair, 148 and not 111 microseconds.
 #[tactic(auto, unfolding(crate::specs::Rows::row_of))]
 fn row_len(b: u8) -> usize
     ensures { result ≡ length (row_of table3_7 b) }
@@ -73,6 +66,7 @@ fn row_len(b: u8) -> usize
 }
 
 // How many bytes from a place on begin a sequence of n: the lead byte, and those behind it that lie in their ranges.
+#[tactic(auto, using(crate::proofs::Rows::begun_stop, crate::proofs::Rows::begun_more, crate::proofs::Rows::begun_done))]
 fn begun_at(bytes: &[u8], at: usize, n: usize) -> usize
     requires { at < length bytes.now }
     ensures { result ≡ begun_at bytes.now at n }
@@ -90,22 +84,17 @@ fn begun_at(bytes: &[u8], at: usize, n: usize) -> usize
     n.max(1)
 }
 
-// The repair step: what stands first from a place on.
-pub fn step_at(bytes: &[u8], at: usize) -> Step
-    ensures { result ≡ first_step (drop at bytes.now) }
+// The repair step, what stands first from a place on: a well-formed sequence of so many bytes, or else a maximal subpart of an ill-formed one.
+#[tactic(auto, using(crate::proofs::Rows::step_none, crate::proofs::Rows::step_led))]
+pub fn step_at(bytes: &[u8], at: usize) -> Result<usize, usize>
+    ensures { step_of result ≡ first_step (drop at bytes.now) }
 {
     if bytes.len() <= at {
-        return Step {
-            len: 0,
-            well_formed: false,
-        };
+        return Err(0);
     }
     let n = row_len(bytes[at]);
     let len = begun_at(bytes, at, n);
-    Step {
-        len,
-        well_formed: len == n,
-    }
+    if len == n { Ok(len) } else { Err(len) }
 }
 
 // Whether a well-formed sequence of two bytes stands at a place.
@@ -133,6 +122,7 @@ pub fn is_ascii(bytes: &[u8]) -> bool
 }
 
 // The end of the blocks of 32 bytes of ASCII at a place.
+#[tactic(auto, using(crate::proofs::Texts::text_none, crate::proofs::Texts::text_ascii, crate::proofs::Texts::text_join))]
 fn ascii_blocks(bytes: &[u8], at: usize) -> usize
     requires { at ≤ length bytes.now }
     ensures { Text bytes.now at result }
@@ -146,6 +136,7 @@ fn ascii_blocks(bytes: &[u8], at: usize) -> usize
 }
 
 // The end of the ASCII at a place.
+#[tactic(auto, using(crate::proofs::Texts::text_byte, crate::proofs::Texts::text_join))]
 fn ascii_end(bytes: &[u8], at: usize) -> usize
     requires { at ≤ length bytes.now }
     ensures { Text bytes.now at result }
@@ -174,17 +165,17 @@ fn text_end(bytes: &[u8], at: usize) -> usize
         } else if three(bytes, i) {
             i += 3;
         } else {
-            let step = step_at(bytes, i);
-            if !step.well_formed {
-                return i;
+            match step_at(bytes, i) {
+                Ok(n) => i += n,
+                Err(_) => return i,
             }
-            i += step.len;
         }
     }
     i
 }
 
 // Whether bytes are well-formed UTF-8.
+#[tactic(auto, using(crate::proofs::Texts::text_whole))]
 pub fn is_utf8(bytes: &[u8]) -> bool
     ensures { result ≡ is_utf8 bytes.now }
 {
@@ -204,11 +195,13 @@ fn put_steps(w: &mut Writer, bytes: &[u8])
             return;
         }
         w.put_bytes(b"\xef\xbf\xbd");
-        i = end + step_at(bytes, end).len;
+        let (Ok(n) | Err(n)) = step_at(bytes, end);
+        i = end + n;
     }
 }
 
-// The same, where ASCII, which most names are, is copied at once.
+// The same, where ASCII, which most names are, is copied at once: in the caller, since a call for each name made the reader take a tenth more instructions.
+#[inline(always)]
 #[tactic(auto, using(crate::proofs::Ascii::repair_ascii))]
 pub fn put_repaired(w: &mut Writer, bytes: &[u8])
     ensures { Writes (repaired bytes.now) w.old w.new }
@@ -220,7 +213,7 @@ pub fn put_repaired(w: &mut Writer, bytes: &[u8])
     }
 }
 
-// The same for callers that have bytes and a place, and no writer (docs/CLAIMS.md cites it). Answers the next place.
+// The same for callers that have bytes and a place, and no writer: here test_leaves alone (docs/CLAIMS.md cites it). Answers the next place.
 pub fn repair(bytes: &[u8], out: &mut [u8], at: usize) -> usize
     ensures { Puts (repaired bytes.now) at out.old result out.new }
 {

@@ -16,4 +16,4 @@ pub returns : goal.returns
 unfolding local_named get_local_name
 returns c = let a = c.args in let out = a.out.now in
     place_answered (name_refused out) (λ f. named (get_local_name (parts_of f).debug.locals a.local_number a.pc) out) _ _ _ c.in_default.ensures
-    (λ p fs v h. c.give.ensures ∙ ap (λ o. named o out) (c.active_local-v.ensures _ p.debug.locals (lists_stand p fs h (c.lists_at-locals.ensures p fs v)).locals))
+    (λ p fs v h. c.give.ensures ∙ ap (λ o. named o out) (rw c.low.ensures at (c.active_local-v.ensures _ p.debug.locals (rw c.lists_at-locals.ensures.store at (lists_stand p fs c.lists_at-locals.ensures.store h (c.lists_at-locals.ensures.lists p fs v)).locals))))

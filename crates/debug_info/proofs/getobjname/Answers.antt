@@ -22,4 +22,4 @@ pub returns : goal.returns
 unfolding object_named unsearched
 returns c = let a = c.args in let out = a.out.now in
     register_answered (name_refused out) (λ f. named (getobjname f a.pc a.stackpos) out) _ _ _ _ _ c.in_default.ensures
-    (λ p fs v h. c.give.ensures ∙ ap (λ o. named o out) (c.getobjname-v.ensures _ p fs (lists_stand p fs h (c.lists_at-s.ensures p fs v)) v))
+    (λ p fs v h. c.give.ensures ∙ ap (λ o. named o out) (rw c.lists_at.ensures.store at (c.getobjname-v.ensures p fs (lists_stand p fs c.lists_at.ensures.store h (c.lists_at.ensures.lists p fs v)) v)))

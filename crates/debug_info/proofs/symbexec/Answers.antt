@@ -15,4 +15,4 @@ overflow_cast-lastpc c = search (pc_fits, c.in_default.ensures)
 pub returns : goal.returns
 unfolding symbexec_answer
 returns c = register_answered no_instruction (λ f. record { refusal = 0; instruction = symbexec f c.args.lastpc c.args.reg }) _ _ _ _ _ c.in_default.ensures
-    (λ p fs v h. rw (c.symbexec_at.ensures _ p fs (lists_stand p fs h (c.lists_at-s.ensures p fs v)) v))
+    (λ p fs v h. rw (c.symbexec_at.ensures p fs (lists_stand p fs c.lists_at.ensures.store h (c.lists_at.ensures.lists p fs v)) v))

@@ -3,4 +3,4 @@ use Rattle.lent.proofs.Writers.{writes_then}
 use Rattle.listing_comments.proofs.comment_jump.Goals as goal
 
 pub returns : goal.returns
-returns c = writes_then (writes_then c.put_comment.ensures c.put_bytes.ensures) (rw (← c.bx.ensures) (rw (c.from.ensures, c.from-2.ensures) at c.put_difference.ensures))
+returns c = writes_then (writes_then c.put_comment.ensures c.put_bytes.ensures) (rw (← c.bx.ensures) (rw (c.from.ensures, c.from-2.ensures, c.from-3.ensures) at c.put_difference.ensures))

@@ -37,7 +37,7 @@ returns-in-36 c = λ p fs number l k. rw c.in-36.is (closure_shown fs number _ c
 
 pub returns-in-34 : goal.returns-in-34
 unfolding format_comment is_jump
-returns-in-34 c = λ p fs number l k. rw (c.in-34.is, ← c.c-c.ensures) ((c.comment_set_list.ensures _).shows p.code l.code)
+returns-in-34 c = λ p fs number l k. rw (c.in-34.is, ← c.c-c.ensures) (c.comment_set_list.ensures.shows p.code l.code)
 
 pub returns-in-37 : goal.returns-in-37
 unfolding format_comment is_jump

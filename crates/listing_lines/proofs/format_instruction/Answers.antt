@@ -7,4 +7,4 @@ pub returns : goal.returns
 unfolding format_instruction
 returns c = λ p fs number l k.
     let o = c.opcode-op.ensures in
-    rw (← o, ← c.line_at-line.ensures _ p.debug.lines l.lines) (writes_then (writes_then c.format_start.ensures (c.format_comment.ensures p fs number l (rw (← o) at k))) c.put_byte.ensures)
+    rw (← o, ← c.line_at-line.ensures p.debug.lines l.lines) (writes_then (writes_then c.format_start.ensures (c.format_comment.ensures p fs number l (rw (← o) at k))) c.put_byte.ensures)

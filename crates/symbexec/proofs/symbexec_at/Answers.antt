@@ -5,4 +5,6 @@ use Rattle.symbexec.proofs.symbexec_at.Goals as goal
 
 pub returns : goal.returns
 unfolding symbexec
-returns c text p fs h v = c.instruction_at.ensures text p.code h.code ∙ rw (c.last_write-last.ensures text p fs h v)
+returns c p fs h v =
+    let e = c.ints_at-code.ensures p.code c.args.s.store.text.now h.code.to h.code.stands in
+    c.word_at.ensures ∙ rw (c.last_write.ensures _ fs h.functions v, e)

@@ -1,5 +1,5 @@
 -- ASCII goes on with the text so far, and so does each well-formed sequence.
-use Rattle.lent.proofs.Prelude.{rules, arith}
+use Rattle.lent.proofs.Prelude.{rules, arith, refl}
 use Rattle.utf8.proofs.Texts.{text_none, text_byte, text_join, text_step, step_least, step_most}
 use Rattle.utf8.proofs.text_end.Goals as goal
 
@@ -15,11 +15,11 @@ loop-i-preserved-then-two c = search (rules, text_join, c.two.ensures)
 pub loop-i-preserved-then-three : goal.loop-i-preserved-then-three
 loop-i-preserved-then-three c = search (rules, text_join, c.three.ensures)
 
-pub overflow_add-i-else-three : goal.overflow_add-i-else-three
-overflow_add-i-else-three c = omega (arith, step_most)
+pub overflow_add-i-in-Ok : goal.overflow_add-i-in-Ok
+overflow_add-i-in-Ok c = omega (arith, step_most c.args.bytes.now c.loop-i.i c.in-Ok.ensures)
 
 pub loop-i-smaller : goal.loop-i-smaller
-loop-i-smaller c = omega (arith, step_least, step_most)
+loop-i-smaller c = omega (arith, step_least c.args.bytes.now c.loop-i.i c.in-Ok.ensures, step_most c.args.bytes.now c.loop-i.i c.in-Ok.ensures)
 
 pub loop-i-preserved : goal.loop-i-preserved
-loop-i-preserved c = search (rules, text_join, text_step)
+loop-i-preserved c = text_join c.loop-i.invariant (text_step c.args.bytes.now c.loop-i.i (omega arith) c.in-Ok.ensures refl)

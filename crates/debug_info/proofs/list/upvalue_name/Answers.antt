@@ -1,13 +1,12 @@
 -- Past the count there is no name; before it, item i is one.
-use Rattle.lent.proofs.Prelude.{refl}
+use Rattle.lent.proofs.Prelude.{refl, ap}
 use Rattle.format.specs.Store.{string}
-use Rattle.debug_info.proofs.Lists.{looked_past, looked_up}
+use Rattle.proto.proofs.Items.{nth_none, nth_some}
+use Rattle.debug_info.specs.Names.{upvalue_name}
 use Rattle.debug_info.proofs.list.upvalue_name.Goals as goal
 
-pub returns-then-word_at-i : goal.returns-then-word_at-i
-returns-then-word_at-i c text l h = rw (looked_past string l h c.word_at.ensures c.if-word_at-i.true)
+pub returns-in-Some : goal.returns-in-Some
+returns-in-Some c text l h = ap upvalue_name (nth_some 2 string l h (λ a to. refl) c.in-Some.ensures (c.name_at.ensures text))
 
-pub returns : goal.returns
-returns c = λ text l h.
-    let x = looked_up string l h c.word_at.ensures 2 (λ a to. refl) c.if-word_at-i.false c.item_at.ensures in
-    rw x.is (c.name_at.ensures text x.value x.stands)
+pub returns-in-None : goal.returns-in-None
+returns-in-None c text l h = ap upvalue_name (nth_none 2 string l h c.in-None.ensures)

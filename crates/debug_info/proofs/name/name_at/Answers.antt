@@ -4,4 +4,4 @@ use Rattle.proto.proofs.Items.{string_here}
 use Rattle.debug_info.proofs.name.name_at.Goals as goal
 
 pub returns : goal.returns
-returns c text s h = string_here s h.stands c.word_at-place.ensures c.skip.ensures c.word_at-n.ensures refl
+returns c text s h = string_here s (c.string_at.ensures s text h.to h.stands) refl h.stands

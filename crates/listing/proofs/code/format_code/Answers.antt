@@ -1,4 +1,4 @@
--- What is left to write are the lines from pc on, and kept is a child; closure_child gives the child that a CLOSURE names.
+-- What is left to write are the lines from pc on; the functions that are looked up are those in this one.
 use Rattle.lent.proofs.Prelude.{rules}
 use Rattle.listing.proofs.Codes.{codes_turn, codes_end}
 use Rattle.listing.proofs.code.format_code.Goals as goal

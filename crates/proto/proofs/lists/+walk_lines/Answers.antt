@@ -14,5 +14,5 @@ returns-then-allowance-eq0-clause-walks t c = search (to_lines, all_deep)
 pub returns : goal.returns
 returns t c =
     let all = all_first c.if-allowance-eq0.false c.if-n-eq0.false c.walk_lines-inner.ensures.walks c.after_debug.ensures c.pass_all-r.ensures in
-    let x = walked_kept c.keep-2.ensures c.walk_lines-inner.ensures.kept (to_lines c.functions_at-list.ensures c.word_at-n.ensures c.skip.ensures c.saturating_add.ensures all) in
+    let x = walked_kept c.keep-2.ensures c.walk_lines-inner.ensures.kept (to_lines c.functions_at-list.ensures c.word_at-n.ensures c.first_in-first.ensures.0 c.first_in-first.ensures.1 all) in
     record { walks = x.0; kept = x.1 }

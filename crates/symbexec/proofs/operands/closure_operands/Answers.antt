@@ -2,8 +2,8 @@
 use Rattle.symbexec.proofs.Upvalues.{behind_none, behind_child}
 use Rattle.symbexec.proofs.operands.closure_operands.Goals as goal
 
-pub returns-then-word_at-i : goal.returns-then-word_at-i
-returns-then-word_at-i c = behind_none c.word_at.ensures c.if-word_at-i.true
+pub returns-in-Some-clause-many : goal.returns-in-Some-clause-many
+returns-in-Some-clause-many c = behind_child c.in-Some.ensures.found c.head_at.ensures
 
-pub returns : goal.returns
-returns c = behind_child c.word_at.ensures c.if-word_at-i.false c.child_at-child.ensures c.head_at.ensures
+pub returns-in-None-clause-many : goal.returns-in-None-clause-many
+returns-in-None-clause-many c = behind_none c.in-None.ensures.found

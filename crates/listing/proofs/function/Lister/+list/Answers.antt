@@ -1,12 +1,8 @@
 -- The loop's invariant: whatever lists the other functions from here lists all of them from the start. The allowance falls.
 use Rattle.lent.proofs.Prelude.{arith, suc, ◌-◌, ◌≡◌}
 use Rattle.format.proofs.Loops.{loop_turn, loop_end}
-use Rattle.proto.proofs.Walks.{none_deep}
 use Rattle.listing.proofs.Listers.{lists_none, lists_more, lists_function}
 use Rattle.listing.proofs.function.Lister.+list.Goals as goal
-
-pub returns-then-allowance-eq0-clause-lists : goal.returns-then-allowance-eq0-clause-lists
-returns-then-allowance-eq0-clause-lists t c = λ f v. absurd (none_deep c.if-allowance-eq0.true f v)
 
 pub loop-i-preserved : goal.loop-i-preserved
 loop-i-preserved t c = let x = c.list-r.ensures in (x.kept, loop_turn c.loop-i-test.true c.loop-i.invariant.1 (lists_more c.put_byte.ensures x.lists))
@@ -15,4 +11,4 @@ pub returns-clause-lists : goal.returns-clause-lists
 returns-clause-lists t c =
     let n = c.args.allowance - 1 in
     let e : c.args.allowance ≡ suc n = omega (arith, c.if-allowance-eq0.false) in
-    rw e (lists_function n c.source_of-source.ensures c.put_function.ensures.lists c.functions_at-list.ensures c.word_at-n.ensures c.skip.ensures c.saturating_add.ensures (loop_end c.loop-i-test.false c.loop-i.invariant.1 lists_none) c.after_debug.ensures)
+    rw e (lists_function n c.source_of-source.ensures c.put_function.ensures.lists c.functions_at-list.ensures c.word_at-n.ensures c.first_in-r.ensures.0 c.first_in-r.ensures.1 (loop_end c.loop-i-test.false c.loop-i.invariant.1 lists_none) c.after_debug.ensures)

@@ -5,4 +5,4 @@ use Rattle.listing_operands.proofs.ShownLists.{shows_put, shows_then, constant_s
 use Rattle.listing_headers.proofs.list.ConstantsItem.put_line.Goals as goal
 
 pub returns : goal.returns
-returns c = shows_then (shows_then (shows_put (rw c.from.ensures at c.put_index.ensures)) (record { shows = constant_shown c.constant_at.result (λ k. constant_text false (some k)) c.constant_at.ensures.value c.put_constant.ensures })) (shows_put c.put_byte.ensures)
+returns c = shows_then (shows_then (shows_put (rw c.from.ensures at c.put_index.ensures)) (constant_shown c.constant_at.result (λ k. constant_text false (some k)) c.constant_at.ensures.value c.put_constant.ensures)) (shows_put c.put_byte.ensures)

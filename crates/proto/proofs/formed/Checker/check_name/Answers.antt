@@ -10,11 +10,11 @@ returns-in_err-r c = rw c.from_residual.ensures (name_stopped c.in_err-r.ensures
 pub returns-then-is_utf8 : goal.returns-then-is_utf8
 returns-then-is_utf8 c = elim c.if-self.branch [
   | then-self w ↦ ascii_name c.in_ok-r.ensures (c.args.self.ascii_holds w.if-self.true)
-  | else-self w ↦ name_good c.in_ok-r.ensures w.is_utf8.ensures w.part.ensures (sym w.value-is ∙ c.if-is_utf8.true)
+  | else-self w ↦ name_good c.in_ok-r.ensures w.is_utf8.ensures w.of.ensures (sym w.value-is ∙ c.if-is_utf8.true)
 ]
 
 pub returns-else-is_utf8 : goal.returns-else-is_utf8
 returns-else-is_utf8 c = elim c.if-self.branch [
   | then-self w ↦ absurd (never w.if-self.true (sym w.value-is ∙ c.if-is_utf8.false))
-  | else-self w ↦ name_bad c.in_ok-r.ensures w.is_utf8.ensures w.part.ensures (sym w.value-is ∙ c.if-is_utf8.false)
+  | else-self w ↦ name_bad c.in_ok-r.ensures w.is_utf8.ensures w.of.ensures (sym w.value-is ∙ c.if-is_utf8.false)
 ]

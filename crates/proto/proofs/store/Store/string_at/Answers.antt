@@ -1,6 +1,6 @@
--- The two words are the string's place and length, and there it stands in the text.
+-- There it stands in the text.
 use Rattle.proto.proofs.Items.{string_here}
 use Rattle.proto.proofs.store.Store.string_at.Goals as goal
 
 pub returns : goal.returns
-returns c = search string_here
+returns c s to h = string_here s (c.string_at.ensures s _ to h) c.of.ensures h

@@ -1,0 +1,6 @@
+-- Three pieces one behind the other.
+use Rattle.dump.proofs.Steps.{dumps_three}
+use Rattle.dump.proofs.list.Dumper.dump_local.Goals as goal
+
+pub returns : goal.returns
+returns c = λ v. dumps_three (c.dump_name-start.ensures v.name) (c.dump_word-end.ensures v.start) (c.dump_word.ensures v.end)
