@@ -1,10 +1,14 @@
 -- What the naming calls answer, and what they leave in lent memory.
-use Rattle.std.specs.Prelude.{ℕ, List, cond, length, eqb, leb}
+use Rattle.std.specs.Prelude.{ℕ, List, cond, length, eqb, leb, Option, Some, None, Result, Ok, Err}
 use Rattle.format.specs.Tree.{Function, parts_of}
 use Rattle.format.specs.Dump.{WriteLeft, write_refused, written}
+use Rattle.format.specs.Refusal.{number}
+use Rattle.format.specs.declared.Refusal.{Refusal}
 use Rattle.proto.specs.Places.{on_place}
 use Rattle.symbexec.specs.SymbExec.{symbexec}
 use Rattle.debug_info.specs.Names.{Object, get_local_name, kname, getobjname}
+use Rattle.debug_info.specs.Kind.{number as kind_number}
+use Rattle.debug_info.specs.declared.name.Kind.{Kind}
 use Rattle.debug_info.specs.declared.answer.SymbExec.{SymbExec}
 use Rattle.debug_info.specs.declared.answer.Named.{Named}
 
@@ -23,6 +27,10 @@ register_refusal words text place pc reg = on_register (λ n. n) (λ f. 0) words
 abbrev pub no_instruction : ℕ → SymbExec
 no_instruction n = record { refusal = n; instruction = 0 }
 
+abbrev pub symbexec_result : Result ℕ Refusal → SymbExec
+symbexec_result (Ok i) = record { refusal = 0; instruction = i }
+symbexec_result (Err e) = no_instruction (number e)
+
 unfoldable pub symbexec_answer : List ℕ → List ℕ → ℕ → ℕ → ℕ → SymbExec
 symbexec_answer words text place lastpc reg = on_register no_instruction (λ f. record { refusal = 0; instruction = symbexec f lastpc reg }) words text place lastpc reg
 
@@ -35,6 +43,12 @@ pub record NameLeft : Type 0 where
 
 abbrev pub name_left : Named → List ℕ → NameLeft
 name_left r out = record { answer = r; out = out }
+
+-- what is answered for a name's kind and length, where there is one
+abbrev pub named_result : Result (Option (Kind × ℕ)) Refusal → Named
+named_result (Ok None) = record { refusal = 0; kind = 0; len = 0 }
+named_result (Ok (Some n)) = record { refusal = 0; kind = kind_number n.0; len = n.1 }
+named_result (Err e) = record { refusal = number e; kind = 0; len = 0 }
 
 abbrev pub name_refused : List ℕ → ℕ → NameLeft
 name_refused out n = record { answer = record { refusal = n; kind = 0; len = 0 }; out = out }

@@ -1,7 +1,8 @@
 // The answers of the naming calls, as C reads them: the refusal, 0 where there is none, then numbers, all 0 on refusal.
 ghost use Rattle.std.specs.Prelude.{◌≡◌};
-ghost use Rattle.format.specs.Refusal.{number};
+ghost use Rattle.debug_info.specs.Calls.{symbexec_result, named_result};
 
+use crate::name::Kind;
 use format::Refusal;
 
 // An instruction.
@@ -12,14 +13,18 @@ pub struct SymbExec {
     pub instruction: u32,
 }
 
-impl SymbExec {
-    // A refused answer.
-    pub fn refused(e: Refusal) -> SymbExec
-        ensures { result ≡ record { refusal = number e; instruction = 0 } }
-    {
+// What symbexec answers: the instruction, or why it is refused.
+impl From<Result<u32, Refusal>> for SymbExec {
+    ghost from_gives = { λ r a. a ≡ symbexec_result r };
+
+    fn from(r: Result<u32, Refusal>) -> SymbExec {
+        let (refusal, instruction) = match r {
+            Ok(i) => (0, i),
+            Err(e) => (e.number(), 0),
+        };
         SymbExec {
-            refusal: e.number(),
-            instruction: 0,
+            refusal,
+            instruction,
         }
     }
 }
@@ -33,15 +38,16 @@ pub struct Named {
     pub len: usize,
 }
 
-impl Named {
-    // A refused answer.
-    pub fn refused(e: Refusal) -> Named
-        ensures { result ≡ record { refusal = number e; kind = 0; len = 0 } }
-    {
-        Named {
-            refusal: e.number(),
-            kind: 0,
-            len: 0,
-        }
+// What a call that names a register answers: its name's kind and length where there is one, or why it is refused.
+impl From<Result<Option<(Kind, usize)>, Refusal>> for Named {
+    ghost from_gives = { λ r a. a ≡ named_result r };
+
+    fn from(r: Result<Option<(Kind, usize)>, Refusal>) -> Named {
+        let (refusal, kind, len) = match r {
+            Ok(Some((kind, len))) => (0, kind.number(), len),
+            Ok(None) => (0, 0, 0),
+            Err(e) => (e.number(), 0, 0),
+        };
+        Named { refusal, kind, len }
     }
 }

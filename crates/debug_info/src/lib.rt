@@ -10,12 +10,12 @@ ghost use Rattle.std.specs.Prelude.{◌≡◌};
 ghost use Rattle.format.specs.Dump.{write_left, written_left};
 ghost use Rattle.format.specs.Refusal.{RefusedBy};
 ghost use Rattle.debug_info.specs.Known.{object_of};
-ghost use Rattle.debug_info.specs.Calls.{register_refusal, symbexec_answer, name_left, named, local_named, knamed, object_named};
+ghost use Rattle.debug_info.specs.Calls.{register_refusal, symbexec_answer, symbexec_result, name_left, named, named_result, local_named, knamed, object_named};
 
 use answer::{Named, SymbExec};
 use format::{Refusal, Written, low};
 use list::{active_local, operand_name};
-use name::{Known, write_name};
+use name::{Kind, Known, write_name};
 use proto::store::Store;
 use proto::walk::{code_at, constants_at, word_at};
 use symbexec::symbexec_at;
@@ -36,39 +36,51 @@ fn check_register(store: Store, place: usize, pc: usize, reg: u32) -> Result<(),
     }
 }
 
-// The answer for what is known of a register; its name goes to out. 11 where it does not fit.
-pub fn give(text: &[u8], v: Option<Known>, out: &mut [u8]) -> Named
-    ensures { name_left result out.new ≡ named (object_of text.now v) out.old }
+// Writes the name of what is known from the start of out, and answers its kind and its length, nothing where nothing is known. Refused by 11.
+#[tactic(auto, using(std::proofs::lemmas::Result::err_from_is_err_and))]
+pub fn write_known(
+    text: &[u8],
+    v: Option<Known>,
+    out: &mut [u8],
+) -> Result<Option<(Kind, usize)>, Refusal>
+    ensures { name_left (named_result result) out.new ≡ named (object_of text.now v) out.old }
 {
     let Some(known) = v else {
-        return Named {
-            refusal: 0,
-            kind: 0,
-            len: 0,
-        };
+        return Ok(None);
     };
-    match write_name(text, known.name, out) {
-        Ok(len) => Named {
-            refusal: 0,
-            kind: known.kind.number(),
-            len,
-        },
-        Err(e) => Named::refused(e),
-    }
+    let len = write_name(text, known.name, out)?;
+    Ok(Some((known.kind, len)))
+}
+
+// The last instruction before lastpc that wrote a register. Refused by 10, 12, 13, 14.
+fn find_write(store: Store, place: usize, lastpc: usize, reg: u32) -> Result<u32, Refusal>
+    ensures { symbexec_result result ≡ symbexec_answer store.entry.words.now store.entry.text.now place lastpc reg }
+{
+    check_register(store, place, lastpc, reg)?;
+    Ok(symbexec_at(store.lists_at(place), lastpc as u32, reg))
 }
 
 // The last instruction before lastpc that wrote a register. Refused by 10, 12, 13, 14.
 pub fn symbexec(words: &[u32], text: &[u8], place: usize, lastpc: usize, reg: u32) -> SymbExec
     ensures { result ≡ symbexec_answer words.now text.now place lastpc reg }
 {
-    let store = Store { words, text };
-    if let Err(e) = check_register(store, place, lastpc, reg) {
-        return SymbExec::refused(e);
-    }
-    SymbExec {
-        refusal: 0,
-        instruction: symbexec_at(store.lists_at(place), lastpc as u32, reg),
-    }
+    SymbExec::from(find_write(Store { words, text }, place, lastpc, reg))
+}
+
+// Writes the name of local number local_number, from 1, of those active at pc. Refused by 10, 12, 11.
+fn write_local_name(
+    store: Store,
+    place: usize,
+    local_number: usize,
+    pc: usize,
+    out: &mut [u8],
+) -> Result<Option<(Kind, usize)>, Refusal>
+    ensures { name_left (named_result result) out.new ≡ local_named store.entry.words.now store.entry.text.now place local_number pc out.old }
+{
+    store.has_function(place)?;
+    let locals = store.lists_at(place).locals;
+    let v = active_local(store.words, locals, local_number, low(pc));
+    write_known(store.text, v, out)
 }
 
 // The name of local number local_number, from 1, of those active at pc: kind 1, and its bytes in out; kind 0 where there is none.
@@ -83,13 +95,7 @@ pub fn get_local_name(
 ) -> Named
     ensures { name_left result out.new ≡ local_named words.now text.now place local_number pc out.old }
 {
-    let store = Store { words, text };
-    if let Err(e) = store.has_function(place) {
-        return Named::refused(e);
-    }
-    let locals = store.lists_at(place).locals;
-    let v = active_local(words, locals, local_number, low(pc));
-    give(text, v, out)
+    write_local_name(Store { words, text }, place, local_number, pc, out).into()
 }
 
 // Writes the name of an RK operand from the start of out, and answers its length. Refused by 10, 12, 11.
@@ -108,6 +114,21 @@ pub fn kname(words: &[u32], text: &[u8], place: usize, c: u32, out: &mut [u8]) -
     write_kname(Store { words, text }, place, c, out).into()
 }
 
+// Writes the name of what register stackpos holds at pc. Refused by 10, 12, 13, 14, 11.
+fn write_objname(
+    store: Store,
+    place: usize,
+    pc: usize,
+    stackpos: u32,
+    out: &mut [u8],
+) -> Result<Option<(Kind, usize)>, Refusal>
+    ensures { name_left (named_result result) out.new ≡ object_named store.entry.words.now store.entry.text.now place pc stackpos out.old }
+{
+    check_register(store, place, pc, stackpos)?;
+    let v = object::getobjname(store.lists_at(place), pc as u32, stackpos, [false; 256]);
+    write_known(store.text, v, out)
+}
+
 // What register stackpos holds at pc: its kind, and its name in out; kind 0 where nothing is known.
 // Refused by 10, 12, 13, 14, 11. Refused, or with no name, out keeps its contents.
 pub fn getobjname(
@@ -120,10 +141,5 @@ pub fn getobjname(
 ) -> Named
     ensures { name_left result out.new ≡ object_named words.now text.now place pc stackpos out.old }
 {
-    let store = Store { words, text };
-    if let Err(e) = check_register(store, place, pc, stackpos) {
-        return Named::refused(e);
-    }
-    let v = object::getobjname(store.lists_at(place), pc as u32, stackpos, [false; 256]);
-    give(text, v, out)
+    write_objname(Store { words, text }, place, pc, stackpos, out).into()
 }

@@ -40,7 +40,7 @@ pub fn put_negative(w: &mut Writer, n: u64)
     put_decimal(w, n);
 }
 
-// The bits of a number constant: 0x and 16 digits in base 16.
+// The bits of a number constant: 0x and 16 digits in base 16. format::joined is of a crate above this one.
 pub fn put_number(w: &mut Writer, high: u32, low: u32)
     ensures { Writes (number high low) w.old w.new }
 {
@@ -98,7 +98,7 @@ fn put_escape(w: &mut Writer, b: u8)
     }
 }
 
-// Where the bytes end that are written as themselves, from a place on.
+// Where the bytes end that are written as themselves, from a place on. By index: position would answer a place in a cut slice, or None for the end.
 #[tactic(auto, using(crate::proofs::Strings::plain_more))]
 fn plain_end(s: &[u8], at: usize) -> usize
     requires { at < length s.now }

@@ -65,17 +65,25 @@ module _ {at a b r : ℕ} {out out₁ out₂ out' : List ℕ} where
   pub string_put : (size4 : Bool) (s : List ℕ) → Puts (dump_size size4 (length s + 1)) at out a out₁ → Puts s a out₁ b out₂ → Puts (0 ∷ []) b out₂ r out' → Puts (dump_text size4 s) at out r out'
   string_put size4 s p q t = put_then (put_then p q) t
 
--- a number behind its tag: its low half, then its high half
-number_halves : (low high : ℕ) → low < 4294967296 → high < 4294967296 → dump_number 8 (low + 4294967296 * high) ≡ dump_int low ++ dump_int high
+-- a number of four bytes and w more: the low four are an integer
+pub number_int : (w n : ℕ) → dump_number (suc (suc (suc (suc w)))) n ≡ dump_int (n % 4294967296) ++ dump_number w (n / 4294967296)
 unfolding dump_number
-number_halves low high l h =
-    let n = low + 4294967296 * high in
-    let a : (n % 256 ≡ low % 256) × (n / 256 % 256 ≡ low / 256 % 256) × (n / 256 / 256 % 256 ≡ low / 256 / 256 % 256) × (n / 256 / 256 / 256 % 256 ≡ low / 256 / 256 / 256 % 256) = omega arith in
-    let b : n / 256 / 256 / 256 / 256 ≡ high = omega arith in
-    rw (a.0, a.1, a.2, a.3, b)
+number_int w n =
+    let low = n % 4294967296 in
+    let e : (n % 256 ≡ low % 256) × (n / 256 % 256 ≡ low / 256 % 256) × (n / 256 / 256 % 256 ≡ low / 256 / 256 % 256) × (n / 256 / 256 / 256 % 256 ≡ low / 256 / 256 / 256 % 256) = omega arith in
+    let f : n / 256 / 256 / 256 / 256 ≡ n / 4294967296 = omega arith in
+    rw (e.0, e.1, e.2, e.3, f)
 
-pub num_put : {at a r : ℕ} {out out₁ out' : List ℕ} (low high : ℕ) → low < 4294967296 → high < 4294967296 → Puts (3 ∷ []) at out a out₁ → Puts (to_le_bytes w64 (low + 4294967296 * high)) a out₁ r out' → Puts (3 ∷ dump_int low ++ dump_int high) at out r out'
-num_put low high l h p q = put_then p (rw (number_bytes 8 (low + 4294967296 * high) ∙ number_halves low high l h) at q)
+-- a number behind its tag: its low half, then its high half
+number_halves : (low high : ℕ) → low < 4294967296 → dump_number 8 (low + 4294967296 * high) ≡ dump_int low ++ dump_int high
+number_halves low high l =
+    let n = low + 4294967296 * high in
+    let a : n % 4294967296 ≡ low = omega arith in
+    let b : n / 4294967296 ≡ high = omega arith in
+    number_int 4 n ∙ rw (a, b)
+
+pub num_put : {at a r : ℕ} {out out₁ out' : List ℕ} (low high : ℕ) → low < 4294967296 → Puts (3 ∷ []) at out a out₁ → Puts (to_le_bytes w64 (low + 4294967296 * high)) a out₁ r out' → Puts (3 ∷ dump_int low ++ dump_int high) at out r out'
+num_put low high l p q = put_then p (rw (number_bytes 8 (low + 4294967296 * high) ∙ number_halves low high l) at q)
 
 -- a string behind its tag
 pub str_put : {at a r : ℕ} {out out₁ out' : List ℕ} (size4 : Bool) (s : List ℕ) → Puts (4 ∷ []) at out a out₁ → Puts (dump_text size4 s) a out₁ r out' → Puts (4 ∷ dump_text size4 s) at out r out'

@@ -3,3 +3,4 @@ pub mod Steps
 pub mod Lists
 pub mod Functions
 pub mod Bounds
+pub mod Room

@@ -37,7 +37,7 @@ pub fn dump_string(out: &mut [u8], at: usize, s: &[u8], size_4: bool) -> usize
     put(out, end, 0)
 }
 
-// Integers, which fit, one behind the other.
+// Integers, which fit, one behind the other. By index: of the items of an iter_mut nothing is known behind the loop.
 #[tactic(auto, using(crate::proofs::Blocks::ints_start, crate::proofs::Blocks::ints_turn))]
 fn store_ints(out: &mut [u8], at: usize, l: &[u32])
     requires { 4 * length l.now ≤ length out.old - at }

@@ -50,7 +50,7 @@ impl<'a> Dumper<'a> {
         Reached { at, len }
     }
 
-    // A function; an inherited source stands for outer. root stands beside outer, as the root inherits the chunk name but is compared with the empty string.
+    // A function; an inherited source stands for outer. root stands beside outer, as the root inherits the chunk name but is compared with the empty string; an enum of both would be taken apart at each use.
     #[cycle(dump_constants_dump_function)]
     pub fn dump_function(
         self,

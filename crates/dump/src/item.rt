@@ -8,7 +8,7 @@ ghost use Rattle.dump.specs.Step.{Dumps, progress};
 
 use crate::list::{Dumper, Reached};
 
-// A kind of items. proto has an Item of its own: each says what its own walk does with an item.
+// A kind of items. proto, load_function and listing_headers have such a trait each, as proto's says.
 pub trait Item {
     ghost Value: { Type 0 };
 

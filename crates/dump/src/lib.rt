@@ -22,8 +22,7 @@ use proto::store::Store;
 fn dump_header(out: &mut [u8], size_4: bool) -> usize
     ensures { Puts (dump_header size_4) 0 out.old result out.new }
 {
-    // as u8, which a width of 4 or 8 fits: try_from would have a refusal that is never met
-    let w = width(size_4) as u8;
+    let w = width(size_4);
     put_array(out, 0, [0x1b, b'L', b'u', b'a', 0x51, 0, 1, 4, w, 4, 8, 0])
 }
 

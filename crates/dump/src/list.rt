@@ -12,7 +12,7 @@ ghost use Rattle.dump.specs.Step.{Dumps, progress};
 
 use crate::block::{dump_int, dump_ints, dump_string};
 use crate::item::{Item, Locals, Names};
-use format::Constant;
+use format::{Constant, joined};
 use lent::{put, put_array};
 use proto::constant::constant_at;
 use proto::store::Store;
@@ -32,7 +32,8 @@ pub struct Reached {
     pub len: usize,
 }
 
-// What is written, and how. Each step goes on from what is reached, past what it writes.
+// What is written, and how. Each step goes on from what is reached, past what it writes. Over the space and what is reached by value: a Writer's
+// place goes through memory at each item, and 65,535 numbers took 4.79 million instructions of the machine, not 2.69.
 #[derive(Clone, Copy)]
 pub struct Dumper<'a> {
     pub store: Store<'a>,
@@ -150,8 +151,7 @@ fn put_constant(out: &mut [u8], at: usize, text: &[u8], k: Constant, size_4: boo
         Constant::Bool(b) => put_array(out, at, [1, u8::from(b)]),
         Constant::Num(high, low) => {
             let start = put(out, at, 3);
-            let bits = u64::from(low) + 4294967296 * u64::from(high);
-            put_array(out, start, bits.to_le_bytes())
+            put_array(out, start, joined(low, high).to_le_bytes())
         }
         Constant::String(s) => {
             let start = put(out, at, 4);

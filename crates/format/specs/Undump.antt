@@ -1,11 +1,13 @@
 -- What measure and store answer, and what store leaves in lent memory.
-use Rattle.std.specs.Prelude.{ℕ, ◌+◌, ◌-◌, ◌≤◌, ◌<◌, min, ◌≡◌, List, ◌++◌, map, Bool, true, false, cond, ◌&&◌, length, take, drop, leb, eqb}
+use Rattle.std.specs.Prelude.{ℕ, ◌+◌, ◌-◌, ◌≤◌, ◌<◌, min, ◌≡◌, List, ◌++◌, map, Bool, true, false, cond, ◌&&◌, length, take, drop, leb, eqb, Result, Ok, Err}
 use Rattle.utf8.specs.Utf8.{is_utf8, repair}
 use Rattle.format.specs.Tree.{Source, Local, Debug, Function, Functions, with}
 use Rattle.format.specs.Read.{Read, Reader, ◌>>=◌, return, width_of, load_header, load_function}
 use Rattle.format.specs.Store.{words_of, text_of}
 use Rattle.format.specs.Valid.{depth, most}
+use Rattle.format.specs.Refusal.{number}
 use Rattle.format.specs.declared.Undumped.{Undumped}
+use Rattle.format.specs.declared.Refusal.{Refusal}
 
 -- ---- sources, local and upvalue names go through repair; constants stay as they are
 
@@ -47,6 +49,11 @@ name_ok name = is_utf8 name && leb (length name) most
 -- a refusal: its number, zeros beside it
 abbrev pub refused_by : ℕ → Undumped
 refused_by n = record { refusal = n; width = 0; words = 0; text = 0; read = 0 }
+
+-- what a call answers that measured a chunk, or is refused
+abbrev pub undumped_result : Result Undumped Refusal → Undumped
+undumped_result (Ok m) = m
+undumped_result (Err e) = refused_by (number e)
 
 -- ---- measure: 1, then 2 to 7 as reading meets them
 

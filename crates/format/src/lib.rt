@@ -3,11 +3,12 @@
 // What the calls answer and leave in lent memory is defined in specs/. Beside the answers stand the limits, the width of sizes and the test of a chunk name, which the calls share.
 #![tactic(auto)]
 
-ghost use Rattle.std.specs.Prelude.{◌≡◌, ◌≤◌, ◌^◌, ◌%◌, take, drop, List, ℕ};
+ghost use Rattle.std.specs.Prelude.{◌+◌, ◌*◌, ◌≡◌, ◌≤◌, ◌^◌, ◌%◌, take, drop, List, ℕ};
 ghost use Rattle.format.specs.Read.{limit, width_of};
 ghost use Rattle.format.specs.Valid.{depth, most};
 ghost use Rattle.format.specs.Dump.{write_left, written_left, name_refusal};
 ghost use Rattle.format.specs.Refusal.{number, RefusedBy};
+ghost use Rattle.format.specs.Undump.{undumped_result};
 
 // Why a call is refused: by the number that callers see.
 #[derive(Clone, Copy, Debug, PartialEq, Eq)]
@@ -72,6 +73,24 @@ impl From<Result<usize, Refusal>> for Written {
     }
 }
 
+// What a call that reads a chunk answers: what it measured, or why it is refused.
+impl From<Result<Undumped, Refusal>> for Undumped {
+    ghost from_gives = { λ r u. u ≡ undumped_result r };
+
+    fn from(r: Result<Undumped, Refusal>) -> Undumped {
+        match r {
+            Ok(m) => m,
+            Err(e) => Undumped {
+                refusal: e.number(),
+                width: 0,
+                words: 0,
+                text: 0,
+                read: 0,
+            },
+        }
+    }
+}
+
 // A part of a list, by its place and its length.
 #[derive(Clone, Copy, Default)]
 pub struct Span {
@@ -114,7 +133,7 @@ fn limits()
 {}
 
 // How many bytes a size takes: four where size_4 is told, else eight. A bool, as the C interface has it.
-pub fn width(size_4: bool) -> usize
+pub fn width(size_4: bool) -> u8
     ensures { (result ≡ width_of size_4) × (result ≤ 8) }
 {
     if size_4 { 4 } else { 8 }
@@ -125,6 +144,13 @@ pub fn low(n: usize) -> u32
     ensures { result ≡ n % 2 ^ 32 }
 {
     (n % 4294967296) as u32
+}
+
+// A number of 64 bits by its halves.
+pub fn joined(low: u32, high: u32) -> u64
+    ensures { result ≡ low + 4294967296 * high }
+{
+    u64::from(low) + 4294967296 * u64::from(high)
 }
 
 // Whether a chunk name is UTF-8 and not too long: refused by 1.

@@ -1,4 +1,5 @@
-// Writing to lent memory. What is past the end is not written, and a place stops at the farthest.
+// Writing to lent memory. What is past the end is not written, and a place stops at the farthest. Over the memory and a place, of items of any type: a
+// Writer, which is of bytes, is made of these.
 #![tactic(auto)]
 
 ghost use Rattle.std.specs.Prelude.{◌+◌, ◌≤◌, ◌<◌, ◌≡◌, [], ◌∷◌, length};

@@ -16,10 +16,7 @@ pub fn load_size(s: LoadState, size_4: bool) -> Result<Got<u64>, Refusal>
         return s.load_size();
     }
     let n = s.load_int()?;
-    Ok(Got {
-        value: u64::from(n.value),
-        next: n.next,
-    })
+    Ok(n.with(u64::from(n.value)))
 }
 
 // A list's count.
@@ -62,44 +59,29 @@ pub fn load_text(s: LoadState, size_4: bool) -> Result<Got<Span>, Refusal>
     ensures { Texts s.entry.chunk.now size_4 s.entry.pos result }
 {
     let z = load_string(s, size_4)?;
-    Ok(Got {
-        value: z.value.unwrap_or_default(),
-        next: z.next,
-    })
+    Ok(z.with(z.value.unwrap_or_default()))
 }
 
-// A constant, by its tag; a string by where it stands in the chunk.
+// A constant, by its tag, one of the format's numbers; a string by where it stands in the chunk.
 pub fn load_constant(s: LoadState, size_4: bool) -> Result<Got<Constant>, Refusal>
     ensures { ReadsConstant s.entry.chunk.now size_4 s.entry.pos result }
 {
     let tag = s.load_byte()?;
     let s = LoadState { pos: tag.next, ..s };
     match tag.value {
-        0 => Ok(Got {
-            value: Constant::Nil,
-            next: s.pos,
-        }),
+        0 => Ok(tag.with(Constant::Nil)),
         1 => {
             let b = s.load_byte()?;
-            Ok(Got {
-                value: Constant::Bool(b.value != 0),
-                next: b.next,
-            })
+            Ok(b.with(Constant::Bool(b.value != 0)))
         }
         3 => {
             let n = s.load_number()?;
             let (low, high) = n.value;
-            Ok(Got {
-                value: Constant::Num(high, low),
-                next: n.next,
-            })
+            Ok(n.with(Constant::Num(high, low)))
         }
         4 => {
             let z = load_text(s, size_4)?;
-            Ok(Got {
-                value: Constant::String(z.value),
-                next: z.next,
-            })
+            Ok(z.with(Constant::String(z.value)))
         }
         _ => Err(Refusal::BadTag),
     }

@@ -10,7 +10,7 @@ use crate::Loader;
 use format::Refusal;
 use load_state::cursor::four_at;
 
-// n integers, which fit, go from the chunk to the words.
+// n integers, which fit, go from the chunk to the words. By index: of the items of an iter_mut nothing is known behind the loop.
 #[tactic(auto, using(crate::proofs::Fours::fill_more), unfolding(crate::specs::Loads::fours))]
 fn fill(chunk: &[u8], from: usize, n: usize, words: &mut [u32], at: usize)
     requires { (4 * n ≤ length chunk.now - from) × (n ≤ length words.old - at) }

@@ -14,7 +14,7 @@ use format::{Constant, Refusal};
 use load::Loader;
 use load::cursor::load_constant;
 
-// What the items of a list are.
+// What the items of a list are. proto, dump and listing_headers have such a trait each, as proto's says.
 pub trait Item {
     ghost Value: { Type 0 };
 
@@ -40,7 +40,7 @@ pub fn load_list<T: Item>(s: &mut Loader) -> Result<(), Refusal>
 // Constants.
 pub struct Pool;
 
-// A constant that was read goes to the store.
+// A constant that was read goes to the store, its tag one of the format's numbers.
 fn put_constant(s: &mut Loader, k: Constant)
     ensures { Stores (constant_piece (value_of s.old.reader.chunk.now k)) s.old s.new }
 {

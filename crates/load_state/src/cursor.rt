@@ -3,13 +3,25 @@ ghost use Rattle.std.specs.Prelude.{◌≡◌, ◌+◌, ◌≤◌, length};
 ghost use Rattle.format.specs.Read.{load_byte, load_number, load_int};
 ghost use Rattle.load_state.specs.ReadAt.{four_at, ReadAt, HalvesAt};
 
-use format::Refusal;
+use format::{Refusal, joined};
 
 // What was read, and the next place.
 #[derive(Clone, Copy)]
 pub struct Got<T> {
     pub value: T,
     pub next: usize,
+}
+
+impl<T: Copy> Got<T> {
+    // Another value that was read there.
+    pub fn with<U>(self, value: U) -> Got<U>
+        ensures { (result.value ≡ value) × (result.next ≡ self.next) }
+    {
+        Got {
+            value,
+            next: self.next,
+        }
+    }
 }
 
 // The number that four bytes from a place on stand for, the lowest first.
@@ -67,10 +79,8 @@ pub fn size_at(chunk: &[u8], at: usize) -> Result<Got<u64>, Refusal>
     if chunk.len().saturating_sub(at) < 8 {
         return Err(Refusal::Truncated);
     }
-    let low = u64::from(four_at(chunk, at));
-    let high = u64::from(four_at(chunk, at + 4));
     Ok(Got {
-        value: low + 4294967296 * high,
+        value: joined(four_at(chunk, at), four_at(chunk, at + 4)),
         next: at + 8,
     })
 }

@@ -225,9 +225,6 @@ module _ (rs : List LocalRecord) (words text : List ℕ) (place n pc : ℕ) (out
       pub count_taken : length locals / 4 ≡ length (take (length locals / 4) rs)
       count_taken = sym (length-take-le (length locals / 4) rs count_enough)
 
-      pub words_enough : 4 * length (take (length locals / 4) rs) ≤ length locals
-      words_enough = omega (arith, long, count_is, count_taken)
-
       records_are : records_at locals 0 (length (take (length locals / 4) rs)) ≡ records_at words (locals_at place f) (length (locals_of f))
       records_are =
           let z : v.start + 0 ≡ locals_at place f = omega (arith, start_is) in

@@ -5,14 +5,15 @@ pub mod record;
 
 ghost use Rattle.std.specs.Prelude.{[], ◌≡◌, ◌*◌, ◌<◌, ◌≤◌, length};
 ghost use Rattle.lent.specs.Memory.{far, Puts};
+ghost use Rattle.debug_info.specs.Calls.{named_result};
 ghost use Rattle.debug_info.specs.Known.{object_of};
 ghost use Rattle.local_records.specs.Records.{records_at, active_in};
 ghost use Rattle.local_records.specs.Lookup.{numbered, locals_for, lookup_left, local_named_in};
 
 use debug_info::answer::Named;
-use debug_info::give;
 use debug_info::list::{Seen, active_local, look};
-use debug_info::name::{Known, name_len};
+use debug_info::name::{Kind, Known, name_len};
+use debug_info::write_known;
 use format::{Refusal, Span, low};
 use proto::store::Store;
 use proto::walk::{skip, word_at};
@@ -80,6 +81,25 @@ fn find(records: &[LocalRecord], local_number: usize, pc: u32) -> Option<Known>
     None
 }
 
+// Looks the name of local number local_number up in records, and writes it. Refused by 10, 12, 8, 11.
+fn look_up(
+    records: &mut [LocalRecord],
+    store: Store,
+    place: usize,
+    local_number: usize,
+    pc: usize,
+    out: &mut [u8],
+) -> Result<Option<(Kind, usize)>, Refusal>
+    ensures { lookup_left (named_result result) records.new out.new ≡ local_named_in records.old store.entry.words.now store.entry.text.now place local_number pc out.old }
+{
+    let last = low(pc);
+    let span = locals_for(store, place, local_number, last, records.len(), out.len())?;
+    let locals = span.of(store.words);
+    let filled = &mut records[..locals.len() / 4];
+    fill(filled, locals);
+    write_known(store.text, find(filled, local_number, last), out)
+}
+
 // The name of local number local_number, from 1, of those active at pc, looked up in records, one for each local of the function.
 // Refused by 10, 12, 8 where the records are too few, 11: then the records and out keep their contents, and so do always the records behind
 // the locals'. The answer, and what is left in out, is get_local_name's.
@@ -94,15 +114,5 @@ pub fn get_local_name_in(
 ) -> Named
     ensures { lookup_left result records.new out.new ≡ local_named_in records.old words.now text.now place local_number pc out.old }
 {
-    let last = low(pc);
-    let store = Store { words, text };
-    match locals_for(store, place, local_number, last, records.len(), out.len()) {
-        Ok(span) => {
-            let locals = span.of(words);
-            let filled = &mut records[..locals.len() / 4];
-            fill(filled, locals);
-            give(text, find(filled, local_number, last), out)
-        }
-        Err(e) => Named::refused(e),
-    }
+    look_up(records, Store { words, text }, place, local_number, pc, out).into()
 }

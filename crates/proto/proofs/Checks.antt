@@ -1,12 +1,10 @@
 -- Steps of the check, one after the other: words, strings and lists.
-use Rattle.lent.proofs.Prelude.{append-nil, ℕ, suc, zero-le, ◌+◌, ◌-◌, ◌*◌, ◌≤◌, ◌<◌, ◌^◌, ◌≡◌, refl, sym, ap, ◌∙◌, List, [], ◌∷◌, Bool, true, false, not, arith, dec_lt, add-zero, add_assoc, length, drop, get_or, length-append, length-drop, length-take, get_or-eq_default, get_or-take, get_or-drop, length-take-le, T, ltb, leb, ltb→lt, leb→le, not-false}
+use Rattle.lent.proofs.Prelude.{append-nil, ℕ, suc, zero-le, ◌+◌, ◌-◌, ◌≤◌, ◌<◌, ◌^◌, ◌≡◌, refl, sym, ap, ◌∙◌, List, [], ◌∷◌, Bool, true, false, arith, dec_lt, add-zero, add_assoc, length, drop, get_or, length-append, length-drop, length-take, get_or-eq_default, get_or-take, get_or-drop, length-take-le}
 use Rattle.std.specs.Prelude.{Option as Answer, Some, None}
 use Rattle.std.specs.List.{slice_range}
 use Rattle.std.proofs.lemmas.List.Folds.{drop_split}
 use Rattle.std.proofs.Math.Seq.{drop-length}
 use Rattle.std.proofs.lemmas.Option.{none-some, same_Some}
-use mir.Val.{Fits}
-use mir.Syntax.{w64}
 use Rattle.lent.specs.Memory.{Every, Word, Bytes}
 use Rattle.utf8.specs.Utf8.{is_utf8, is_ascii}
 use Rattle.utf8.proofs.Laws.{utf8_bytes, utf8_ascii}
@@ -19,32 +17,12 @@ use Rattle.format.proofs.Stored.{here_left, here_part}
 use Rattle.format.proofs.Loops.{Loop, loop_turn, loop_stop, loop_end}
 use Rattle.proto.specs.declared.formed.Reached.{Reached}
 use Rattle.proto.specs.Walk.{Stands}
-use Rattle.proto.specs.Formed.{Found, behind, Both, beside, Check, Room, Within, three, Three}
+use Rattle.proto.specs.Formed.{Found, behind, Both, beside, Check, Within, three, Three}
 use Rattle.proto.proofs.Sublists.{here_length, here_item, here_get, here_none, here_one, here_two, here_three, here_join, here_take}
 use Rattle.proto.proofs.Pieces.{Same, same_refl, stands_same, same_sym, stands_left, stands_right, stands_join}
 
 pub never : {b : Bool} → b ≡ true → b ≡ false → ⊥
 never p q = let z : ◌≡◌ {A = ℕ} 0 1 = cc in omega arith
-
--- ---- room for n items
-
-module _ {b : Bool} {len at n : ℕ} (h : Room b len at n) where
-  pub room_is : not b ≡ false → n ≤ len - at
-  room_is e = h.is (not-false b e)
-
-  module _ (some : T (ltb 0 n)) (e : not b ≡ false) where
-    pub room_ends : at + n ≤ len
-    room_ends = omega (arith, room_is e, ltb→lt 0 n some)
-
-    pub room_first : at < len
-    room_first = omega (arith, room_is e, ltb→lt 0 n some)
-
-    pub room_at : (i : ℕ) → T (ltb i n) → at + i < len
-    room_at i k = omega (arith, room_is e, ltb→lt i n k)
-
-    -- and their places do not wrap, in a slice of words
-    pub room_fits : (i : ℕ) → T (leb i n) → len * 4 < 2 ^ 63 → Fits w64 (at + i)
-    room_fits i k l = record { fits = omega (arith, room_ends, leb→le i n k) }
 
 -- the piece is that of a valid value
 pub record As {A : Type 0} (ok : A → Type 0) (piece : A → Piece) (p : Piece) : Type 0 where
@@ -126,19 +104,6 @@ module _ {words text : List ℕ} where
   pub check_stop : {A B : Type 0} {ok : A → Type 0} {p : A → Piece} (ok' : B → Type 0) (q : B → Piece) {s : Reached} → Check words text ok p s None → Check words text (Both ok ok') (beside p q) s None
   unfolding Both beside
   check_stop ok' q c = check_wrong (λ v k t. no_answer (c.complete v.0 k.0 (stands_left _ (q v.1) t)))
-
-  -- ---- a word
-
-  module _ {s : Reached} {low high : ℕ} where
-    pub word_good : s.at < length words → low ≤ get_or words s.at 0 → get_or words s.at 0 ≤ high → Check words text (Within low high) word s (Some (record { at = s.at + 1; to = s.to }))
-    word_good h l k = check_good _ (record { above = l; below = k }) (record { in_words = here_one h; in_text = here_none }) (λ v k t. rw add-zero)
-
-    pub word_bad : (s.at < length words → low ≤ get_or words s.at 0 → get_or words s.at 0 ≤ high → ⊥) → Check words text (Within low high) word s None
-    word_bad f =
-        check_wrong
-        (λ v k t.
-        let g : get_or words s.at 0 ≡ v = here_get v [] t.in_words in
-        f (omega (arith, here_length (v ∷ []) t.in_words)) (omega (arith, k.above)) (omega (arith, k.below)))
 
   module _ {s : Reached} {l : List ℕ} (h : Rest words s.at l) where
     -- ---- two words, whatever they are

@@ -111,8 +111,8 @@ module _ {c : Children} {text : List ℕ} {i : ℕ} {n : Next} (fs : Functions) 
   passed : Passes c.words.now (function_pieces at_index.before) (total_all at_index.before) (first c) n
   passed = passes.all at_index.before (at_index.valid c.allowance v).0 at_index.many
 
-  numbered : c.number + 1 + total_all fs ≤ far → n.number ≡ child_number c.number fs i
-  numbered k =
+  pub child_numbered : c.number + 1 + total_all fs ≤ far → n.number ≡ child_number c.number fs i
+  child_numbered k =
       let m = (passed.passes _ (stands_left (function_pieces at_index.before) (function_pieces at_index.behind) begin).in_words).1 in
       omega (arith, m (omega arith), at_index.number, at_index.all)
 
@@ -121,7 +121,7 @@ module _ {c : Children} {text : List ℕ} {i : ℕ} {n : Next} (fs : Functions) 
   child_stands =
       let y = item_there (children fs) i (omega (arith, within, children_count fs)) in
       let x = go y.value at_index.behind (at_index.valid c.allowance v).1 (sym at_index.items ∙ y.is) (past_stands {p = function_pieces at_index.before} {q = function_pieces at_index.behind} (passes_past passed) begin) in
-      record { function = y.value; is = y.is; stands = x.0; valid = x.1; numbered = numbered }
+      record { function = y.value; is = y.is; stands = x.0; valid = x.1; numbered = child_numbered }
     where
       go : (f : Function) (gs : Functions) {to : ℕ} → ValidAll gs c.allowance → item (children gs) 0 ≡ some f → Stands c.words.now text n.at to (function_pieces gs) → StandsAt c.words.now text n.at (function_piece f) × Valid f c.allowance
       go f Functions.none v e s = let z : ◌≡◌ {A = ℕ} 0 1 = cc in absurd (omega arith)

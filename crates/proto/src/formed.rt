@@ -183,7 +183,7 @@ impl<'a> Checker<'a> {
         self.check_name(self.check_word(s, 1, 1)?)
     }
 
-    // A constant: Nil or Bool, whose second word is no more than the first, Num or String.
+    // A constant, by the format's numbers: Nil or Bool, whose second word is no more than the first, Num or String.
     fn check_constant(self, s: Reached) -> Option<Reached>
         ensures { Check self.entry.words.now self.entry.text.now ValidConstant constant_piece s result }
     {

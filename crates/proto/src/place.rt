@@ -19,7 +19,7 @@ fn between(bytes: &[u8], start: usize, end: usize) -> &[u8]
     Span { start, len }.of(bytes)
 }
 
-// Where a source stands, in the text or in the chunk name: from a place on, and before another.
+// Where a source stands, in the text or in the chunk name: from a place on, and before another, as C is told. No Span: the end would be a sum that may not fit.
 #[derive(Clone, Copy)]
 pub enum SourceSpan {
     Text(usize, usize),

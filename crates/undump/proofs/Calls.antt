@@ -13,7 +13,7 @@ use Rattle.format.specs.Dump.{name_refusal}
 use Rattle.format.specs.Refusal.{number}
 use Rattle.format.specs.Store.{function_piece, words_of, text_of}
 use Rattle.format.specs.Valid.{depth, most}
-use Rattle.format.specs.Undump.{repaired, Chunk, load_chunk, refused_by, measured_by, measured, name_ok, over, undumped, as_measured, stored}
+use Rattle.format.specs.Undump.{repaired, Chunk, load_chunk, refused_by, undumped_result, measured_by, measured, name_ok, over, undumped, as_measured, stored}
 use Rattle.format.specs.declared.Undumped.{Undumped}
 use Rattle.format.specs.declared.Refusal.{Refusal}
 use Rattle.format.specs.declared.Refusal.TheVariants.{BadFormat}
@@ -173,11 +173,12 @@ module _ (bs ws ts : List ℕ) (r : Result LoadedChunk Refusal) (ws' ts' : List 
   unfolding measured undumped
   left name d z en ek = stored_as (name_ok name) (load_chunk bs) r d.ends z en ek
 
-pub refused_as : (bs name ws ts : List ℕ) (need_words need_text need_read : ℕ) (x : Refusal) {a : Undumped} → a ≡ refused_by (number x) → refused_by (number x) ≡ measured bs name
-    → undump_left a ws ts ≡ stored bs name need_words need_text need_read ws ts
-refused_as bs name ws ts need_words need_text need_read x r e =
-    let some : (measured bs name).refusal ≡ 0 → ⊥ = λ z. let i : number x ≡ (measured bs name).refusal = ap (λ (u : Undumped). u.refusal) e in omega (arith, refusal_above x) in
-    rw (r, store_refused bs name ws ts need_words need_text need_read some, e) (ap (λ (a : Undumped). undump_left a ws ts) (refused_whole bs name some))
+pub refused_as : (bs name ws ts : List ℕ) (need_words need_text need_read : ℕ) (x : Refusal) (r : Result Undumped Refusal) → IsErrAnd r (λ y. y ≡ x) → refused_by (number x) ≡ measured bs name
+    → undump_left (undumped_result r) ws ts ≡ stored bs name need_words need_text need_read ws ts
+refused_as bs name ws ts need_words need_text need_read x r i e =
+    let p = err_from_is_err_and r i in
+    let some : (measured bs name).refusal ≡ 0 → ⊥ = λ z. let j : number x ≡ (measured bs name).refusal = ap (λ (u : Undumped). u.refusal) e in omega (arith, refusal_above x) in
+    rw (p.1, p.2, store_refused bs name ws ts need_words need_text need_read some, e) (ap (λ (a : Undumped). undump_left a ws ts) (refused_whole bs name some))
 
 -- the returns of store, which measures and is handed three numbers
 module _ (bs name ws ts : List ℕ) {m : Undumped} (e : m ≡ measured bs name) (need_words need_text need_read : ℕ) where
@@ -185,19 +186,19 @@ module _ (bs name ws ts : List ℕ) {m : Undumped} (e : m ≡ measured bs name) 
     none : (measured bs name).refusal ≡ 0
     none = let i : m.refusal ≡ (measured bs name).refusal = ap (λ (u : Undumped). u.refusal) e in omega arith
 
-    pub refused_other : {a : Undumped} → not ok ≡ true → a ≡ refused_by 15 → undump_left a ws ts ≡ stored bs name need_words need_text need_read ws ts
-    refused_other h r = rw r (sym (store_other bs name ws ts need_words need_text need_read none (rw (← e, ← o) (not-true ok h))))
+    pub refused_other : ok ≡ false → undump_left (refused_by 15) ws ts ≡ stored bs name need_words need_text need_read ws ts
+    refused_other h = sym (store_other bs name ws ts need_words need_text need_read none (rw (← e, ← o) h))
 
-    module _ {l : ℕ} (h : not ok ≡ false) (lw : l ≡ min (length ws) most) where
+    module _ {l : ℕ} (h : ok ≡ true) (lw : l ≡ min (length ws) most) where
       as_measured_law : stored bs name need_words need_text need_read ws ts ≡ undumped bs name ws ts
-      as_measured_law = store_as bs name ws ts need_words need_text need_read (rw (← e, ← o) (not-false ok h))
+      as_measured_law = store_as bs name ws ts need_words need_text need_read (rw (← e, ← o) h)
 
-      pub refused_words : {a : Undumped} → l < m.words → a ≡ refused_by 8 → undump_left a ws ts ≡ stored bs name need_words need_text need_read ws ts
-      refused_words i r = rw r (sym (as_measured_law ∙ few_words bs name ws ts none (rw (← e) (omega arith))))
+      pub refused_words : l < m.words → undump_left (refused_by 8) ws ts ≡ stored bs name need_words need_text need_read ws ts
+      refused_words i = sym (as_measured_law ∙ few_words bs name ws ts none (rw (← e) (omega arith)))
 
       module _ {k : ℕ} (i : m.words ≤ l) (lt : k ≡ min (length ts) most) where
-        pub refused_text : {a : Undumped} → k < m.text → a ≡ refused_by 9 → undump_left a ws ts ≡ stored bs name need_words need_text need_read ws ts
-        refused_text j r = rw r (sym (as_measured_law ∙ few_text bs name ws ts none (rw (← e) (omega arith)) (rw (← e) (omega arith))))
+        pub refused_text : k < m.text → undump_left (refused_by 9) ws ts ≡ stored bs name need_words need_text need_read ws ts
+        refused_text j = sym (as_measured_law ∙ few_text bs name ws ts none (rw (← e) (omega arith)) (rw (← e) (omega arith)))
 
         pub store_whole : {r : Result LoadedChunk Refusal} {ws' ts' : List ℕ} → m.text ≤ k → LoadsChunk bs (take m.words ws) (take m.text ts) r ws' ts'
             → undump_left m (ws' ++ drop m.words ws) (ts' ++ drop m.text ts) ≡ stored bs name need_words need_text need_read ws ts

@@ -1,8 +1,7 @@
 -- Where reading begins, a whole chunk loaded, and what a call leaves.
-use Rattle.std.specs.Prelude.{ℕ, ◌≡◌, List, drop, Result, Ok, Err, IfOk}
+use Rattle.std.specs.Prelude.{ℕ, ◌≡◌, List, drop, Result, IfOk}
 use Rattle.format.specs.Store.{function_piece}
-use Rattle.format.specs.Undump.{load_chunk, refused_by, measured, UndumpLeft}
-use Rattle.format.specs.Refusal.{number}
+use Rattle.format.specs.Undump.{load_chunk, undumped_result, measured, UndumpLeft}
 use Rattle.format.specs.declared.Undumped.{Undumped}
 use Rattle.format.specs.declared.Refusal.{Refusal}
 use Rattle.load_state.specs.ReadAt.{Ends}
@@ -25,14 +24,9 @@ used c ws ts = record { words_at = c.words; text_at = c.text; words = ws; text =
 pub record LoadsChunk (bs ws ts : List ℕ) (r : Result LoadedChunk Refusal) (ws' ts' : List ℕ) : Type 0 where
   pub ends : Ends (load_chunk bs) (λ x rest c. (rest ≡ drop c.next bs) × ((x.size4 ≡ c.size_4) × Does (function_piece x.root) (unused ws ts) (used c ws' ts'))) r
 
--- what is answered of a chunk: what was measured, or its refusal
-abbrev pub answer_of : Result Undumped Refusal → Undumped
-answer_of (Ok m) = m
-answer_of (Err e) = refused_by (number e)
-
 -- what measuring a chunk gives: what is answered of it, with refusal 0 where it is not refused
 pub record Measures (bs name : List ℕ) (r : Result Undumped Refusal) : Type 0 where
-  pub answers : answer_of r ≡ measured bs name
+  pub answers : undumped_result r ≡ measured bs name
   pub accepted : IfOk r (λ m. m.refusal ≡ 0)
 
 -- an answer, with what stands in lent memory

@@ -4,8 +4,7 @@
 pub mod header;
 
 ghost use Rattle.std.specs.Prelude.{◌≡◌};
-ghost use Rattle.format.specs.Refusal.{number};
-ghost use Rattle.format.specs.Undump.{refused_by, measured, as_measured, stored};
+ghost use Rattle.format.specs.Undump.{undumped_result, measured, as_measured, stored};
 ghost use Rattle.undump.specs.Undump.{LoadsChunk, Measures, undump_left};
 
 use format::{DEPTH, MOST, Refusal, Undumped, check_name, width};
@@ -24,18 +23,6 @@ pub struct LoadedChunk {
     pub words: usize,
     pub text: usize,
     pub next: usize,
-}
-
-fn refused(e: Refusal) -> Undumped
-    ensures { result ≡ refused_by (number e) }
-{
-    Undumped {
-        refusal: e.number(),
-        width: 0,
-        words: 0,
-        text: 0,
-        read: 0,
-    }
 }
 
 // The header, then the root function, whose tree goes to the words and the text (luaU_undump).
@@ -74,7 +61,7 @@ fn load_measured(chunk: &[u8], name: &[u8]) -> Result<Undumped, Refusal>
     let c = load_chunk(chunk, &mut no_words, &mut no_text)?;
     Ok(Undumped {
         refusal: 0,
-        width: width(c.size_4) as u32,
+        width: u32::from(width(c.size_4)),
         words: c.words.min(ABOVE),
         text: c.text.min(ABOVE),
         read: c.next.min(chunk.len()),
@@ -85,10 +72,7 @@ fn load_measured(chunk: &[u8], name: &[u8]) -> Result<Undumped, Refusal>
 pub fn measure(chunk: &[u8], name: &[u8]) -> Undumped
     ensures { result ≡ measured chunk.now name.now }
 {
-    match load_measured(chunk, name) {
-        Err(e) => refused(e),
-        Ok(m) => m,
-    }
+    Undumped::from(load_measured(chunk, name))
 }
 
 // Whether three numbers, as C hands them over, are those that measure answered.
@@ -98,7 +82,35 @@ fn as_measured(m: Undumped, need_words: usize, need_text: usize, need_read: usiz
     need_words == m.words && need_text == m.text && need_read == m.read
 }
 
-// Stores the tree of a chunk in lent memory, given what measure answered of it (three numbers, as C hands them over): measured again, and where the numbers are the same and all fits, loaded into the space.
+// Measures a chunk again, and where the numbers that were handed over are the same and all fits, loads it into the space. Refused by 1, 2 to 7, 15, 8, 9.
+#[tactic(auto, using(crate::proofs::Calls::refused_other, crate::proofs::Calls::refused_words, crate::proofs::Calls::refused_text))]
+fn store_measured(
+    chunk: &[u8],
+    name: &[u8],
+    need_words: usize,
+    need_text: usize,
+    need_read: usize,
+    words: &mut [u32],
+    text: &mut [u8],
+) -> Result<Undumped, Refusal>
+    ensures { undump_left (undumped_result result) words.new text.new ≡ stored chunk.now name.now need_words need_text need_read words.old text.old }
+{
+    let m = load_measured(chunk, name)?;
+    if !as_measured(m, need_words, need_text, need_read) {
+        return Err(Refusal::NotAsMeasured);
+    }
+    if words.len().min(MOST) < m.words {
+        return Err(Refusal::TooFewWords);
+    }
+    if text.len().min(MOST) < m.text {
+        return Err(Refusal::TooLittleText);
+    }
+    // Measured so, it is not refused here.
+    let _ = load_chunk(chunk, &mut words[..m.words], &mut text[..m.text]);
+    Ok(m)
+}
+
+// Stores the tree of a chunk in lent memory, given what measure answered of it: three numbers, as C hands them over.
 pub fn store(
     chunk: &[u8],
     name: &[u8],
@@ -110,20 +122,5 @@ pub fn store(
 ) -> Undumped
     ensures { undump_left result words.new text.new ≡ stored chunk.now name.now need_words need_text need_read words.old text.old }
 {
-    let m = match load_measured(chunk, name) {
-        Err(e) => return refused(e),
-        Ok(m) => m,
-    };
-    if !as_measured(m, need_words, need_text, need_read) {
-        return refused(Refusal::NotAsMeasured);
-    }
-    if words.len().min(MOST) < m.words {
-        return refused(Refusal::TooFewWords);
-    }
-    if text.len().min(MOST) < m.text {
-        return refused(Refusal::TooLittleText);
-    }
-    // Measured so, it is not refused here.
-    let _ = load_chunk(chunk, &mut words[..m.words], &mut text[..m.text]);
-    m
+    Undumped::from(store_measured(chunk, name, need_words, need_text, need_read, words, text))
 }
