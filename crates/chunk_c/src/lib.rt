@@ -1,4 +1,5 @@
-// The calls for C, each with the contract of the call of chunk that it passes on.
+// The calls for C, each with the contract of the call of chunk that it passes on. They stand in both crates: only a static library exports extern "C"
+// functions, and no crate can be built on one; chunk is what Rattle code is built on.
 #![tactic(auto)]
 
 ghost use Rattle.std.specs.Prelude.{◌≡◌};

@@ -1,8 +1,6 @@
 -- The calls: on the function at a place, and on a pc and a register of it.
 use Rattle.std.specs.Prelude.{Ok}
-use Rattle.lent.proofs.Prelude.{ℕ, ◌^◌, ◌≤◌, ◌<◌, ◌≡◌, refl, sym, subst, ◌∙◌, List, [], Bool, true, false, cond, arith, length, get_or, leb, le-leb, lt-leb, leb-true}
-use mir.Val.{Fits}
-use mir.Syntax.{w32}
+use Rattle.lent.proofs.Prelude.{ℕ, ◌≤◌, ◌<◌, ◌≡◌, refl, sym, subst, ◌∙◌, List, [], Bool, true, false, cond, arith, length, get_or, leb, le-leb, lt-leb, leb-true}
 use Rattle.lent.specs.Memory.{far, Puts}
 use Rattle.lent.specs.Writer.{Writes}
 use Rattle.lent.specs.declared.Writer.{Writer}
@@ -11,10 +9,15 @@ use Rattle.format.specs.Store.{function_piece}
 use Rattle.format.specs.Dump.{written, written_left}
 use Rattle.format.specs.Valid.{depth, Valid, ValidAll, ValidParts}
 use Rattle.format.proofs.Writing.{written_all}
+use Rattle.format.proofs.Refusals.{refusal_above}
 use Rattle.format.specs.Refusal.{number}
 use Rattle.format.specs.declared.Refusal.{Refusal}
 use Rattle.proto.specs.Walk.{Stands, StandsAt, Past, to_code}
+use Rattle.proto.specs.Lists.{ListsAt, ListsFound}
 use Rattle.proto.specs.Places.{Placed, on_place, place_refusal}
+use Rattle.proto.specs.declared.lists.Lists.{Lists}
+use Rattle.proto.specs.declared.store.Store.{Store}
+use Rattle.proto.proofs.ListPlaces.{lists_stand}
 use Rattle.proto.proofs.Items.{code_stands, ints_count}
 use Rattle.proto.proofs.Sources.{all_suc, function_stands, On, place_on, on_answer, on_related, on_refused}
 use Rattle.debug_info.specs.Calls.{on_register, register_refusal}
@@ -22,7 +25,7 @@ use Rattle.debug_info.specs.Calls.{on_register, register_refusal}
 -- ---- the function that stands at a place
 
 module _ {words text : List ℕ} {place : ℕ} (o : On words text place) where
-  -- what holds of every function that stands there, well formed, holds of the one found
+  -- what holds of every function that stands there, well formed, holds of the one found. Valid is opened for both of its parts: by laws they are two
   pub of_function : (P : Function → Type 0) → ((p : Parts) (fs : Functions) → ValidParts p → ValidAll fs depth → StandsAt words text place (function_piece (Function.function p fs)) → P (Function.function p fs)) → P o.function.function
   unfolding Valid
   of_function P g =
@@ -34,9 +37,6 @@ module _ {words text : List ℕ} {place : ℕ} (o : On words text place) where
   pub of_code : {a x : ℕ} → ((p : Parts) (fs : Functions) → Past words (to_code p fs) place a) → x ≡ get_or words a 0 → x ≡ length (parts_of o.function.function).code
   of_code {x = x} w e = of_function (λ f. x ≡ length (parts_of f).code) (λ p fs u v h. e ∙ ints_count p.code (code_stands p fs h.stands (w p fs)))
 
-  pub code_short : length (parts_of o.function.function).code < 2 ^ 32
-  code_short = of_function (λ f. length (parts_of f).code < 2 ^ 32) (λ p fs u v h. omega (arith, u.code.short))
-
 -- ---- a pc and a register of it
 
 pub record OnRegister (words text : List ℕ) (place pc reg : ℕ) : Type 0 where
@@ -46,10 +46,6 @@ pub record OnRegister (words text : List ℕ) (place pc reg : ℕ) : Type 0 wher
 
 abbrev within : {A : Type 0} → (ℕ → A) → (Function → A) → ℕ → ℕ → Placed → A
 within refuse answer pc reg x = cond (leb pc (length (parts_of x.function).code)) (cond (leb reg 255) (answer x.function) (refuse 14)) (refuse 13)
-
--- a refusal's number is none of those that are given where nothing is refused
-pub refusal_above : (e : Refusal) → 0 < number e
-refusal_above e = grind arith
 
 module _ (words text : List ℕ) (place pc reg : ℕ) where
   -- the refusal of the place
@@ -103,10 +99,10 @@ module _ (words text : List ℕ) (place pc reg : ℕ) where
 
 -- ---- what a call answers, by the function that stands there
 
-module _ {A : Type 0} (refuse : ℕ → A) (answer : Function → A) (words text : List ℕ) (place : ℕ) where
-  pub place_refused : (e : Refusal) → number e ≡ place_refusal words text place → refuse (number e) ≡ on_place refuse (λ x. answer x.function) words text place
-  place_refused e h = let k = refusal_above e in rw h (sym (on_refused refuse (λ x. answer x.function) words text place (λ z. omega arith)))
+pub place_refused : {A : Type 0} (refuse : ℕ → A) (answer : Placed → A) (words text : List ℕ) (place : ℕ) (e : Refusal) → number e ≡ place_refusal words text place → refuse (number e) ≡ on_place refuse answer words text place
+place_refused refuse answer words text place e h = let k = refusal_above e in rw h (sym (on_refused refuse answer words text place (λ z. omega arith)))
 
+module _ {A : Type 0} (refuse : ℕ → A) (answer : Function → A) (words text : List ℕ) (place : ℕ) where
   pub place_answered : {r : A} → 0 ≡ place_refusal words text place → ((p : Parts) (fs : Functions) → ValidAll fs depth → StandsAt words text place (function_piece (Function.function p fs)) → r ≡ answer (Function.function p fs))
       → r ≡ on_place refuse (λ x. answer x.function) words text place
   place_answered {r} e g =
@@ -117,19 +113,23 @@ module _ {A : Type 0} (refuse : ℕ → A) (answer : Function → A) (words text
     pub register_refused : (e : Refusal) → number e ≡ register_refusal words text place pc reg → refuse (number e) ≡ on_register refuse answer words text place pc reg
     register_refused e h = let k = refusal_above e in rw h (sym (registered_refused words text place pc reg refuse answer (λ z. omega arith)))
 
-    pub register_answered : {r : A} → 0 ≡ register_refusal words text place pc reg → ((p : Parts) (fs : Functions) → ValidAll fs depth → StandsAt words text place (function_piece (Function.function p fs)) → r ≡ answer (Function.function p fs))
+    register_answered : {r : A} → 0 ≡ register_refusal words text place pc reg → ((p : Parts) (fs : Functions) → ValidAll fs depth → StandsAt words text place (function_piece (Function.function p fs)) → r ≡ answer (Function.function p fs))
         → r ≡ on_register refuse answer words text place pc reg
     register_answered {r} e g =
         let o = register_on words text place pc reg (sym e) in
         of_function o.on (λ f. r ≡ answer f) (λ p fs u v s. g p fs v s) ∙ sym (registered_answer words text place pc reg refuse answer o)
 
--- a pc and a register that are not refused
-module _ (words text : List ℕ) (place pc reg : ℕ) (e : 0 ≡ register_refusal words text place pc reg) where
-  pub pc_fits : Fits w32 pc
-  pc_fits = let o = register_on words text place pc reg (sym e) in let l = code_short o.on in record { fits = omega (arith, o.pc_within) }
+-- so, by the lists that were found there
+module _ {A : Type 0} (refuse : ℕ → A) (answer : Function → A) {s : Store} {l : Lists} {place : ℕ} {r : A} (e : l.store ≡ s) (found : (p : Parts) (fs : Functions) → ValidAll fs depth → ListsFound place p fs l)
+    (g : (p : Parts) (fs : Functions) → ListsAt l p fs → ValidAll fs depth → r ≡ answer (Function.function p fs)) where
+  by_lists : (p : Parts) (fs : Functions) → ValidAll fs depth → StandsAt s.words.now s.text.now place (function_piece (Function.function p fs)) → r ≡ answer (Function.function p fs)
+  by_lists p fs v h = g p fs (lists_stand p fs e h (found p fs v)) v
 
-  pub reg_small : reg < 256
-  reg_small = omega (arith, (register_on words text place pc reg (sym e)).reg_within)
+  pub place_listed : 0 ≡ place_refusal s.words.now s.text.now place → r ≡ on_place refuse (λ x. answer x.function) s.words.now s.text.now place
+  place_listed z = place_answered refuse answer s.words.now s.text.now place z by_lists
+
+  pub register_listed : (pc reg : ℕ) → 0 ≡ register_refusal s.words.now s.text.now place pc reg → r ≡ on_register refuse answer s.words.now s.text.now place pc reg
+  register_listed pc reg z = register_answered refuse answer s.words.now s.text.now place pc reg z by_lists
 
 -- ---- an answer with a name
 

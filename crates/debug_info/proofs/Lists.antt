@@ -1,20 +1,18 @@
 -- Items of a function's lists, and the count of active locals.
-use Rattle.lent.proofs.Prelude.{ℕ, zero, suc, ◌+◌, ◌*◌, ◌-◌, ◌≤◌, ◌<◌, ◌≡◌, refl, sym, ap, ◌∙◌, List, [], ◌∷◌, Bool, true, false, cond, some, arith, add-one, length, drop, drop_of_length-le, get_or, eqb, ltb}
+use Rattle.lent.proofs.Prelude.{ℕ, ◌+◌, ◌*◌, ◌-◌, ◌≤◌, ◌<◌, ◌≡◌, refl, sym, ap, ◌∙◌, List, ◌∷◌, Bool, true, false, cond, some, arith, add-one, length, drop, drop_of_length-le, get_or, eqb, ltb}
 use Rattle.std.specs.Prelude.{Some, None}
 use Rattle.format.specs.Tree.{Local}
-use Rattle.format.specs.Store.{Piece, word, ◌⊕◌, string, list, local_piece}
+use Rattle.format.specs.Store.{Piece, list, local_piece}
 use Rattle.proto.specs.Walk.{item, Skips, StandsAt}
-use Rattle.proto.proofs.Sublists.{skip_item}
-use Rattle.proto.proofs.Pieces.{stands_left}
-use Rattle.proto.proofs.Items.{somewhere, item_there, list_count, list_item}
+use Rattle.proto.specs.Debug.{text_of, local_of}
+use Rattle.proto.specs.declared.debug.LocalVar.{LocalVar}
+use Rattle.proto.proofs.Items.{item_there, item_drop, list_count, list_item}
 use Rattle.debug_info.specs.declared.name.Name.{Name}
 use Rattle.debug_info.specs.declared.name.Kind.{Kind}
-use Rattle.debug_info.specs.declared.list.LocalVar.{LocalVar}
 use Rattle.debug_info.specs.declared.list.Seen.{Seen}
 use Rattle.debug_info.specs.declared.list.Seen.TheVariants.{Nothing, Found, Left}
 use Rattle.debug_info.specs.Names.{nothing, local, active_local}
-use Rattle.debug_info.specs.Known.{name_of, object_of}
-use Rattle.debug_info.specs.Locals.{local_of}
+use Rattle.debug_info.specs.Known.{object_of}
 use Rattle.debug_info.specs.Seen.{look, after}
 
 -- ---- item i of a list
@@ -33,15 +31,6 @@ module _ {A : Type 0} {words text : List ℕ} (piece : A → Piece) {at x i : �
 
 -- ---- locals
 
-pub local_is : {words : List ℕ} {at a b x y : ℕ} (name : Name) → ((text s : List ℕ) → StandsAt words text at (string s) → name_of text name ≡ s) → Skips words 2 at a → x ≡ get_or words a 0 → Skips words 3 at b → y ≡ get_or words b 0
-    → (text : List ℕ) (v : Local) → StandsAt words text at (local_piece v) → local_of text (record { name = name; start = x; end = y }) ≡ v
-local_is {x = x} {y = y} name n s e s' e' text v h =
-    let l = h.to ∷ length v.name ∷ v.start ∷ v.end ∷ [] in
-    let p = n text v.name (somewhere (stands_left (string v.name) (word v.start ⊕ word v.end) h.stands)) in
-    let q : x ≡ v.start = skip_item l (omega arith) h.stands.in_words s e in
-    let r : y ≡ v.end = skip_item l (omega arith) h.stands.in_words s' e' in
-    rw (p, q, r)
-
 -- a local, and then what the search gives behind it
 pub active_step : (v : Local) (l : List Local) (n pc : ℕ) → after (look v.start v.end n pc) nothing (local v.name) (λ m. active_local l m pc) ≡ active_local (v ∷ l) n pc
 unfolding active_local
@@ -53,12 +42,6 @@ active_step v l n pc = by (ltb pc v.start) (ltb pc v.end) (eqb n 1)
     by false true true = refl
     by false true false = refl
     by false false c = refl
-
-item_drop : {A : Type 0} (l : List A) (i : ℕ) {a : A} → item l i ≡ some a → drop i l ≡ a ∷ drop (suc i) l
-unfolding item
-item_drop [] i e = cc
-item_drop (b ∷ l) zero {a} e = let g : b ≡ a = cc in rw g
-item_drop (b ∷ l) (suc i) e = item_drop l i e
 
 -- from local i on, they lead to the same as all of them
 abbrev pub Searching : List ℕ → ℕ → ℕ → ℕ → ℕ → ℕ → Type 0
@@ -73,18 +56,18 @@ module _ {words : List ℕ} {locals c i : ℕ} (pc number n : ℕ) (e : c ≡ ge
   module _ {at : ℕ} (x : LocalVar) (k : i < c) (p : Skips words (1 + 4 * i) locals at) (w : (text : List ℕ) (v : Local) → StandsAt words text at (local_piece v) → local_of text x ≡ v) where
     -- by what it tells
     seen : (a : Seen) → a ≡ look x.start x.end n pc → (text : List ℕ) (l : List Local) → StandsAt words text locals (list local_piece l)
-        → after a nothing (local (name_of text x.name)) (λ m. active_local (drop (i + 1) l) m pc) ≡ active_local l number pc
+        → after a nothing (local (text_of text x.name)) (λ m. active_local (drop (i + 1) l) m pc) ≡ active_local l number pc
     seen a f text l h =
         let y = looked_up local_piece l h e 4 (λ a to. refl) k p in
         let d : drop i l ≡ local_of text x ∷ drop (i + 1) l = rw (w text y.value y.stands, add-one i) (item_drop l i y.is) in
-        ap (λ (u : Seen). after u nothing (local (name_of text x.name)) (λ m. active_local (drop (i + 1) l) m pc)) f ∙ active_step (local_of text x) (drop (i + 1) l) n pc
+        ap (λ (u : Seen). after u nothing (local (text_of text x.name)) (λ m. active_local (drop (i + 1) l) m pc)) f ∙ active_step (local_of text x) (drop (i + 1) l) n pc
         ∙ ap (λ (u : List Local). active_local u n pc) (sym d) ∙ s text l h
 
     pub ends_nothing : Nothing ≡ look x.start x.end n pc → (text : List ℕ) (l : List Local) → StandsAt words text locals (list local_piece l) → object_of text None ≡ active_local l number pc
     ends_nothing = seen Nothing
 
     pub ends_found : Found ≡ look x.start x.end n pc → (text : List ℕ) (l : List Local) → StandsAt words text locals (list local_piece l)
-        → object_of text (Some (record { kind = Kind.Local; name = x.name })) ≡ active_local l number pc
+        → object_of text (Some (record { kind = Kind.Local; name = Name.Text x.name })) ≡ active_local l number pc
     ends_found = seen Found
 
     pub goes_on : {m : ℕ} → Left m ≡ look x.start x.end n pc → Searching words locals pc number (i + 1) m

@@ -6,7 +6,6 @@ use Rattle.format.specs.Tree.{Local, Parts, Function, Functions}
 use Rattle.format.specs.Store.{list, local_piece}
 use Rattle.format.specs.Valid.{depth, ValidAll}
 use Rattle.proto.specs.Walk.{StandsAt}
-use Rattle.proto.proofs.Checks.{never}
 use Rattle.proto.specs.Lists.{ListsAt}
 use Rattle.proto.specs.declared.lists.Lists.{Lists}
 use Rattle.debug_info.specs.declared.name.Kind.{Kind}
@@ -31,7 +30,7 @@ pub moves_below : (i : ℕ) → moves_up i ≡ true → GETARG_B i < 256
 unfolding moves_up
 moves_below i h = elim (dec_lt (GETARG_B i) (GETARG_A i)) [
   | yes k ↦ omega arith
-  | no k ↦ absurd (never h (simp (le-ltb (GETARG_B i) (GETARG_A i) (omega arith), and-false)))
+  | no k ↦ absurd (true≢false (sym h ∙ simp (le-ltb (GETARG_B i) (GETARG_A i) (omega arith), and-false)))
 ]
 
 -- what the search gives for a register of the function whose lists these are

@@ -1,7 +1,6 @@
 pub mod Names
 pub mod Kind
 pub mod Known
-pub mod Locals
 pub mod Seen
 pub mod Searched
 pub mod Calls

@@ -20,7 +20,7 @@ impl From<Result<u32, Refusal>> for SymbExec {
     fn from(r: Result<u32, Refusal>) -> SymbExec {
         let (refusal, instruction) = match r {
             Ok(i) => (0, i),
-            Err(e) => (e.number(), 0),
+            Err(e) => (e.into(), 0),
         };
         SymbExec {
             refusal,
@@ -44,9 +44,9 @@ impl From<Result<Option<(Kind, usize)>, Refusal>> for Named {
 
     fn from(r: Result<Option<(Kind, usize)>, Refusal>) -> Named {
         let (refusal, kind, len) = match r {
-            Ok(Some((kind, len))) => (0, kind.number(), len),
+            Ok(Some((kind, len))) => (0, kind.into(), len),
             Ok(None) => (0, 0, 0),
-            Err(e) => (e.number(), 0, 0),
+            Err(e) => (e.into(), 0, 0),
         };
         Named { refusal, kind, len }
     }

@@ -6,7 +6,7 @@ pub mod list;
 pub mod name;
 pub mod object;
 
-ghost use Rattle.std.specs.Prelude.{◌≡◌};
+ghost use Rattle.std.specs.Prelude.{◌≡◌, IfOk};
 ghost use Rattle.format.specs.Dump.{write_left, written_left};
 ghost use Rattle.format.specs.Refusal.{RefusedBy};
 ghost use Rattle.debug_info.specs.Known.{object_of};
@@ -20,9 +20,11 @@ use proto::store::Store;
 use proto::walk::{code_at, constants_at, word_at};
 use symbexec::symbexec_at;
 
-// Whether the function at a place is there, has the pc and may have the register: refused by 10, 12, 13, 14.
-fn check_register(store: Store, place: usize, pc: usize, reg: u32) -> Result<(), Refusal>
-    ensures { RefusedBy (register_refusal store.entry.words.now store.entry.text.now place pc reg) result }
+// The pc and the register, where the function at a place is there, has the pc and may have the register: refused by 10, 12, 13, 14.
+#[tactic(auto, using(std::proofs::lemmas::Result::err_from_is_err_and, crate::proofs::Calls::register_place))]
+fn check_register(store: Store, place: usize, pc: usize, reg: u32) -> Result<(u32, u8), Refusal>
+    ensures refused { RefusedBy (register_refusal store.entry.words.now store.entry.text.now place pc reg) result }
+    ensures found { IfOk result (λ r. (r.0 ≡ pc) × (r.1 ≡ reg)) }
 {
     store.has_function(place)?;
     let code = word_at(store.words, code_at(store.words, place)) as usize;
@@ -30,7 +32,7 @@ fn check_register(store: Store, place: usize, pc: usize, reg: u32) -> Result<(),
         return Err(Refusal::BadPc);
     }
     if reg <= 255 {
-        Ok(())
+        Ok((pc as u32, reg as u8))
     } else {
         Err(Refusal::BadRegister)
     }
@@ -53,11 +55,12 @@ pub fn write_known(
 }
 
 // The last instruction before lastpc that wrote a register. Refused by 10, 12, 13, 14.
+#[tactic(auto, using(std::proofs::lemmas::Result::err_from_is_err_and, crate::proofs::Calls::register_refused), unfolding(crate::specs::Calls::symbexec_answer))]
 fn find_write(store: Store, place: usize, lastpc: usize, reg: u32) -> Result<u32, Refusal>
     ensures { symbexec_result result ≡ symbexec_answer store.entry.words.now store.entry.text.now place lastpc reg }
 {
-    check_register(store, place, lastpc, reg)?;
-    Ok(symbexec_at(store.lists_at(place), lastpc as u32, reg))
+    let (lastpc, reg) = check_register(store, place, lastpc, reg)?;
+    Ok(symbexec_at(store.lists_at(place), lastpc, reg as u32))
 }
 
 // The last instruction before lastpc that wrote a register. Refused by 10, 12, 13, 14.
@@ -68,6 +71,7 @@ pub fn symbexec(words: &[u32], text: &[u8], place: usize, lastpc: usize, reg: u3
 }
 
 // Writes the name of local number local_number, from 1, of those active at pc. Refused by 10, 12, 11.
+#[tactic(auto, using(std::proofs::lemmas::Result::err_from_is_err_and, crate::proofs::Calls::place_refused), unfolding(crate::specs::Calls::local_named))]
 fn write_local_name(
     store: Store,
     place: usize,
@@ -99,6 +103,7 @@ pub fn get_local_name(
 }
 
 // Writes the name of an RK operand from the start of out, and answers its length. Refused by 10, 12, 11.
+#[tactic(auto, using(std::proofs::lemmas::Result::err_from_is_err_and, crate::proofs::Calls::place_refused), unfolding(crate::specs::Calls::knamed))]
 fn write_kname(store: Store, place: usize, c: u32, out: &mut [u8]) -> Result<usize, Refusal>
     ensures { written_left result out.new ≡ knamed store.entry.words.now store.entry.text.now place c out.old }
 {
@@ -115,6 +120,7 @@ pub fn kname(words: &[u32], text: &[u8], place: usize, c: u32, out: &mut [u8]) -
 }
 
 // Writes the name of what register stackpos holds at pc. Refused by 10, 12, 13, 14, 11.
+#[tactic(auto, using(std::proofs::lemmas::Result::err_from_is_err_and, crate::proofs::Calls::register_refused), unfolding(crate::specs::Calls::object_named))]
 fn write_objname(
     store: Store,
     place: usize,
@@ -124,8 +130,8 @@ fn write_objname(
 ) -> Result<Option<(Kind, usize)>, Refusal>
     ensures { name_left (named_result result) out.new ≡ object_named store.entry.words.now store.entry.text.now place pc stackpos out.old }
 {
-    check_register(store, place, pc, stackpos)?;
-    let v = object::getobjname(store.lists_at(place), pc as u32, stackpos, [false; 256]);
+    let (pc, reg) = check_register(store, place, pc, stackpos)?;
+    let v = object::getobjname(store.lists_at(place), pc, reg, [false; 256]);
     write_known(store.text, v, out)
 }
 

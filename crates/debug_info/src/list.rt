@@ -1,36 +1,18 @@
-// Names in the lists of a function: locals, constants, upvalues.
+// Names in the lists of a function: locals, constants, upvalues. By the words and the place of a list, not by Lists: kname looks at the constants alone, and
+// finds them without a walk through the functions in the function.
 ghost use Rattle.std.specs.Prelude.{List, ◌≡◌, ℕ};
 ghost use Rattle.format.specs.Store.{list, string, constant_piece, local_piece};
 ghost use Rattle.format.specs.Tree.{Constant as Value, Local};
 ghost use Rattle.proto.specs.Walk.{item, StandsAt};
 ghost use Rattle.debug_info.specs.Names.{active_local, kname, upvalue_name};
 ghost use Rattle.debug_info.specs.Known.{name_of, object_of};
-ghost use Rattle.debug_info.specs.Locals.{local_of};
 ghost use Rattle.debug_info.specs.Seen.{look};
 
-use crate::name::{Kind, Known, Name, constant_name, name_at};
+use crate::name::{Kind, Known, Name, constant_name};
 use instructions::{index_k, is_k};
 use proto::constant::constant_of;
-use proto::walk::{item_at, nth_at, skip, word_at};
-
-// A local's name, and the pcs from which and before which it is active.
-#[derive(Clone, Copy)]
-struct LocalVar {
-    name: Name,
-    start: u32,
-    end: u32,
-}
-
-// The local at a place.
-fn local_at(words: &[u32], at: usize) -> LocalVar
-    ensures { (text : List ℕ) (v : Local) → StandsAt words.now text at (local_piece v) → local_of text result ≡ v }
-{
-    LocalVar {
-        name: name_at(words, at),
-        start: word_at(words, skip(words, at, 2)),
-        end: word_at(words, skip(words, at, 3)),
-    }
-}
+use proto::debug::{local_at, upvalue_of};
+use proto::walk::{item_at, word_at};
 
 // What a local tells of the search for number remaining, from it on, of those active at pc: there is none, or this is the one, or so many are
 // still to be counted.
@@ -58,6 +40,7 @@ pub fn look(start: u32, end: u32, remaining: usize, pc: u32) -> Seen
 }
 
 // The local that is number n of those active at pc, in the list at a place; nothing behind the first that starts beyond pc.
+// The loop of local_records' find is over records, this one over words: what they share is look.
 pub fn active_local(words: &[u32], locals: usize, n: usize, pc: u32) -> Option<Known>
     ensures { (text : List ℕ) (l : List Local) → StandsAt words.now text locals (list local_piece l) → object_of text result ≡ active_local l n pc }
 {
@@ -70,7 +53,7 @@ pub fn active_local(words: &[u32], locals: usize, n: usize, pc: u32) -> Option<K
             Seen::Found => {
                 return Some(Known {
                     kind: Kind::Local,
-                    name: v.name,
+                    name: Name::Text(v.name),
                 });
             }
             Seen::Left(left) => remaining = left,
@@ -80,6 +63,7 @@ pub fn active_local(words: &[u32], locals: usize, n: usize, pc: u32) -> Option<K
 }
 
 // The name of an RK operand: its constant's, or ?.
+#[tactic(auto, unfolding(crate::specs::Names::kname))]
 pub fn operand_name(words: &[u32], constants: usize, c: u32) -> Name
     ensures { (text : List ℕ) (l : List Value) → StandsAt words.now text constants (list constant_piece l) → name_of text result ≡ kname l c }
 {
@@ -93,8 +77,9 @@ pub fn operand_name(words: &[u32], constants: usize, c: u32) -> Name
 pub fn upvalue_name(words: &[u32], upvalues: usize, i: u32) -> Name
     ensures { (text : List ℕ) (l : List (List ℕ)) → StandsAt words.now text upvalues (list string l) → name_of text result ≡ upvalue_name (item l i) }
 {
-    match nth_at(words, upvalues, 2, i) {
-        Some(at) => name_at(words, at),
+    // By map_or the proof didn't close: what the closure answers was left open.
+    match upvalue_of(words, upvalues, i) {
+        Some(name) => Name::Text(name),
         None => Name::Unknown,
     }
 }

@@ -3,9 +3,7 @@ ghost use Rattle.std.specs.Prelude.{List, [], ◌≡◌, ℕ};
 ghost use Rattle.lent.specs.Memory.{Puts};
 ghost use Rattle.lent.specs.Writer.{Writes};
 ghost use Rattle.format.specs.Dump.{written, written_left};
-ghost use Rattle.format.specs.Store.{string};
 ghost use Rattle.format.specs.Constants.{value_of};
-ghost use Rattle.proto.specs.Walk.{StandsAt};
 ghost use Rattle.proto.specs.Constants.{read};
 ghost use Rattle.debug_info.specs.Names.{or_nil, constant_name, global_of};
 ghost use Rattle.debug_info.specs.Kind.{number};
@@ -13,7 +11,6 @@ ghost use Rattle.debug_info.specs.Known.{name_of, object_of};
 
 use format::{Constant, Refusal, Span};
 use lent::Writer;
-use proto::walk::string_at;
 use utf8::put_repaired;
 
 // A name: ?, or where it stands in the text; a constant's is repaired as it is written.
@@ -34,12 +31,12 @@ pub enum Kind {
     Method = 5,
 }
 
-impl Kind {
-    // Its number.
-    pub fn number(self) -> u32
-        ensures { result ≡ number self }
-    {
-        self as u32
+// Its number.
+impl From<Kind> for u32 {
+    ghost from_gives = { λ k n. n ≡ number k };
+
+    fn from(k: Kind) -> u32 {
+        k as u32
     }
 }
 
@@ -48,13 +45,6 @@ impl Kind {
 pub struct Known {
     pub kind: Kind,
     pub name: Name,
-}
-
-// The name whose place and length stand at a place.
-pub fn name_at(words: &[u32], at: usize) -> Name
-    ensures { (text : List ℕ) (s : List ℕ) → StandsAt words.now text at (string s) → name_of text result ≡ s }
-{
-    Name::Text(string_at(words, at))
 }
 
 // A constant's name: a string's, or ?.
@@ -95,9 +85,8 @@ fn put_name(w: &mut Writer, text: &[u8], name: Name)
 pub fn name_len(text: &[u8], name: Name) -> usize
     ensures { Puts (name_of text.now name) 0 [] result [] }
 {
-    let mut none = [0u8; 0];
     let mut w = Writer {
-        out: &mut none,
+        out: &mut [],
         at: 0,
     };
     put_name(&mut w, text, name);

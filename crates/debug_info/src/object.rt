@@ -20,22 +20,14 @@ fn wrote(s: Lists, i: Instruction) -> Option<Known>
     ensures { (p : Parts) (fs : Functions) → ListsAt s.entry p fs → object_of s.entry.store.text.now result ≡ wrote p i.0 }
 {
     let words = s.store.words;
-    match i.opcode() {
-        OP_GETGLOBAL => global_of(constant_of(words, s.constants, i.bx())),
-        OP_GETTABLE => Some(Known {
-            kind: Kind::Field,
-            name: operand_name(words, s.constants, i.c()),
-        }),
-        OP_GETUPVAL => Some(Known {
-            kind: Kind::Upvalue,
-            name: upvalue_name(words, s.upvalues, i.b()),
-        }),
-        OP_SELF => Some(Known {
-            kind: Kind::Method,
-            name: operand_name(words, s.constants, i.c()),
-        }),
-        _ => None,
-    }
+    let (kind, name) = match i.opcode() {
+        OP_GETGLOBAL => return global_of(constant_of(words, s.constants, i.bx())),
+        OP_GETTABLE => (Kind::Field, operand_name(words, s.constants, i.c())),
+        OP_GETUPVAL => (Kind::Upvalue, upvalue_name(words, s.upvalues, i.b())),
+        OP_SELF => (Kind::Method, operand_name(words, s.constants, i.c())),
+        _ => return None,
+    };
+    Some(Known { kind, name })
 }
 
 // Whether an instruction is MOVE with B below A.
@@ -48,8 +40,7 @@ fn moves_up(i: Instruction) -> bool
 
 // The object in a register at pc, of the function whose lists these are. Calls itself on the register that MOVE took it from, as the scope
 // has it; nothing is known where that was searched before.
-pub fn getobjname(s: Lists, pc: u32, reg: u32, mut before: [bool; 256]) -> Option<Known>
-    requires { reg < 256 }
+pub fn getobjname(s: Lists, pc: u32, reg: u8, mut before: [bool; 256]) -> Option<Known>
     ensures { (p : Parts) (fs : Functions) → ListsAt s.entry p fs → ValidAll fs depth → object_of s.entry.store.text.now result ≡ searched (Function.function p fs) pc (unsearched before) reg before }
 {
     let n = reg as usize;
@@ -60,10 +51,10 @@ pub fn getobjname(s: Lists, pc: u32, reg: u32, mut before: [bool; 256]) -> Optio
     if v.is_some() {
         return v;
     }
-    let i = Instruction(symbexec_at(s, pc, reg));
+    let i = Instruction(symbexec_at(s, pc, reg as u32));
     if moves_up(i) {
         before[n] = true;
-        return getobjname(s, pc, i.b(), before);
+        return getobjname(s, pc, i.b() as u8, before);
     }
     wrote(s, i)
 }

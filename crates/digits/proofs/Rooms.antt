@@ -1,7 +1,9 @@
 -- Laws of writing where there is room, and of how much is needed.
-use Rattle.lent.proofs.Prelude.{ℕ, ◌+◌, ◌*◌, ◌^◌, ◌≤◌, max, ◌<◌, ◌≡◌, refl, sym, ◌∙◌, List, [], ◌∷◌, ◌++◌, arith, length, take, drop, sets, sets-eq, take_at}
+use Rattle.lent.proofs.Prelude.{ℕ, ◌+◌, ◌*◌, ◌^◌, ◌≤◌, min, max, ◌<◌, ◌≡◌, sym, ◌∙◌, List, ◌++◌, arith, length, take, drop, sets, sets-eq, take_at}
 use Rattle.lent.specs.Memory.{Puts, far}
-use Rattle.lent.proofs.Writes.{put_stored, put_then, put_fits}
+use Rattle.lent.specs.Writer.{Writes}
+use Rattle.lent.specs.declared.Writer.{Writer}
+use Rattle.lent.proofs.Writes.{put_stored, put_lost, put_then, put_fits}
 use Rattle.digits.specs.Digits.{digits, places, decimal}
 use Rattle.digits.specs.Room.{PutsWithin, Width}
 use Rattle.digits.proofs.Numbers.{places_is, places_most, length_digits}
@@ -39,6 +41,10 @@ fit_written p h k =
 pub stored : (items out : List ℕ) (n : ℕ) → length items ≡ n → n ≤ length out → take n (sets out 0 items) ≡ items
 stored items out n e h = rw (sets-eq items out 0 (omega arith)) (take_at items (drop (0 + length items) out) n e)
 
+-- digits past the end are only counted
+pub digits_lost : (base k n : ℕ) {w w' : Writer} → w'.out.ghost_name ≡ w.out.ghost_name → w'.at ≡ min (w.at + k) far → length w.out.now ≤ w.at → w'.out.now ≡ w.out.now → Writes (digits base k n) w w'
+digits_lost base k n s p h q = record { same = s; puts = put_lost (rw length_digits p) h q }
+
 -- ---- how much is needed
 
 pub width_decimal : (k n : ℕ) → k < 10 → n < 2 ^ 64 → 10 ^ k ≤ max n 1 → max n 1 < 10 * 10 ^ k → Width (decimal n) 10 (k + 1)
@@ -47,9 +53,6 @@ width_decimal k n u b l h = record { is = sym (length_digits 10 (places n) n ∙
 -- a u32 has at most 10 digits
 pub places_upto : (n : ℕ) → n < 2 ^ 32 → places n ≤ 10
 places_upto n l = places_most 20 9 n (omega arith)
-
-pub width_byte : {b : ℕ} → Width (b ∷ []) 1 1
-width_byte = record { is = refl; upto = omega arith }
 
 pub width_within : {items : List ℕ} {m r : ℕ} (n : ℕ) → m ≤ n → Width items m r → Width items n r
 width_within n h p = let g = p.upto in record { is = p.is; upto = omega arith }

@@ -1,8 +1,8 @@
 -- Laws of quoted strings: bytes that are written as themselves, one after the other.
-use Rattle.lent.proofs.Prelude.{ℕ, suc, Bool, cond, ltb, ◌+◌, ◌-◌, ◌≤◌, ◌<◌, ◌≡◌, refl, ◌∙◌, true, false, and-eq-true_iff, List, [], ◌∷◌, ◌++◌, append_assoc, arith, length, take, drop, get_or, length-drop, drop_of_length-le, take-suc, get_or-drop, leb, leb-true, ne_eqb}
+use Rattle.lent.proofs.Prelude.{ℕ, zero, suc, Bool, cond, ltb, ◌+◌, ◌-◌, ◌≤◌, ◌<◌, ◌≡◌, refl, ◌∙◌, true, false, and-eq-true_iff, List, [], ◌∷◌, ◌++◌, append_assoc, arith, length, take, drop, get_or, length-drop, drop_of_length-le, take-suc, take_all, get_or-drop, leb, leb-true, ne_eqb}
 use Rattle.std.specs.Prelude.{Some, None}
 use Rattle.lent.specs.Memory.{Every}
-use Rattle.lent.proofs.Lists.{drop_more}
+use Rattle.std.proofs.lemmas.List.{drop_more}
 use Rattle.digits.specs.Digits.{digits, letters, letter_in, letter, is_print, escape, escaped, Plain}
 
 -- ---- one byte
@@ -49,7 +49,7 @@ escape_plain b quote backslash h =
 -- the byte at a place, then those behind it
 pub escaped_more : (s : List ℕ) (i : ℕ) → i < length s → escaped (drop i s) ≡ escape (get_or s i 0) ++ escaped (drop (i + 1) s)
 unfolding escaped
-escaped_more s i h = rw (drop_more s i h)
+escaped_more s i h = rw (drop_more s i 0 h)
 
 pub escaped_none : (s : List ℕ) (i : ℕ) → length s ≤ i → escaped (drop i s) ≡ []
 unfolding escaped
@@ -69,3 +69,18 @@ plain_more s at i p h e =
       within = omega arith;
       same = p.same ∙ rw (n, t, append_assoc, escaped_more s i h, e);
     }
+
+run : {s : List ℕ} {at : ℕ} (n : ℕ) → at ≤ length s → n ≤ length (drop at s) → ((k : ℕ) → k < n → escape (get_or (drop at s) k 0) ≡ get_or (drop at s) k 0 ∷ []) → Plain s at (at + n)
+run {s} {at} zero h k p = let z : at + 0 ≡ at = omega arith in let d : at - at ≡ 0 = omega arith in
+    rw z (record { from = omega arith; within = h; same = rw d refl })
+run {s} {at} (suc n) h k p =
+    let l : at + n < length s = omega (arith, length-drop at s) in
+    let e : at + suc n ≡ (at + n) + 1 = omega arith in
+    rw e (plain_more s at (at + n) (run n h (omega arith) (λ j i. p j (omega arith))) l (rw get_or-drop at (p n (omega arith))))
+
+-- n bytes, the first of those from a place on
+pub plain_run : {s : List ℕ} {at : ℕ} (n : ℕ) → at ≤ length s → n ≤ length (take (length s - at) (drop at s))
+    → ((k : ℕ) → k < n → escape (get_or (take (length s - at) (drop at s)) k 0) ≡ get_or (take (length s - at) (drop at s)) k 0 ∷ []) → Plain s at (at + n)
+plain_run {s} {at} n h k p =
+    let e : take (length s - at) (drop at s) ≡ drop at s = take_all (length s - at) (drop at s) (omega (arith, length-drop at s)) in
+    run n h (rw e at k) (λ j i. rw e at (p j i))

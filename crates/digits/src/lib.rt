@@ -18,7 +18,9 @@ fn digit(d: u8) -> u8
 
 // The functions store_* ask for room and test none. They take (out, at), since places then stay in registers: a Writer's fields go through memory.
 
-// The last k digits of n, which fit, from the last to the first. Dividing by a number that the compiler knows is much faster.
+// The last k digits of n, which fit, from the last to the first. Dividing by a number that the compiler knows is much faster. By index: of the items of an
+// adapter of iter_mut, as rev is, nothing is known behind the loop.
+#[tactic(auto, unfolding(crate::specs::Digits::digits))]
 fn store_digits<const BASE: u64>(out: &mut [u8], at: usize, n: u64, k: usize)
     requires { (at + k ≤ length out.old) × (1 < BASE) × (BASE < 17) }
     ensures { out.new ≡ sets out.old at (digits BASE k n) }

@@ -1,7 +1,7 @@
 // Numbers and strings as text, by a writer.
 #![tactic(auto, using(lent::proofs::Writers::writes_first, lent::proofs::Writers::writes_then))]
 
-ghost use Rattle.std.specs.Prelude.{◌≤◌, ◌<◌, ◌≡◌, true, [], ◌∷◌, length};
+ghost use Rattle.std.specs.Prelude.{ℕ, slice_index, ◌≤◌, ◌<◌, ◌≡◌, true, [], ◌∷◌, length};
 ghost use Rattle.lent.specs.Writer.{Writes};
 ghost use Rattle.digits.specs.Digits.{digits, decimal, negative, number};
 ghost use Rattle.digits.specs.Digits.{letter, is_print, escape, escaped, quoted, Plain};
@@ -9,13 +9,15 @@ ghost use Rattle.digits.specs.Digits.{letter, is_print, escape, escaped, quoted,
 use crate::{places, store_digits};
 use lent::Writer;
 
-// The last k digits of n, of at most 20.
+// The last k digits of n, of at most 20. Past the end they are only counted. The third branch alone would do: the first two are for speed.
 #[tactic(auto, using(crate::proofs::Numbers::length_digits, crate::proofs::Rooms::stored, lent::proofs::Writers::writes_room))]
 fn put_digits<const BASE: u64>(w: &mut Writer, n: u64, k: usize)
     requires { (k ≤ 20) × (1 < BASE) × (BASE < 17) }
     ensures { Writes (digits BASE k n) w.old w.new }
 {
-    if w.at < w.out.len() && k <= w.out.len() - w.at {
+    if w.out.len() <= w.at {
+        w.at = w.at.saturating_add(k);
+    } else if k <= w.out.len() - w.at {
         store_digits::<BASE>(w.out, w.at, n, k);
         w.at += k;
     } else {
@@ -25,7 +27,8 @@ fn put_digits<const BASE: u64>(w: &mut Writer, n: u64, k: usize)
     }
 }
 
-// n in base 10.
+// n in base 10. Tried: write!(w, "{n}"), with fmt::Write for Writer. The proof did not close: where it answers an error nothing is known of w, and no clause
+// says that it answers none.
 pub fn put_decimal(w: &mut Writer, n: u64)
     ensures { Writes (decimal n) w.old w.new }
 {
@@ -40,7 +43,7 @@ pub fn put_negative(w: &mut Writer, n: u64)
     put_decimal(w, n);
 }
 
-// The bits of a number constant: 0x and 16 digits in base 16. format::joined is of a crate above this one.
+// The bits of a number constant: 0x and 16 digits in base 16. By its halves, as a constant has them; format::joined is of a crate above this one.
 pub fn put_number(w: &mut Writer, high: u32, low: u32)
     ensures { Writes (number high low) w.old w.new }
 {
@@ -98,18 +101,21 @@ fn put_escape(w: &mut Writer, b: u8)
     }
 }
 
-// Where the bytes end that are written as themselves, from a place on. By index: position would answer a place in a cut slice, or None for the end.
-#[tactic(auto, using(crate::proofs::Strings::plain_more))]
+// How many bytes at the front are written as themselves.
+fn plain_len(s: &[u8]) -> usize
+    ensures within { result ≤ length s.now }
+    ensures plain { (k : ℕ) → k < result → escape (slice_index s.now k) ≡ slice_index s.now k ∷ [] }
+{
+    s.iter().position(|b| !is_plain(*b)).unwrap_or(s.len())
+}
+
+// Where the bytes end that are written as themselves, from a place on.
+#[tactic(auto, using(crate::proofs::Strings::plain_run))]
 fn plain_end(s: &[u8], at: usize) -> usize
     requires { at < length s.now }
     ensures { Plain s.now at result }
 {
-    for i in at..s.len() {
-        if !is_plain(s[i]) {
-            return i;
-        }
-    }
-    s.len()
+    at + plain_len(&s[at..])
 }
 
 // The bytes of a quoted string, those that are written as themselves together.

@@ -1,5 +1,5 @@
 -- The bytes of integers, sizes and strings.
-use Rattle.lent.proofs.Prelude.{ℕ, zero, suc, ◌+◌, ◌-◌, ◌*◌, ◌^◌, ◌/◌, ◌%◌, ◌≤◌, ◌<◌, min, ◌≡◌, refl, sym, ap, ◌∙◌, List, [], ◌∷◌, ◌++◌, append_assoc, append-nil, Bool, true, false, arith, add-one, length, take, drop, get_or, sets, length-append, length-sets, take-suc, take_all, length-take-le, take-append-drop}
+use Rattle.lent.proofs.Prelude.{ℕ, zero, suc, ◌+◌, ◌-◌, ◌*◌, ◌^◌, ◌/◌, ◌%◌, ◌≤◌, ◌<◌, min, ◌≡◌, refl, sym, ap, ◌∙◌, List, [], ◌∷◌, ◌++◌, append_assoc, append-nil, Bool, true, false, arith, add-one, length, take, drop, get_or, sets, length-append, length-sets, take-suc, take_all, length-take-le, take-append-drop, sets-eq, drop_of_length-le, dec_lt}
 use Rattle.std.proofs.Math.Nat.{div-div-eq-div-mul}
 use Rattle.std.specs.Int.{to_le_bytes, bytes_low_first, byte_at}
 use native.Mathlib.Numerals.{unary_clauses}
@@ -104,9 +104,9 @@ ints_length (n ∷ l) = length-append (dump_int n) (each dump_int l) ∙ omega (
 pub code_length : (l : List ℕ) → length (dump_list dump_int l) ≡ 4 + 4 * length l
 code_length l = length-append (dump_int (length l)) (each dump_int l) ∙ rw (int_length (length l), ints_length l)
 
-pub ints_start : (out l : List ℕ) (at : ℕ) → out ≡ sets out at (each dump_int (take 0 l))
+pub ints_start : (to l : List ℕ) → to ≡ sets to 0 (each dump_int (take 0 l))
 unfolding each
-ints_start out l at = refl
+ints_start to l = refl
 
 -- the integer behind i of them
 ints_more : {m m' : List ℕ} (out l : List ℕ) (at i : ℕ) → i < length l → m ≡ sets out at (each dump_int (take i l)) → m' ≡ sets m (at + 4 * i) (dump_int (get_or l i 0)) → m' ≡ sets out at (each dump_int (take (i + 1) l))
@@ -116,28 +116,46 @@ ints_more out l at i h e f =
     let t : each dump_int (take (i + 1) l) ≡ each dump_int (take i l) ++ dump_int (get_or l i 0) = rw (add-one i, take-suc l i 0 h) (each_append (take i l) (get_or l i 0 ∷ []) ∙ ap (λ (x : List ℕ). each dump_int (take i l) ++ x) (append-nil (dump_int (get_or l i 0)))) in
     f ∙ rw (e, t) (rw n at (sets_append (each dump_int (take i l)) out (dump_int (get_or l i 0)) at))
 
-pub ints_turn : {m m' : List ℕ} (out l x : List ℕ) (at i k : ℕ) → i < length l → k ≡ 4 → at + 4 * i + 4 ≤ length m → m ≡ sets out at (each dump_int (take i l)) → x ≡ to_le_bytes w32 (get_or l i 0) → m' ≡ put_mid (at + 4 * i) k m x
-    → m' ≡ sets out at (each dump_int (take (i + 1) l))
-ints_turn {m} out l x at i k h f room e g q =
+pub ints_turn : {m m' : List ℕ} {j : ℕ} (to l x : List ℕ) (i k : ℕ) → i < length l → j ≡ 4 * i → k ≡ 4 → j + 4 ≤ length m → m ≡ sets to 0 (each dump_int (take i l)) → x ≡ to_le_bytes w32 (get_or l i 0) → m' ≡ put_mid j k m x → m' ≡ sets to 0 (each dump_int (take (i + 1) l))
+ints_turn {m} {j = j} to l x i k h w f room e g q =
     let v = get_or l i 0 in
-    ints_more out l at i h e (q ∙ sets_part m (dump_int v) (at + 4 * i) k (g ∙ number_bytes 4 v) (f ∙ sym (int_length v)) (omega arith))
+    let z : j ≡ 0 + 4 * i = omega arith in
+    ints_more to l 0 i h e (rw (← z) (q ∙ sets_part m (dump_int v) j k (g ∙ number_bytes 4 v) (f ∙ sym (int_length v)) (omega arith)))
 
-module _ {out m : List ℕ} {at fit r : ℕ} (l : List ℕ) (e : r ≡ min (at + 4 * length l) far) (f : fit ≡ min (length l) ((length out - at) / 4)) (q : m ≡ sets out at (each dump_int (take fit l))) where
+-- all are stored, over all of the bytes
+pub ints_stored : {m : List ℕ} {i : ℕ} (to l : List ℕ) → m ≡ sets to 0 (each dump_int (take i l)) → length l ≤ i → length to ≡ 4 * length l → m ≡ each dump_int l
+ints_stored {i = i} to l e h n = e ∙ rw (take_all i l h) (sets-eq (each dump_int l) to 0 (omega (arith, ints_length l)) ∙ rw (drop_of_length-le to {i = 0 + length (each dump_int l)} (omega (arith, ints_length l))) (append-nil (each dump_int l)))
+
+-- the place at which integers are written is the end of the space, where theirs is past it
+ints_place : (out b : List ℕ) (at : ℕ) → sets out (min at (length out)) b ≡ sets out at b
+ints_place out b at = elim (dec_lt at (length out)) [
+  | yes h ↦ let e : min at (length out) ≡ at = omega arith in rw e
+  | no h ↦ sets_past b out (min at (length out)) (omega arith) ∙ sym (sets_past b out at (omega arith))
+]
+
+-- a part of the space, over which as many are stored as fit
+pub ints_part : {m p : List ℕ} {start fit k : ℕ} (out l : List ℕ) → start ≤ length out → fit ≡ min (length l) ((length out - start) / 4) → p ≡ each dump_int (take fit l) → k ≡ 4 * fit → m ≡ put_mid start k out p → m ≡ sets out start (each dump_int (take fit l))
+ints_part {start = start} {fit} {k} out l h f e z q =
+    let n : length (each dump_int (take fit l)) ≡ 4 * fit = ints_length (take fit l) ∙ rw (length-take-le fit l (omega arith)) in
+    q ∙ sets_part out (each dump_int (take fit l)) start k e (z ∙ sym n) (omega arith)
+
+module _ {out m : List ℕ} {at start fit r : ℕ} (l : List ℕ) (a : start ≡ min at (length out)) (e : r ≡ min (at + 4 * length l) far) (f : fit ≡ min (length l) ((length out - start) / 4)) (q : m ≡ sets out start (each dump_int (take fit l))) where
   -- all fit
   pub ints_put : length l ≤ fit → Puts (each dump_int l) at out r m
-  ints_put h = record { puts = λ i j. (omega (arith, ints_length l), q ∙ rw (take_all fit l h)) }
+  ints_put h = record { puts = λ i j. (omega (arith, ints_length l), q ∙ rw (take_all fit l h, a) (ints_place out (each dump_int l) at)) }
 
   -- those behind one that is cut are past the end
-  pub ints_cut : {m' : List ℕ} {r' : ℕ} → fit < length l → Puts (dump_int (get_or l fit 0)) (at + 4 * fit) m r' m' → Puts (each dump_int l) at out r m'
+  pub ints_cut : {m' : List ℕ} {r' : ℕ} → fit < length l → Puts (dump_int (get_or l fit 0)) (start + 4 * fit) m r' m' → Puts (each dump_int l) at out r m'
   ints_cut {m'} h p =
       record {
         puts = λ i j.
-            let a = take (fit + 1) l in
-            let n : length m ≡ length out = ap length q ∙ length-sets out at (each dump_int (take fit l)) in
-            let t : m' ≡ sets out at (each dump_int a) = ints_more out l at fit h q (p.puts (omega arith) (omega arith)).1 in
-            let k : length m' ≡ length out = ap length t ∙ length-sets out at (each dump_int a) in
-            let c : length (each dump_int a) ≡ 4 * (fit + 1) = ints_length a ∙ rw (length-take-le (fit + 1) l (omega arith)) in
-            let s : each dump_int l ≡ each dump_int a ++ each dump_int (drop (fit + 1) l) = ap (each dump_int) (sym (take-append-drop (fit + 1) l)) ∙ each_append a (drop (fit + 1) l) in
-            let past : sets m' (at + length (each dump_int a)) (each dump_int (drop (fit + 1) l)) ≡ m' = sets_past (each dump_int (drop (fit + 1) l)) m' (at + length (each dump_int a)) (omega arith) in
-            (omega (arith, ints_length l), sym past ∙ rw (s, t) (sets_append (each dump_int a) out (each dump_int (drop (fit + 1) l)) at));
+            let b = take (fit + 1) l in
+            let n : length m ≡ length out = ap length q ∙ length-sets out start (each dump_int (take fit l)) in
+            let t : m' ≡ sets out start (each dump_int b) = ints_more out l start fit h q (p.puts (omega arith) (omega arith)).1 in
+            let k : length m' ≡ length out = ap length t ∙ length-sets out start (each dump_int b) in
+            let c : length (each dump_int b) ≡ 4 * (fit + 1) = ints_length b ∙ rw (length-take-le (fit + 1) l (omega arith)) in
+            let s : each dump_int l ≡ each dump_int b ++ each dump_int (drop (fit + 1) l) = ap (each dump_int) (sym (take-append-drop (fit + 1) l)) ∙ each_append b (drop (fit + 1) l) in
+            let past : sets m' (start + length (each dump_int b)) (each dump_int (drop (fit + 1) l)) ≡ m' = sets_past (each dump_int (drop (fit + 1) l)) m' (start + length (each dump_int b)) (omega arith) in
+            let whole : m' ≡ sets out start (each dump_int l) = sym past ∙ rw (s, t) (sets_append (each dump_int b) out (each dump_int (drop (fit + 1) l)) start) in
+            (omega (arith, ints_length l), whole ∙ rw a (ints_place out (each dump_int l) at));
       }

@@ -1,18 +1,18 @@
 -- Functions: their source, and their parts one behind the other.
-use Rattle.lent.proofs.Prelude.{ℕ, suc, ◌-◌, ◌≡◌, refl, sym, ◌∙◌, List, [], ◌∷◌, ◌++◌, append_assoc, Bool, true, false, arith, length, get_or, eqb, ne_eqb}
+use Rattle.lent.proofs.Prelude.{ℕ, zero, suc, ◌≡◌, refl, sym, ◌∙◌, List, [], ◌∷◌, ◌++◌, append_assoc, Bool, true, false, arith, length, get_or, eqb, ne_eqb}
 use Rattle.lent.specs.Memory.{Every}
 use Rattle.lent.specs.Memory.{Puts}
 use Rattle.format.specs.Tree.{Constant as Value}
 use Rattle.format.specs.Tree.{Source, Parts, Function, Functions, count, filled}
 use Rattle.format.specs.Read.{same}
-use Rattle.format.specs.Store.{Piece, word, ◌⊕◌, list, ints, source_piece, constant_piece, debug_piece, packed, function_piece, children_piece}
+use Rattle.format.specs.Store.{Piece, ◌⊕◌, list, source_piece, constant_piece, function_piece}
 use Rattle.format.specs.Valid.{ValidParts, Valid, ValidAll}
 use Rattle.format.specs.Write.{dump_int, dump_size, dump_string, dump_text, dump_list, dump_constant, dump_constants, dump_function, dump_functions, elided, each}
 use lib.Pointwise.{pointwise}
 use Rattle.format.proofs.RoundTrip.{same_is}
 use Rattle.proto.specs.Walk.{Stands, Skips, children}
 use Rattle.proto.proofs.Sublists.{here_get}
-use Rattle.proto.proofs.Pieces.{Same, same_is as same-pieces, same_refl, same_sym, same_assoc, same_behind, stands_left, source_words}
+use Rattle.proto.proofs.Pieces.{Same, same_is as same-pieces, same_refl, same_sym, same_assoc, same_behind, source_words}
 use Rattle.proto.proofs.Walks.{past_words}
 use Rattle.proto.proofs.Stores.{children_count, children_list, every_valid}
 use Rattle.dump.specs.Step.{Progress, Dumps, constants_piece, around}
@@ -78,21 +78,11 @@ module _ (strip size4 : Bool) (source : List ℕ) where
 
 -- ---- a function
 
--- its source stands first
-pub source_stands : {words text : List ℕ} {at to : ℕ} (p : Parts) (fs : Functions) → Stands words text at to (function_piece (Function.function p fs)) → Stands words text at to (source_piece p.source)
-unfolding function_piece
-source_stands p fs h =
-    stands_left (source_piece p.source)
-    (word p.line_defined ⊕ word p.last_line_defined ⊕ word (packed p) ⊕ ints p.code ⊕ list constant_piece p.constants ⊕ children_piece fs ⊕ debug_piece p.debug)
-    h
-
--- what is known of the parts of a function that may be so deep
-pub valid_parts : {n : ℕ} (p : Parts) (fs : Functions) → (n ≡ 0 → ⊥) → Valid (Function.function p fs) n → ValidParts p × ValidAll fs (n - 1)
+-- what is known of the parts of a function
+pub valid_parts : (n : ℕ) (p : Parts) (fs : Functions) → Valid (Function.function p fs) n → ValidParts p
 unfolding Valid
-valid_parts {n} p fs h v =
-    let e : n ≡ suc (n - 1) = omega arith in
-    let w : Valid (Function.function p fs) (suc (n - 1)) = rw e at v in
-    (w.0, w.2)
+valid_parts zero p fs v = absurd v
+valid_parts (suc n) p fs v = v.0
 
 -- seven parts, of which the sixth has two pieces
 pub seven : (x₁ x₂ x₃ x₄ x₅ x₆ x₇ : List ℕ) → x₁ ++ x₂ ++ x₃ ++ x₄ ++ x₅ ++ x₆ ++ x₇ ≡ x₁ ++ (x₂ ++ (x₃ ++ (x₄ ++ (x₅ ++ (x₆ ++ x₇)))))

@@ -1,4 +1,5 @@
-// Functions, written to a chunk from where they stand in the store.
+// Functions, written to a chunk from where they stand in the store. In three of them root stands beside outer: told only what is around, they would
+// compare an inherited source, which may be megabytes, with the one around it for each child (docs/DECISIONS.md).
 ghost use Rattle.std.specs.Prelude.{ℕ, ◌≡◌, List};
 ghost use Rattle.format.specs.Tree.{Constant as Value};
 ghost use Rattle.format.specs.Tree.{Source, Functions, Function, count, filled};
@@ -9,13 +10,13 @@ ghost use Rattle.format.specs.Write.{dump_string, elided, dump_constants, dump_f
 ghost use Rattle.proto.specs.Walk.{Stands};
 ghost use Rattle.dump.specs.Step.{Dumps, progress, constants_piece, around};
 
-use crate::block::{dump_size, dump_string};
-use crate::item::Constants;
-use crate::list::{Dumper, Options, Reached};
+use crate::list::{Dumper, Reached};
+use format::Constants;
 use proto::store::Store;
 use proto::walk::{skip, word_at};
 
 // Whether a function's source is the one around it. One that is inherited is, except at the root, which inherits the chunk name (outer) with nothing around it.
+#[tactic(auto, using(crate::proofs::Functions::elided_root, crate::proofs::Functions::elided_compared))]
 pub fn is_elided(words: &[u32], at: usize, outer: &[u8], source: &[u8], root: bool) -> bool
     ensures { (s : Source) (t : List ℕ) (to : ℕ) → Stands words.now t at to (source_piece s) → source.now ≡ filled outer.now s → result ≡ same_bytes source.now (around root outer.now) }
 {
@@ -40,17 +41,16 @@ impl<'a> Dumper<'a> {
         ensures { (v : Source) → source.now ≡ filled outer.now v → Dumps self.entry (source_piece v) (dump_string self.entry.options.size_4 (elided (around root outer.now) source.now)) (progress s out.old) (progress result out.new) }
     {
         let Store { words, .. } = self.store;
-        let Options { size_4, .. } = self.options;
         let at = skip(words, s.at, 3);
         let len = if is_elided(words, s.at, outer, source, root) {
-            dump_size(out, s.len, 0, size_4)
+            self.options.dump_size(out, s.len, 0)
         } else {
-            dump_string(out, s.len, source, size_4)
+            self.options.dump_string(out, s.len, source)
         };
         Reached { at, len }
     }
 
-    // A function; an inherited source stands for outer. root stands beside outer, as the root inherits the chunk name but is compared with the empty string; an enum of both would be taken apart at each use.
+    // A function; an inherited source stands for outer. No Option of what is around it for root: the root inherits the chunk name but is compared with the empty string, so that it would stand beside outer too, and need a premise that it is outer.
     #[cycle(dump_constants_dump_function)]
     pub fn dump_function(
         self,
@@ -75,7 +75,7 @@ impl<'a> Dumper<'a> {
         self.dump_debug(out, debug)
     }
 
-    // The constants of a function whose source this is, and the functions in it.
+    // The constants of a function, of which source is the source, and the functions in it.
     #[cycle(dump_constants_dump_function)]
     pub fn dump_constants(
         self,

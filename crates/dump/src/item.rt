@@ -7,8 +7,10 @@ ghost use Rattle.format.specs.Write.{dump_text, dump_constant, dump_local};
 ghost use Rattle.dump.specs.Step.{Dumps, progress};
 
 use crate::list::{Dumper, Reached};
+use format::{Constants, Locals, Names};
 
-// A kind of items. proto, load_function and listing_headers have such a trait each, as proto's says.
+// A kind of items. proto, load_function and listing_headers have such a trait each, as proto's says. The impls only name a method: the methods stand
+// with the other steps of Dumper, which they call.
 pub trait Item {
     ghost Value: { Type 0 };
 
@@ -20,8 +22,6 @@ pub trait Item {
     fn dump(d: Dumper, out: &mut [u8], s: Reached) -> Reached
         ensures { (v : Value) → Dumps d.entry (piece v) (bytes d.entry.options.size_4 v) (progress s out.old) (progress result out.new) };
 }
-
-pub struct Constants;
 
 impl Item for Constants {
     ghost Value = { Value };
@@ -35,8 +35,6 @@ impl Item for Constants {
     }
 }
 
-pub struct Locals;
-
 impl Item for Locals {
     ghost Value = { Local };
 
@@ -48,9 +46,6 @@ impl Item for Locals {
         d.dump_local(out, s)
     }
 }
-
-// The upvalues' names.
-pub struct Names;
 
 impl Item for Names {
     ghost Value = { List ℕ };

@@ -13,17 +13,20 @@ ghost use Rattle.format.specs.Valid.{Holds};
 ghost use Rattle.format.specs.Write.{dump_header, dump_chunk};
 ghost use Rattle.format.specs.Dump.{write_left, written_left, dumped};
 
+use block::Options;
 use format::{DEPTH, Refusal, Written, check_name, width};
 use lent::put_array;
-use list::{Dumper, Options, Reached};
+use list::{Dumper, Reached};
 use proto::store::Store;
 
-// The signature, then the version, the format and the sizes: 12 bytes.
-fn dump_header(out: &mut [u8], size_4: bool) -> usize
-    ensures { Puts (dump_header size_4) 0 out.old result out.new }
-{
-    let w = width(size_4);
-    put_array(out, 0, [0x1b, b'L', b'u', b'a', 0x51, 0, 1, 4, w, 4, 8, 0])
+impl Options {
+    // The signature, then the version, the format and the sizes: 12 bytes.
+    fn dump_header(self, out: &mut [u8]) -> usize
+        ensures { Puts (dump_header self.size_4) 0 out.old result out.new }
+    {
+        let w = width(self.size_4);
+        put_array(out, 0, [0x1b, b'L', b'u', b'a', 0x51, 0, 1, 4, w, 4, 8, 0])
+    }
 }
 
 // The chunk of the tree that a store holds. Answers how many bytes it has.
@@ -32,21 +35,26 @@ fn dump_chunk<'a>(store: Store<'a>, name: &'a [u8], options: Options, out: &mut 
 {
     let start = Reached {
         at: 0,
-        len: dump_header(out, options.size_4),
+        len: options.dump_header(out),
     };
     let dumper = Dumper { store, options };
     dumper.dump_function(out, start, name, true, DEPTH).len
 }
 
-// Whether a space has room for 12 bytes, five for each of so many words, and a and b bytes more.
-fn has_room(space: usize, words: usize, a: usize, b: usize) -> bool
-    ensures { result ≡ true → 12 + 5 * words + a + b ≤ space }
+// Whether a space has room for 12 bytes, five for each of so many words, and those of the text and of the chunk name.
+fn has_room(space: usize, words: usize, text: usize, name: usize) -> bool
+    ensures { result ≡ true → 12 + 5 * words + text + name ≤ space }
 {
-    12 <= space && a <= space - 12 && b <= space - 12 - a && words <= (space - 12 - a - b) / 5
+    space
+        .checked_sub(12)
+        .and_then(|left| left.checked_sub(text))
+        .and_then(|left| left.checked_sub(name))
+        .is_some_and(|left| words <= left / 5)
 }
 
 // Writes the chunk of the tree that a store holds. No chunk is longer than has_room asks for; where there is less room, it is written with no
 // space first, to count. Refused by 1, 10, 11.
+#[tactic(auto, using(std::proofs::lemmas::Result::err_from_is_err_and, proto::proofs::Calls::refused_name, proto::proofs::Calls::refused_store), unfolding(format::specs::Dump::dumped))]
 fn dump_store<'a>(
     store: Store<'a>,
     name: &'a [u8],
@@ -66,7 +74,7 @@ fn dump_store<'a>(
     Ok(dump_chunk(store, name, options, out))
 }
 
-// Writes the chunk of a store to lent memory. Refused by 1, 10, 11.
+// Writes the chunk of a store to lent memory. Refused by 1, 10, 11. The call for C: words and text apart, and the two options.
 pub fn dump<'a>(
     words: &[u32],
     text: &'a [u8],

@@ -9,3 +9,4 @@ pub mod Widths
 pub mod Writing
 pub mod Filled
 pub mod Loops
+pub mod Pieces

@@ -1,4 +1,4 @@
--- Telling size_4 gives no new refusal: each size of a well-formed tree fits four bytes (size-fits), and a chunk with sizes of four bytes
+-- Telling size_4 gives no new refusal: each size of a well-formed tree fits four bytes (size_fits), and a chunk with sizes of four bytes
 -- is no longer than that with eight, so whoever lends room for the one lends room for the other.
 use Rattle.lent.proofs.Prelude.{ℕ, ◌≤◌, ◌≡◌, ap, sym, ◌∙◌, List, [], ◌∷◌, ◌++◌, Bool, true, false, arith, length, length-append, le-leb}
 use Rattle.format.specs.Tree.{Constant, Source, Local, Debug, Function, count, filled, kept}

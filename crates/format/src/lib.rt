@@ -1,6 +1,7 @@
 // The answers of the calls that read and write chunks: the refusal, 0 where there is none, then numbers, all 0 on refusal,
 // as C reads them.
-// What the calls answer and leave in lent memory is defined in specs/. Beside the answers stand the limits, the width of sizes and the test of a chunk name, which the calls share.
+// What the calls answer and leave in lent memory is defined in specs/. Beside the answers stands what the calls share: a part of a list, a constant, the kinds of items,
+// the limits, the width of sizes, the low half of a number and a number of its halves, and the test of a chunk name.
 #![tactic(auto)]
 
 ghost use Rattle.std.specs.Prelude.{◌+◌, ◌*◌, ◌≡◌, ◌≤◌, ◌^◌, ◌%◌, take, drop, List, ℕ};
@@ -30,12 +31,12 @@ pub enum Refusal {
     NotAsMeasured = 15,
 }
 
-impl Refusal {
-    // Its number.
-    pub fn number(self) -> u32
-        ensures { result ≡ number self }
-    {
-        self as u32
+// Its number.
+impl From<Refusal> for u32 {
+    ghost from_gives = { λ e n. n ≡ number e };
+
+    fn from(e: Refusal) -> u32 {
+        e as u32
     }
 }
 
@@ -66,7 +67,7 @@ impl From<Result<usize, Refusal>> for Written {
         match r {
             Ok(len) => Written { refusal: 0, len },
             Err(e) => Written {
-                refusal: e.number(),
+                refusal: e.into(),
                 len: 0,
             },
         }
@@ -81,7 +82,7 @@ impl From<Result<Undumped, Refusal>> for Undumped {
         match r {
             Ok(m) => m,
             Err(e) => Undumped {
-                refusal: e.number(),
+                refusal: e.into(),
                 width: 0,
                 words: 0,
                 text: 0,
@@ -109,7 +110,7 @@ impl Span {
     }
 }
 
-// A constant: a number by its halves, a string by where it stands in the bytes that hold it.
+// A constant: a number by its halves, a string by where it stands in the bytes that hold it. Its tags are no enum: in the store they are words, in the chunk bytes.
 #[derive(Clone, Copy)]
 pub enum Constant {
     Nil,
@@ -117,6 +118,15 @@ pub enum Constant {
     Num(u32, u32),
     String(Span),
 }
+
+// Three kinds of items, Constants, Locals and Names: what the lists of a function hold that are read, checked, written and listed item by item. Each of the
+// traits of items is of these.
+pub struct Constants;
+
+pub struct Locals;
+
+// The upvalues' names.
+pub struct Names;
 
 // The most functions nested, the root being 1.
 pub const DEPTH: u32 = 200;

@@ -1,4 +1,4 @@
--- Ends of ranges, by evaluation.
+-- Cases evaluated at the ends of ranges; nothing cites them.
 use mathlib.Core.Path.{◌≡◌, refl}
 use mathlib.Core.Bool.{true, false}
 use mathlib.Core.List.{[], ◌∷◌, map}

@@ -22,10 +22,6 @@ use Rattle.instructions.specs.OpCodes.{NUM_OPCODES, or_move}
 pub one_shifted : (k : ℕ) → k < 32 → (1 * 2 ^ k) % 2 ^ 32 ≡ 2 ^ k
 one_shifted k h = rw one-mul (mod-eq_of_lt (pow-lt h))
 
--- a number in range is held whole
-pub whole : (size : ℕ) {x : ℕ} → x < 2 ^ size → x % 2 ^ size ≡ x
-whole size h = mod-eq_of_lt h
-
 -- a field is what stands there, whatever stands above and below
 read : (from size x above below : ℕ) {i : ℕ} → i ≡ (above * 2 ^ size + x % 2 ^ size) * 2 ^ from + below → below < 2 ^ from → field from size i ≡ x % 2 ^ size
 read from size x above below e h =
@@ -68,17 +64,17 @@ a_bx_holds o a bx =
 -- a field on top of what stands below it
 joined : (from size i : ℕ) {s : ℕ} → s ≡ i % 2 ^ from → s + placed from size (field from size i) ≡ i % 2 ^ (size + from)
 joined from size i {s} e =
-    rw (whole size (mod-lt (i / 2 ^ from) (pow_pos size)), mod-pow-add i size from, ← e) (add_comm s _)
+    rw (mod-eq_of_lt (mod-lt (i / 2 ^ from) (pow_pos size)), mod-pow-add i size from, ← e) (add_comm s _)
 
 -- the opcode and A, with which each format begins
 below_c : (i : ℕ) → placed POS_OP SIZE_OP (GET_OPCODE i) + placed POS_A SIZE_A (GETARG_A i) ≡ i % 2 ^ POS_C
 below_c i = joined POS_A SIZE_A i (omega arith)
 
 pub abc_own : (i : ℕ) → i < 2 ^ 32 → CREATE_ABC (GET_OPCODE i) (GETARG_A i) (GETARG_B i) (GETARG_C i) ≡ i
-abc_own i h = add_right_comm _ _ _ ∙ joined POS_B SIZE_B i (joined POS_C SIZE_C i (below_c i)) ∙ whole 32 h
+abc_own i h = add_right_comm _ _ _ ∙ joined POS_B SIZE_B i (joined POS_C SIZE_C i (below_c i)) ∙ mod-eq_of_lt h
 
 pub a_bx_own : (i : ℕ) → i < 2 ^ 32 → CREATE_ABx (GET_OPCODE i) (GETARG_A i) (GETARG_Bx i) ≡ i
-a_bx_own i h = joined POS_Bx SIZE_Bx i (below_c i) ∙ whole 32 h
+a_bx_own i h = joined POS_Bx SIZE_Bx i (below_c i) ∙ mod-eq_of_lt h
 
 -- ==== sBx
 
@@ -93,7 +89,7 @@ sbx_backward i h = rw (lt-ltb (GETARG_Bx i) MAXARG_sBx h)
 pub a_sbx_holds : (o a : ℕ) (b : ℤ) → neg_ℤ (pos MAXARG_sBx) ≤ℤ b → b ≤ℤ pos (MAXARG_Bx - MAXARG_sBx) → GETARG_sBx (CREATE_AsBx o a b) ≡ b
 a_sbx_holds o a (pos n) least most =
     let bound : n ≤ 131072 = leb→le _ _ most.le in
-    let e : GETARG_Bx (CREATE_AsBx o a (pos n)) ≡ n + MAXARG_sBx = (a_bx_holds o a _).arg_bx ∙ whole SIZE_Bx (omega arith) in
+    let e : GETARG_Bx (CREATE_AsBx o a (pos n)) ≡ n + MAXARG_sBx = (a_bx_holds o a _).arg_bx ∙ mod-eq_of_lt (omega arith) in
     sbx_forward (CREATE_AsBx o a (pos n)) (omega (arith, e)) ∙ ap pos (omega (arith, e))
 a_sbx_holds o a (negsuc n) least most =
     let bound : n ≤ 131070 = leb→le _ _ least.le in

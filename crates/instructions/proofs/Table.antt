@@ -1,5 +1,5 @@
 -- A table that gives something of each row, in the rows' order, gives at an opcode's number what its row has.
-use mathlib.Core.Path.{◌≡◌, refl}
+use mathlib.Core.Path.{◌≡◌, ◌∙◌, ap, refl}
 use mathlib.Core.List.{List, [], ◌∷◌, map}
 use Prim.Native.Nat.{ℕ, zero, suc, ◌<◌}
 use native.Mathlib.Nat.{le_of_suc-le-suc, not-suc-le-zero}
@@ -17,5 +17,9 @@ module _ {B : Type 0} (f : Row → B) (d : B) where
   unfolding opcodes
   listed table n rule = rw rule (at opcodes (or_move n) (opcode_known n))
 
-pub looked_up : {A B : Type 0} (g : A → B) (f : Row → B) (d : A) (table : List A) (n : ℕ) → map g table ≡ map f opcodes → g (get_or table (or_move n) d) ≡ f (row_of n)
-looked_up g f d table n rule = rw (← get_or-map g table (or_move n) d) (listed f (g d) (map g table) n rule)
+-- r is what the table has for n
+pub row_listed : {B : Type 0} (f : Row → B) (table : List B) (n : ℕ) (r : B) → table ≡ map f opcodes → r ≡ get_or table (or_move n) r → r ≡ f (row_of n)
+row_listed f table n r rule has = has ∙ listed f r table n rule
+
+pub looked_up : {A B : Type 0} (g : A → B) (f : Row → B) (table : List A) (n : ℕ) (r : A) → map g table ≡ map f opcodes → r ≡ get_or table (or_move n) r → g r ≡ f (row_of n)
+looked_up g f table n r rule has = ap g has ∙ rw (← get_or-map g table (or_move n) r) (listed f (g r) (map g table) n rule)

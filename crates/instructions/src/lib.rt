@@ -1,7 +1,7 @@
 // Instructions of Lua 5.1 and their opcodes, as lopcodes.h and lopcodes.c have them.
 #![tactic(auto)]
 
-ghost use Rattle.std.specs.Prelude.{◌≡◌, [], ◌∷◌, map, ◌+◌, ◌≤◌, ◌<◌};
+ghost use Rattle.std.specs.Prelude.{◌≡◌, [], ◌∷◌, map, get_or, ◌+◌, ◌≤◌, ◌<◌};
 ghost use Rattle.instructions.specs.Fields.{field, placed, GETARG_A, GETARG_B, GETARG_C, GETARG_Bx, GETARG_sBx};
 ghost use Rattle.instructions.specs.Fields.{CREATE_ABC, CREATE_ABx, CREATE_AsBx, ISK, INDEXK, RKASK};
 ghost use Rattle.instructions.specs.OpCodes.{op_numbers, Row, opcodes, opcode, or_move, op_modes, op_name, padded};
@@ -164,8 +164,8 @@ pub fn rk_as_k(idx: u32) -> u32
 // Invalid register that fits in 8 bits.
 pub const NO_REG: u32 = MAXARG_A;
 
-// The opcodes' numbers, as the format has them. A u8 that is no opcode has an answer too, MOVE's, which a narrower type would forbid. Of an enum,
-// nothing derives the way from u8: a match of 38 arms would come back beside it.
+// The opcodes' numbers, as the format has them. Any u8 is asked about and has an answer, MOVE's where it is no opcode, which a narrower type would
+// forbid.
 pub const OP_MOVE: u8 = 0;
 
 pub const OP_LOADK: u8 = 1;
@@ -244,6 +244,9 @@ pub const OP_VARARG: u8 = 37;
 
 pub const NUM_OPCODES: u8 = 38;
 
+// How many rows the two tables have.
+const ROWS: usize = NUM_OPCODES as usize;
+
 // The opcodes' numbers are the definitions'.
 fn opcode_numbers()
     ensures { op_numbers ≡ OP_MOVE ∷ OP_LOADK ∷ OP_LOADBOOL ∷ OP_LOADNIL ∷ OP_GETUPVAL ∷ OP_GETGLOBAL ∷ OP_GETTABLE ∷ OP_SETGLOBAL
@@ -258,6 +261,14 @@ fn or_move(n: u8) -> u8
     ensures { result ≡ or_move n }
 {
     if n < NUM_OPCODES { n } else { OP_MOVE }
+}
+
+// What a table has for an opcode, and for MOVE where the number is no opcode's.
+// get_or wants a T to answer behind the table's end, where no number reaches: result serves.
+fn row<T: Copy>(table: &[T; ROWS], op: u8) -> T
+    ensures { result ≡ get_or table.now (or_move op) result }
+{
+    table[usize::from(or_move(op))]
 }
 
 // Whether an opcode jumps.
@@ -311,7 +322,7 @@ const ABX: u8 = OpMode::IABx as u8;
 const ASBX: u8 = OpMode::IAsBx as u8;
 
 // The attributes by opcode number: test, sets A, B, C, mode. They stay packed in bytes, since lopcodes.c packs them so, and a row reads as there.
-const OP_MODES: [u8; 38] = [
+const OP_MODES: [u8; ROWS] = [
     0 << 7 | 1 << 6 | R << 4 | N << 2 | ABC, // MOVE
     0 << 7 | 1 << 6 | K << 4 | N << 2 | ABX, // LOADK
     0 << 7 | 1 << 6 | U << 4 | U << 2 | ABC, // LOADBOOL
@@ -354,48 +365,50 @@ const OP_MODES: [u8; 38] = [
 
 // The table, with its rule. It is lent, so that a lookup copies no table.
 #[tactic(auto, unfolding(crate::specs::OpCodes::opcodes))]
-fn op_mode_bytes() -> &'static [u8; 38]
+fn op_mode_bytes() -> &'static [u8; ROWS]
     ensures { map modes_of_byte result.now ≡ map (λ (o : Row). o.modes) opcodes }
 {
     &OP_MODES
 }
 
-// The mode of a number. Of a From, a caller would learn this only by a ghost member beside it.
-fn mode_of(n: u8) -> OpMode
-    ensures { result ≡ mode_of n }
-{
-    match n {
-        ABC => OpMode::IABC,
-        ABX => OpMode::IABx,
-        _ => OpMode::IAsBx,
+// The mode of a number, IAsBx's where it is no mode's.
+impl From<u8> for OpMode {
+    ghost from_gives = { λ n m. m ≡ mode_of n };
+
+    fn from(n: u8) -> OpMode {
+        match n {
+            ABC => OpMode::IABC,
+            ABX => OpMode::IABx,
+            _ => OpMode::IAsBx,
+        }
     }
 }
 
-// The kind of operand of a number. No From, as in mode_of.
-fn arg_of(n: u8) -> OpArgMask
-    ensures { result ≡ arg_of n }
-{
-    match n {
-        N => OpArgMask::N,
-        U => OpArgMask::U,
-        R => OpArgMask::R,
-        _ => OpArgMask::K,
+// What an operand of a number is, K where the number is none's.
+impl From<u8> for OpArgMask {
+    ghost from_gives = { λ n a. a ≡ arg_of n };
+
+    fn from(n: u8) -> OpArgMask {
+        match n {
+            N => OpArgMask::N,
+            U => OpArgMask::U,
+            R => OpArgMask::R,
+            _ => OpArgMask::K,
+        }
     }
 }
 
-// A row of the table taken apart.
+// A row of the table taken apart. It is of 8 bits, and field takes 32.
 fn modes_of_byte(m: u8) -> OpModes
     ensures { result ≡ modes_of_byte m }
 {
-    let mode = mode_of(m % 4);
-    let b_mode = arg_of(m / 16 % 4);
-    let c_mode = arg_of(m / 4 % 4);
+    let bits = u32::from(m);
     OpModes {
-        mode,
-        b_mode,
-        c_mode,
-        is_test_mode: m / 128 % 2 == 1,
-        sets_register_a: m / 64 % 2 == 1,
+        mode: OpMode::from(field(bits, 0, 2) as u8),
+        b_mode: OpArgMask::from(field(bits, 4, 2) as u8),
+        c_mode: OpArgMask::from(field(bits, 2, 2) as u8),
+        is_test_mode: field(bits, 7, 1) == 1,
+        sets_register_a: field(bits, 6, 1) == 1,
     }
 }
 
@@ -404,13 +417,11 @@ fn modes_of_byte(m: u8) -> OpModes
 pub fn op_modes(op: u8) -> OpModes
     ensures { result ≡ op_modes op }
 {
-    let table = op_mode_bytes();
-    let n = usize::from(or_move(op));
-    modes_of_byte(table[n])
+    modes_of_byte(row(op_mode_bytes(), op))
 }
 
 // The names by opcode number, padded with spaces.
-const OP_NAMES: [[u8; 9]; 38] = [
+const OP_NAMES: [[u8; 9]; ROWS] = [
     *b"MOVE     ",
     *b"LOADK    ",
     *b"LOADBOOL ",
@@ -453,18 +464,16 @@ const OP_NAMES: [[u8; 9]; 38] = [
 
 // The table, with its rule. It is lent, as that of the attributes.
 #[tactic(auto, unfolding(crate::specs::OpCodes::opcodes))]
-fn op_names() -> &'static [[u8; 9]; 38]
+fn op_names() -> &'static [[u8; 9]; ROWS]
     ensures { result.now ≡ map (λ (o : Row). padded o.name) opcodes }
 {
     &OP_NAMES
 }
 
 // The name of an opcode, padded with spaces, MOVE's for a number that is no opcode's.
-#[tactic(auto, using(crate::proofs::Table::listed))]
+#[tactic(auto, using(crate::proofs::Table::row_listed))]
 pub fn name(op: u8) -> [u8; 9]
     ensures { result ≡ padded (op_name op) }
 {
-    let table = op_names();
-    let n = usize::from(or_move(op));
-    table[n]
+    row(op_names(), op)
 }

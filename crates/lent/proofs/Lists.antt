@@ -1,10 +1,7 @@
--- Laws of lists that reading and writing share.
-use Rattle.lent.proofs.Prelude.{ℕ, zero, suc, ◌+◌, ◌<◌, ◌≡◌, List, [], ◌∷◌, ◌++◌, add-one, length, take, drop, get_or, drop-cons}
+-- Laws of lists that reading and writing share: of every item. std has them of All, which goes by index, so that each use would turn Every into it and back,
+-- and only within std_collections of its AllByRecursion, which goes as Every does: a crate without that library can't name them.
+use Rattle.lent.proofs.Prelude.{ℕ, zero, suc, List, [], ◌∷◌, ◌++◌, take, drop}
 use Rattle.lent.specs.Memory.{Every}
-
--- the item at a place, and what is behind it
-pub drop_more : (s : List ℕ) (i : ℕ) → i < length s → drop i s ≡ get_or s i 0 ∷ drop (i + 1) s
-drop_more s i h = rw (add-one, drop-cons s i 0)
 
 module _ {A : Type 0} (P : A → Type 0) where
   pub every_append : (s t : List A) → Every P s → Every P t → Every P (s ++ t)

@@ -1,6 +1,6 @@
 -- Writing to lent memory: one write, and writes one after the other.
 use borrow.Rule.Slice.PartMut.{put_mid}
-use Rattle.lent.proofs.Prelude.{ℕ, suc, ◌+◌, ◌-◌, ◌≤◌, ◌<◌, min, ◌≡◌, refl, sym, ap, ◌∙◌, List, [], ◌∷◌, ◌++◌, arith, dec_le, add-zero, length, take, drop, set, length-append, length-take, length-drop, take-append-drop, sets, length-sets, set_out, set-set, set_comm, take-add, sets-eq, take_all, length-take-le, drop-drop, append_assoc}
+use Rattle.lent.proofs.Prelude.{ℕ, suc, ◌+◌, ◌-◌, ◌≤◌, ◌<◌, min, ◌≡◌, refl, sym, ap, ◌∙◌, List, [], ◌∷◌, ◌++◌, arith, dec_le, add-zero, length, take, drop, set, length-append, take-append-drop, sets, length-sets, set_out, sets-eq, take_all, length-take-le, drop-drop, append_assoc}
 use Rattle.lent.specs.Memory.{far, Puts}
 
 -- ---- items stored one after the other
@@ -15,34 +15,6 @@ sets_append [] l b i = rw add-zero
 sets_append (v ∷ a) l b i =
     let e : i + suc (length a) ≡ suc i + length a = omega arith in
     rw e (sets_append a (set l i v) b (suc i))
-
--- what is stored over no more items takes their place
-sets_over : {A : Type 0} (p q l : List A) (i : ℕ) → length p ≤ length q → sets (sets l i p) i q ≡ sets l i q
-sets_over [] q l i h = refl
-sets_over (v ∷ p) [] l i h = absurd (omega arith)
-sets_over (v ∷ p) (u ∷ q) l i h =
-    let e : set (sets (set l i v) (suc i) p) i u ≡ sets (set l i u) (suc i) p = set_behind p (set l i v) i (suc i) u (omega arith) ∙ rw set-set in
-    rw e (sets_over p q (set l i u) (suc i) (omega arith))
-  where
-    -- an item is stored before others
-    set_behind : {A : Type 0} (p l : List A) (i j : ℕ) (u : A) → i < j → set (sets l j p) i u ≡ sets (set l i u) j p
-    set_behind [] l i j u h = refl
-    set_behind (v ∷ p) l i j u h = set_behind p (set l j v) i (suc j) u (omega arith) ∙ rw (set_comm l j i v u (λ e. omega arith))
-
--- the first j items, then those from i on, which reach the end and may lie over the first
-pub sets_ends : {A : Type 0} {out₁ out₂ : List A} (i j k : ℕ) (out s : List A) (at : ℕ) → out₁ ≡ sets out at (take j s) → out₂ ≡ sets out₁ (at + i) (take k (drop i s)) → i ≤ j → i + k ≡ length s → out₂ ≡ sets out at s
-sets_ends i j k out s at e f h m =
-    let back : List _ = drop i s in
-    let w : i + (j - i) ≡ j = omega arith in
-    let n : length back ≤ k = omega (arith, length-drop i s) in
-    let t : length (take i s) ≡ i = length-take-le i s (omega arith) in
-    let c : take j s ≡ take i s ++ take (j - i) back = rw w at (take-add i (j - i) s) in
-    let a : sets out at (take j s) ≡ sets (sets out at (take i s)) (at + i) (take (j - i) back) = rw c (sym (rw t at (sets_append (take i s) out (take (j - i) back) at))) in
-    let p : length (take (j - i) back) ≤ length back = omega (arith, length-take (j - i) back) in
-    f
-    ∙ rw (e, a, take_all k back n) (sets_over (take (j - i) back) back (sets out at (take i s)) (at + i) p)
-    ∙ rw t at (sets_append (take i s) out back at)
-    ∙ rw take-append-drop
 
 -- a part of a slice is written over
 pub sets_part : {A : Type 0} {part : List A} (l items : List A) (i k : ℕ) → part ≡ items → k ≡ length items → i + k ≤ length l → put_mid i k l part ≡ sets l i items

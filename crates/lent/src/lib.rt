@@ -1,58 +1,48 @@
 // Writing to lent memory. What is past the end is not written, and a place stops at the farthest. Over the memory and a place, of items of any type: a
-// Writer, which is of bytes, is made of these.
+// Writer, which is of bytes, is made of these. There is no Writer of words: inside Loader only the length would be known at the end of its loan, and dump's
+// place would go through memory.
 #![tactic(auto)]
 
 ghost use Rattle.std.specs.Prelude.{◌+◌, ◌≤◌, ◌<◌, ◌≡◌, [], ◌∷◌, length};
-ghost use Rattle.std.proofs.lemmas.List.Edits.{sets};
 ghost use Rattle.lent.specs.Memory.{Puts};
 ghost use Rattle.lent.specs.Writer.{Writes};
 
-// Items, which fit.
-#[tactic(auto, using(crate::proofs::Writes::sets_part))]
-fn copy_part<T: Copy>(out: &mut [T], at: usize, s: &[T])
-    requires { at + length s.now ≤ length out.old }
-    ensures { out.new ≡ sets out.old at s.now }
-{
-    out[at..at + s.len()].copy_from_slice(s);
-}
-
-// N items, which fit: they are read before one is written, so that they are moved at once.
-fn copy_block<T: Copy, const N: usize>(out: &mut [T], at: usize, s: &[T])
-    requires { (length s.now ≡ N) × (at + length s.now ≤ length out.old) }
-    ensures { out.new ≡ sets out.old at s.now }
+// Items over N others: they are read before one is written, so that they are moved at once.
+fn copy_block<T: Copy, const N: usize>(to: &mut [T], s: &[T])
+    requires { (length s.now ≡ N) × (length to.old ≡ N) }
+    ensures { to.new ≡ s.now }
 {
     let block: [T; N] = s.try_into().unwrap();
-    copy_part(out, at, &block);
+    to.copy_from_slice(&block);
 }
 
-// Items, which fit, as the first N of them and the last N, which may lie over the first.
-#[tactic(auto, using(crate::proofs::Writes::sets_ends))]
-fn copy_ends<T: Copy, const N: usize>(out: &mut [T], at: usize, s: &[T])
-    requires { (at + length s.now ≤ length out.old) × (N ≤ length s.now) × (length s.now ≤ N + N) }
-    ensures { out.new ≡ sets out.old at s.now }
+// Items over as many, as the first N of them and the last N, which may lie over the first.
+fn copy_ends<T: Copy, const N: usize>(to: &mut [T], s: &[T])
+    requires { (length s.now ≡ length to.old) × (N ≤ length s.now) × (length s.now ≤ N + N) }
+    ensures { to.new ≡ s.now }
 {
     let last = s.len() - N;
-    copy_block::<T, N>(out, at, &s[..N]);
-    copy_block::<T, N>(out, at + last, &s[last..]);
+    copy_block::<T, N>(&mut to[..N], &s[..N]);
+    copy_block::<T, N>(&mut to[last..], &s[last..]);
 }
 
-// Items, which fit. Few are moved at once, with no call that copies memory.
-pub fn copy<T: Copy>(out: &mut [T], at: usize, s: &[T])
-    requires { at + length s.now ≤ length out.old }
-    ensures { out.new ≡ sets out.old at s.now }
+// Items over as many. Few are moved at once, with no call that copies memory.
+pub fn copy<T: Copy>(to: &mut [T], s: &[T])
+    requires { length s.now ≡ length to.old }
+    ensures { to.new ≡ s.now }
 {
     match s.len() {
         0 => {}
-        1..=2 => copy_ends::<T, 1>(out, at, s),
-        3..=4 => copy_ends::<T, 2>(out, at, s),
-        5..=8 => copy_ends::<T, 4>(out, at, s),
-        9..=16 => copy_ends::<T, 8>(out, at, s),
-        17..=32 => copy_ends::<T, 16>(out, at, s),
-        _ => copy_part(out, at, s),
+        1..=2 => copy_ends::<T, 1>(to, s),
+        3..=4 => copy_ends::<T, 2>(to, s),
+        5..=8 => copy_ends::<T, 4>(to, s),
+        9..=16 => copy_ends::<T, 8>(to, s),
+        17..=32 => copy_ends::<T, 16>(to, s),
+        _ => to.copy_from_slice(s),
     }
 }
 
-// An item. Answers the next place.
+// An item. Answers the next place. Tried as put_array of one: it stays open that one item of any type takes less than 2^63 bytes.
 pub fn put<T: Copy>(out: &mut [T], at: usize, item: T) -> usize
     ensures { Puts (item ∷ []) at out.old result out.new }
 {
@@ -63,19 +53,19 @@ pub fn put<T: Copy>(out: &mut [T], at: usize, item: T) -> usize
 }
 
 // Items. Answers the next place.
-#[tactic(auto, using(crate::proofs::Writes::put_part, crate::proofs::Writes::put_lost))]
+#[tactic(auto, using(crate::proofs::Writes::put_part, crate::proofs::Writes::put_lost, crate::proofs::Writes::sets_part))]
 pub fn put_all<T: Copy>(out: &mut [T], at: usize, s: &[T]) -> usize
     ensures { Puts s.now at out.old result out.new }
 {
     if at < out.len() {
-        let room = out.len() - at;
-        copy(out, at, &s[..s.len().min(room)]);
+        let n = s.len().min(out.len() - at);
+        copy(&mut out[at..at + n], &s[..n]);
     }
     at.saturating_add(s.len())
 }
 
 // N items: where all fit, the room is tested once. Answers the next place.
-#[tactic(auto, using(crate::proofs::Writes::put_lost))]
+#[tactic(auto, using(crate::proofs::Writes::put_lost, crate::proofs::Writes::sets_part))]
 pub fn put_array<T: Copy, const N: usize>(out: &mut [T], at: usize, items: [T; N]) -> usize
     ensures { Puts items at out.old result out.new }
 {
@@ -85,7 +75,7 @@ pub fn put_array<T: Copy, const N: usize>(out: &mut [T], at: usize, items: [T; N
     if out.len() - at < N {
         return put_cut(out, at, items);
     }
-    copy_part(out, at, &items);
+    out[at..at + N].copy_from_slice(&items);
     at + N
 }
 

@@ -20,14 +20,16 @@ const OUT: usize = 65536;
 
 const NAME: [u8; 6] = *b"=stdin";
 
-// The first n of a list, as many as there are: test_records' first again, since a program of the library shares nothing with the tests.
+// The first n of a list, as many as there are: test_records' first again, as a program of the library is not built on what the tests share; Span::of,
+// of the library, would name a start that is always 0.
 fn first<T>(list: &[T], n: usize) -> &[T]
     ensures { result.now ≡ take n list.now }
 {
-    &list[..n.min(list.len())]
+    list.get(..n).unwrap_or(list)
 }
 
 // Lists a chunk into out: the length, or the refusal of reading it or of the listing. Where measure is refused, store is refused by the same number.
+#[tactic(auto, using(crate::proofs::Listed::chunk_listed))]
 fn list(chunk: &[u8], words: &mut [u32], text: &mut [u8], out: &mut [u8]) -> Written
     ensures { write_left result out.new ≡ listed_chunk chunk.now words.old text.old out.old }
 {

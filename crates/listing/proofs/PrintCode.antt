@@ -1,6 +1,6 @@
 -- PrintCode's loop: its turn, and what it leaves out of the Rust's lines.
 use Rattle.lent.proofs.Prelude.{ℕ, suc, ◌+◌, ◌≤◌, ◌<◌, min, ◌≡◌, refl, sym, ap, ◌∙◌, Bool, true, false, cond, not, ◌&&◌, List, [], ◌∷◌, ◌++◌, arith, dec_lt, append-nil, add-zero, add-one, length, drop, get_or, drop_of_length-le, get_or-drop, drop-drop}
-use Rattle.lent.proofs.Lists.{drop_more}
+use Rattle.std.proofs.lemmas.List.{drop_more}
 use Rattle.instructions.specs.OpCodes.{next_is_c}
 use Rattle.listing_comments.specs.Comment.{when}
 use Rattle.listing_headers.specs.Tables.{enumerated}
@@ -13,15 +13,15 @@ module _ (line : ℕ → ℕ → List ℕ) where
   pub print_turn : (l : List ℕ) {n pc i next : ℕ} → n ≡ length l → pc < n → i ≡ get_or l pc 0 → next ≡ cond (next_is_c i) (min (pc + 2) n) (pc + 1)
       → print_code line pc (drop pc l) ≡ line pc i ++ print_code line next (drop next l)
   unfolding print_code
-  print_turn l {n} {pc} {i} {next} e h f g = rw (drop_more l pc (omega arith), ← f) (elim (dec_lt (pc + 1) n) [
-    | yes k ↦ let two : pc + 1 + 1 ≡ pc + 2 = omega arith in rw (drop_more l (pc + 1) (omega arith), two) (more k (next_is_c i) g)
+  print_turn l {n} {pc} {i} {next} e h f g = rw (drop_more l pc 0 (omega arith), ← f) (elim (dec_lt (pc + 1) n) [
+    | yes k ↦ let two : pc + 1 + 1 ≡ pc + 2 = omega arith in rw (drop_more l (pc + 1) 0 (omega arith), two) (more k (next_is_c i) g)
     | no k ↦ rw (drop_of_length-le l {i = pc + 1} (omega arith), drop_of_length-le l {i = next} (last k (next_is_c i) g)) (sym (append-nil _))
   ])
     where
       more : pc + 1 < n → (b : Bool) → next ≡ cond b (min (pc + 2) n) (pc + 1)
           → line pc i ++ cond b (print_code line (pc + 2) (drop (pc + 2) l)) (print_code line (pc + 1) (get_or l (pc + 1) 0 ∷ drop (pc + 2) l)) ≡ line pc i ++ print_code line next (drop next l)
       more k true q = let r : next ≡ pc + 2 = omega arith in rw r refl
-      more k false q = let two : pc + 1 + 1 ≡ pc + 2 = omega arith in rw (q, drop_more l (pc + 1) (omega arith), two) refl
+      more k false q = let two : pc + 1 + 1 ≡ pc + 2 = omega arith in rw (q, drop_more l (pc + 1) 0 (omega arith), two) refl
 
       last : (pc + 1 < n → ⊥) → (b : Bool) → next ≡ cond b (min (pc + 2) n) (pc + 1) → length l ≤ next
       last k true q = omega arith

@@ -14,6 +14,7 @@ ghost use Rattle.listing.specs.Listing.{list_function, listed};
 use format::{DEPTH, Refusal, Written, check_name};
 use function::Lister;
 use lent::Writer;
+use proto::lists::Way;
 use proto::store::Store;
 use proto::walk::Next;
 
@@ -21,11 +22,13 @@ use proto::walk::Next;
 fn list_root<'a>(store: Store<'a>, name: &'a [u8], full: bool, out: &mut [u8]) -> usize
     ensures { (f : Function) → Holds store.entry.words.now store.entry.text.now f → Puts (list_function f full name.now) 0 out.old result out.new }
 {
-    let mut kept = [None; DEPTH as usize];
     let mut w = Writer { out, at: 0 };
     let root = Next { at: 0, number: 1 };
-    let lister = Lister { store, full };
-    lister.list(&mut w, &mut kept, name, root, DEPTH);
+    let mut lister = Lister {
+        way: Way::new(store),
+        full,
+    };
+    lister.list(&mut w, name, root, DEPTH);
     w.at
 }
 
@@ -49,7 +52,7 @@ fn list_store<'a>(
     Ok(len)
 }
 
-// Writes the listing of a store to lent memory. Refused by 1, 10, 11.
+// The call for C, which has words and text apart: writes the listing of a store to lent memory. Refused by 1, 10, 11.
 pub fn list_function<'a>(
     words: &[u32],
     text: &'a [u8],

@@ -23,10 +23,6 @@ comment_put p q = writes_then p q
 
 -- ---- which opcodes
 
-pub or_true : (a : Bool) → (a || true) ≡ true
-or_true true = refl
-or_true false = refl
-
 -- what holds of each opcode of a list holds of one that is among them
 pub of_each : (P : ℕ → Type 0) (op : ℕ) (l : List ℕ) → among op l ≡ true → Every P l → P op
 unfolding Every

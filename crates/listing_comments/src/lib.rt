@@ -24,8 +24,9 @@ use instructions::{
 use lent::Writer;
 use listing_operands::constant::format_constant;
 use listing_operands::operand::put_difference;
+use proto::debug::upvalue_of;
 use proto::lists::Lists;
-use proto::walk::{ints_at, nth_at, word_at};
+use proto::walk::{ints_at, word_at};
 
 // A number in base 10.
 pub fn put_u32(w: &mut Writer, n: u32)
@@ -63,9 +64,9 @@ fn comment_upvalue(w: &mut Writer, lists: Lists, b: u32)
     ensures { Shows lists.entry.store lists.entry.upvalues (list string) (λ l. comment (upvalue_text (item l b))) w.old w.new }
 {
     put_comment(w);
-    match nth_at(lists.store.words, lists.upvalues, 2, b) {
+    match upvalue_of(lists.store.words, lists.upvalues, b) {
         None => w.put_byte(b'-'),
-        Some(name) => w.put_bytes(lists.store.string_at(name)),
+        Some(name) => w.put_bytes(name.of(lists.store.text)),
     }
 }
 
@@ -102,16 +103,17 @@ fn comment_operands(w: &mut Writer, lists: Lists, b: u32, c: u32)
 }
 
 // Where a jump goes.
-fn comment_jump(w: &mut Writer, pc: u32, i: u32)
-    ensures { Writes (comment (ascii "to " ++ jump_target pc i)) w.old w.new }
+fn comment_jump(w: &mut Writer, pc: u32, i: Instruction)
+    ensures { Writes (comment (ascii "to " ++ jump_target pc i.0)) w.old w.new }
 {
     put_comment(w);
     w.put_bytes(b"to ");
-    let to = u64::from(Instruction(i).bx()) + u64::from(pc) + 2;
+    let to = u64::from(i.bx()) + u64::from(pc) + 2;
     put_difference(w, to, u64::from(MAXARG_SBX));
 }
 
 // The number of the function that a CLOSURE makes, where there is such a function; where there is none, whatever child says.
+#[tactic(auto, using(crate::proofs::Comments::comment_put))]
 fn comment_closure(w: &mut Writer, lists: Lists, bx: u32, child: Option<usize>)
     ensures { Writes (when (ltb bx (get_or lists.entry.store.words.now lists.entry.functions 0)) (closure_text child)) w.old w.new }
 {
@@ -163,12 +165,20 @@ fn has_operands(op: u8) -> bool
 }
 
 // The comment of the instruction at pc. child is the number of the function that a CLOSURE makes, where there is one.
-pub fn format_comment(w: &mut Writer, lists: Lists, child: Option<usize>, pc: u32, op: u8, i: u32)
-    ensures { (p : Parts) (fs : Functions) (number : ℕ) → ListsAt lists.entry p fs → ChildIs fs number op i child → Writes (format_comment op p fs number pc i) w.old w.new }
+// op stands beside i, as in the definitions and the Rust: the promise is of any opcode, and of i's alone it would be less.
+pub fn format_comment(
+    w: &mut Writer,
+    lists: Lists,
+    child: Option<usize>,
+    pc: u32,
+    op: u8,
+    i: Instruction,
+)
+    ensures { (p : Parts) (fs : Functions) (number : ℕ) → ListsAt lists.entry p fs → ChildIs fs number op i.0 child → Writes (format_comment op p fs number pc i.0) w.old w.new }
 {
-    let b = Instruction(i).b();
-    let c = Instruction(i).c();
-    let bx = Instruction(i).bx();
+    let b = i.b();
+    let c = i.c();
+    let bx = i.bx();
     match op {
         OP_LOADK => comment_constant::<false>(w, lists, bx),
         OP_GETUPVAL | OP_SETUPVAL => comment_upvalue(w, lists, b),

@@ -1,27 +1,15 @@
 -- A loop that writes the items of a list that stands in the words, each with its index: what is left to write are the items from here on.
-use Rattle.lent.proofs.Prelude.{ℕ, zero, suc, ◌+◌, ◌*◌, ◌≤◌, ◌<◌, ◌≡◌, refl, ◌∙◌, List, [], ◌∷◌, ◌++◌, some, arith, add-one, length, drop, get_or, drop_of_length-le}
+use Rattle.lent.proofs.Prelude.{ℕ, ◌+◌, ◌*◌, ◌≤◌, ◌<◌, ◌≡◌, ◌∙◌, List, ◌++◌, arith, add-one, length, drop, get_or, drop_of_length-le}
 use Rattle.lent.specs.Writer.{Writes}
 use Rattle.lent.specs.declared.Writer.{Writer}
 use Rattle.lent.proofs.Writers.{WritesLeft, left_put, left_end, writes_then}
 use Rattle.format.specs.Store.{Piece, list}
-use Rattle.proto.specs.Walk.{item, Skips}
+use Rattle.proto.specs.Walk.{Skips}
 use Rattle.proto.specs.Lists.{StandsIn}
 use Rattle.proto.specs.declared.store.Store.{Store}
-use Rattle.proto.proofs.Items.{list_count, list_item}
+use Rattle.proto.proofs.Items.{item_there, item_drop, list_count, list_item}
 use Rattle.listing_operands.specs.Shown.{Shows}
 use Rattle.listing_headers.specs.Tables.{enumerated, title, format_list}
-
--- the item at an index, and those behind it
-record ItemAt {A : Type 0} (l : List A) (i : ℕ) : Type 0 where
-  value : A
-  is : item l i ≡ some value
-  behind : drop i l ≡ value ∷ drop (suc i) l
-
-item_at : {A : Type 0} (l : List A) (i : ℕ) → i < length l → ItemAt l i
-unfolding item
-item_at [] i h = absurd (omega arith)
-item_at (a ∷ l) zero h = record { value = a; is = refl; behind = refl }
-item_at (a ∷ l) (suc i) h = let x = item_at l i (omega arith) in record { value = x.value; is = x.is; behind = x.behind }
 
 -- before item i of whatever list stands there, the loop having begun at w₀
 pub record EnumeratesList {A : Type 0} (store : Store) (place : ℕ) (piece : A → Piece) (say : ℕ → A → List ℕ) (i : ℕ) (w w₀ : Writer) : Type 0 where
@@ -36,8 +24,8 @@ module _ {A : Type 0} {store : Store} {place : ℕ} {piece : A → Piece} {say :
       record {
         left = λ l x.
             let c = e ∙ list_count piece l x.stands in
-            let a = item_at l i (omega arith) in
-            let q : enumerated say i (drop i l) ≡ say i a.value ++ enumerated say (i + 1) (drop (i + 1) l) = rw (a.behind, add-one i) in
+            let a = item_there l i (omega arith) in
+            let q : enumerated say i (drop i l) ≡ say i a.value ++ enumerated say (i + 1) (drop (i + 1) l) = rw (item_drop l i a.is, add-one i) in
             left_put (say i a.value) q (t.left l x) (p.shows a.value (list_item piece k wide l i a.value a.is x.stands s));
       }
 

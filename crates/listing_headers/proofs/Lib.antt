@@ -1,2 +1,1 @@
 pub mod Enumerates
-pub mod Locals

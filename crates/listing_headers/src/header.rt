@@ -53,7 +53,7 @@ fn put_and_amount(w: &mut Writer, n: u32, noun: &[u8])
 }
 
 // main or function.
-fn put_kind(w: &mut Writer, line: u32)
+fn put_kind_of(w: &mut Writer, line: u32)
     ensures { Writes (kind_of line) w.old w.new }
 {
     if line == 0 {
@@ -119,7 +119,7 @@ impl Header<'_> {
     fn put_kind(self, w: &mut Writer, source: &[u8], number: usize)
         ensures { (p : Parts) (fs : Functions) → HeaderOf self.entry p fs → Writes (header_kind p source.now number) w.old w.new }
     {
-        put_kind(w, self.head.line_defined);
+        put_kind_of(w, self.head.line_defined);
         put_source_lines(
             w,
             source,

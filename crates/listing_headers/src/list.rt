@@ -8,16 +8,18 @@ ghost use Rattle.instructions.specs.OpCodes.{ascii};
 ghost use Rattle.listing_operands.specs.Shown.{Shows};
 ghost use Rattle.listing_headers.specs.Tables.{title, raised, tabbed, format_constant_at, format_local_at, format_upvalue_at, format_list};
 
+use format::{Constants, Locals, Names};
 use lent::Writer;
 use listing_comments::{put_address, put_u32};
 use listing_lines::put_index;
 use listing_operands::constant::put_constant;
 use proto::constant::constant_at;
+use proto::debug::local_at;
 use proto::store::Store;
-use proto::walk::{item_at, skip, word_at};
+use proto::walk::{item_at, word_at};
 
-// What a list of a full listing holds: items that stand as pieces of SIZE words, and a line for each. proto and dump have an Item of their own, and
-// no trait above one of proto's: a ghost member's type cannot name a member of a supertrait (only a law's can), and line is of Value.
+// What a list of a full listing holds: items that stand as pieces of SIZE words, and a line for each. proto, load_function and dump have an Item of
+// their own, and no trait above one of proto's: a ghost member's type cannot name a member of a supertrait (only a law's can), and line is of Value.
 pub trait Item {
     ghost Value: { Type 0 };
 
@@ -31,7 +33,7 @@ pub trait Item {
 
     const SIZE: u32;
 
-    // Their name.
+    // Their name. No const as SIZE is: a const is proved equal to the ghost of its name, and of a slice that would be its address too.
     fn noun() -> &'static [u8]
         ensures { result.now ≡ noun };
 
@@ -43,8 +45,6 @@ pub trait Item {
 }
 
 // Constants, counted from 1.
-pub struct Constants;
-
 impl Item for Constants {
     ghost Value = { Constant };
 
@@ -72,8 +72,6 @@ impl Item for Constants {
 }
 
 // Locals, counted from 0.
-pub struct Locals;
-
 impl Item for Locals {
     ghost Value = { Local };
 
@@ -92,10 +90,11 @@ impl Item for Locals {
     }
 
     fn put_line(w: &mut Writer, store: Store, place: usize, i: u32) {
+        let v = local_at(store.words, place);
         put_index(w, u64::from(i));
-        w.put_bytes(store.string_at(place));
-        put_raised(w, word_at(store.words, skip(store.words, place, 2)));
-        put_raised(w, word_at(store.words, skip(store.words, place, 3)));
+        w.put_bytes(v.name.of(store.text));
+        put_raised(w, v.start);
+        put_raised(w, v.end);
         w.put_byte(b'\n');
     }
 
@@ -103,9 +102,7 @@ impl Item for Locals {
 }
 
 // Names of upvalues, counted from 0.
-pub struct Upvalues;
-
-impl Item for Upvalues {
+impl Item for Names {
     ghost Value = { List ℕ };
 
     ghost piece = { string };

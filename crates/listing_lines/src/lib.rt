@@ -1,5 +1,5 @@
 // One instruction's line of a listing (listing.rs: the body of format_code's loop). What is past the end is not written. What stands in front of
-// the comment fits, mostly: it goes over (out, at), which ask for room and test none, with the places in registers; a writer would test each byte.
+// the comment is stored over (out, at) where START bytes are left, with no test of each byte; listing_operands' fit.rt has what a writer takes.
 #![tactic(auto)]
 
 ghost use Rattle.std.specs.Prelude.{ℕ, ◌+◌, ◌-◌, ◌^◌, ◌≤◌, ◌<◌, List, ◌≡◌, length};
@@ -23,6 +23,9 @@ use listing_operands::fit::{fit_byte, fit_decimal};
 use listing_operands::operand::fit_operands;
 use proto::lists::Lists;
 use proto::walk::ints_at;
+
+// The most bytes that stand in front of a comment.
+const START: usize = 69;
 
 // A tab, an index and a tab.
 #[tactic(auto, using(lent::proofs::Writers::writes_first, lent::proofs::Writers::writes_then))]
@@ -57,15 +60,17 @@ fn fit_line<const STORED: bool>(line: Option<u32>, out: &mut [u8], at: usize) ->
 }
 
 // An opcode's name, padded to 9, which fits.
+#[tactic(auto, using(lent::proofs::Writes::put_stored, lent::proofs::Writes::sets_part))]
 fn store_name(op: u8, out: &mut [u8], at: usize) -> usize
     requires { at + 9 ≤ length out.old }
     ensures { PutsWithin (padded (op_name op)) 9 at out.old result out.new }
 {
-    lent::copy(out, at, &instructions::name(op));
+    lent::copy(&mut out[at..at + 9], &instructions::name(op));
     at + 9
 }
 
 // The same, stored or only counted.
+#[tactic(auto, using(crate::proofs::Lines::name_width, lent::proofs::Writes::put_lost), unfolding(listing_operands::specs::Fit::room))]
 fn fit_name<const STORED: bool>(op: u8, out: &mut [u8], at: usize) -> usize
     requires { at + 9 ≤ room STORED out.old }
     ensures { Fits STORED (padded (op_name op)) 9 at out.old result out.new }
@@ -80,15 +85,15 @@ fn fit_name<const STORED: bool>(op: u8, out: &mut [u8], at: usize) -> usize
 // What stands in front of the comment, which fits. n is the index, counted from 1.
 fn fit_start<const STORED: bool>(
     line: Option<u32>,
-    op: u8,
     n: u32,
-    i: u32,
+    i: Instruction,
     out: &mut [u8],
     at: usize,
 ) -> usize
-    requires { at + 69 ≤ room STORED out.old }
-    ensures { Fits STORED (start_of (line_of line) op n i) 69 at out.old result out.new }
+    requires { at + START ≤ room STORED out.old }
+    ensures { Fits STORED (start_of (line_of line) (opcode i.0) n i.0) START at out.old result out.new }
 {
+    let op = i.opcode();
     let a = fit_byte::<STORED>(out, at, b'\t');
     let b = fit_decimal::<STORED>(out, a, n);
     let c = fit_byte::<STORED>(out, b, b'\t');
@@ -99,32 +104,38 @@ fn fit_start<const STORED: bool>(
     fit_operands::<STORED>(op, i, out, g)
 }
 
-// What stands in front of the comment. Past the end it is only counted.
+// What stands in front of the comment. Past the end it is only counted. Where fewer than START bytes are left it is stored aside first, and of that is
+// written what fits.
 #[tactic(auto, using(lent::proofs::Writes::put_lost, digits::proofs::Rooms::fit_written, listing_operands::proofs::Fits::counted_length), unfolding(listing_operands::specs::Fit::room))]
-fn format_start(w: &mut Writer, line: Option<u32>, op: u8, n: u32, i: u32)
-    ensures { Writes (start_of (line_of line) op n i) w.old w.new }
+fn format_start(w: &mut Writer, line: Option<u32>, n: u32, i: Instruction)
+    ensures { Writes (start_of (line_of line) (opcode i.0) n i.0) w.old w.new }
 {
     if w.out.len() <= w.at {
         w.at = w
             .at
-            .saturating_add(fit_start::<false>(line, op, n, i, &mut [], 0));
-    } else if w.out.len() - w.at < 69 {
-        let mut all = [0u8; 69];
-        let end = fit_start::<true>(line, op, n, i, &mut all, 0);
+            .saturating_add(fit_start::<false>(line, n, i, &mut [], 0));
+    } else if w.out.len() - w.at < START {
+        let mut all = [0u8; START];
+        let end = fit_start::<true>(line, n, i, &mut all, 0);
         w.put_bytes(&all[..end]);
     } else {
-        w.at = fit_start::<true>(line, op, n, i, w.out, w.at);
+        w.at = fit_start::<true>(line, n, i, w.out, w.at);
     }
 }
 
 // The line of instruction i at pc. child is the number of the function that a CLOSURE makes, where there is one.
-pub fn format_instruction(w: &mut Writer, lists: Lists, child: Option<usize>, pc: u32, i: u32)
+pub fn format_instruction(
+    w: &mut Writer,
+    lists: Lists,
+    child: Option<usize>,
+    pc: u32,
+    i: Instruction,
+)
     requires { pc < 2 ^ 32 - 1 }
-    ensures { (p : Parts) (fs : Functions) (number : ℕ) → ListsAt lists.entry p fs → ChildIs fs number (opcode i) i child → Writes (format_instruction p fs number pc i) w.old w.new }
+    ensures { (p : Parts) (fs : Functions) (number : ℕ) → ListsAt lists.entry p fs → ChildIs fs number (opcode i.0) i.0 child → Writes (format_instruction p fs number pc i.0) w.old w.new }
 {
-    let op = Instruction(i).opcode();
     let line = line_at(lists, pc);
-    format_start(w, line, op, pc + 1, i);
-    format_comment(w, lists, child, pc, op, i);
+    format_start(w, line, pc + 1, i);
+    format_comment(w, lists, child, pc, i.opcode(), i);
     w.put_byte(b'\n');
 }

@@ -1,4 +1,4 @@
-// Constants and operands of instructions as text. Each call writes its text by a writer; what is past the end is not written.
+// Constants and operands of instructions as text. put_* and format_* write by a writer: what is past the end is not written. fit_* ask for room.
 #![tactic(auto)]
 
 pub mod constant;

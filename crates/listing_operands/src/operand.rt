@@ -1,4 +1,5 @@
-// The operands of an instruction, which goes as its word: the definitions speak of the word. Those that fit go over (out, at), as fit.rt says.
+// The operands of an instruction. Those that fit go over (out, at), as fit.rt says. Each asks for its longest text, which Fits states too, so that the
+// numbers stand in each: 11 is - and ten digits.
 ghost use Rattle.std.specs.Prelude.{◌+◌, ◌≤◌};
 ghost use Rattle.lent.specs.Writer.{Writes};
 ghost use Rattle.instructions.specs.Fields.{GETARG_Bx};
@@ -22,7 +23,7 @@ pub fn put_difference(w: &mut Writer, a: u64, b: u64)
     }
 }
 
-// a - b, which fits.
+// a - b, which fits: put_difference over u32, as the fields are, and without its tests of the room.
 fn fit_difference<const STORED: bool>(a: u32, b: u32, out: &mut [u8], at: usize) -> usize
     requires { at + 11 ≤ room STORED out.old }
     ensures { Fits STORED (difference a b) 11 at out.old result out.new }
@@ -58,12 +59,13 @@ fn fit_arg<const STORED: bool>(mode: OpArgMask, x: u32, out: &mut [u8], at: usiz
     fit_rk::<STORED>(x, out, a)
 }
 
-// Bx, a constant's index as -1 - index.
-fn fit_bx<const STORED: bool>(mode: OpArgMask, i: u32, out: &mut [u8], at: usize) -> usize
+// Bx, a constant's index as -1 - index. It is apart from fit_rk: one function of a flag, an index and a number would have to ask that where the flag is
+// set the index is below 2^32 - 1, which here follows from the size of Bx, and there from the mark that is cleared.
+fn fit_bx<const STORED: bool>(mode: OpArgMask, i: Instruction, out: &mut [u8], at: usize) -> usize
     requires { at + 11 ≤ room STORED out.old }
-    ensures { Fits STORED (format_bx mode (GETARG_Bx i)) 11 at out.old result out.new }
+    ensures { Fits STORED (format_bx mode (GETARG_Bx i.0)) 11 at out.old result out.new }
 {
-    let bx = Instruction(i).bx();
+    let bx = i.bx();
     if mode == OpArgMask::K {
         fit_negative::<STORED>(out, at, 1 + bx)
     } else {
@@ -73,48 +75,55 @@ fn fit_bx<const STORED: bool>(mode: OpArgMask, i: u32, out: &mut [u8], at: usize
 
 // A, B and C.
 fn fit_abc<const STORED: bool>(
-    i: u32,
+    i: Instruction,
     b_mode: OpArgMask,
     c_mode: OpArgMask,
     out: &mut [u8],
     at: usize,
 ) -> usize
     requires { at + 34 ≤ room STORED out.old }
-    ensures { Fits STORED (operands_abc b_mode c_mode i) 34 at out.old result out.new }
+    ensures { Fits STORED (operands_abc b_mode c_mode i.0) 34 at out.old result out.new }
 {
-    let a = fit_decimal::<STORED>(out, at, Instruction(i).a());
-    let b = fit_arg::<STORED>(b_mode, Instruction(i).b(), out, a);
-    fit_arg::<STORED>(c_mode, Instruction(i).c(), out, b)
+    let a = fit_decimal::<STORED>(out, at, i.a());
+    let b = fit_arg::<STORED>(b_mode, i.b(), out, a);
+    fit_arg::<STORED>(c_mode, i.c(), out, b)
 }
 
 // A and Bx.
-fn fit_abx<const STORED: bool>(i: u32, b_mode: OpArgMask, out: &mut [u8], at: usize) -> usize
+fn fit_abx<const STORED: bool>(
+    i: Instruction,
+    b_mode: OpArgMask,
+    out: &mut [u8],
+    at: usize,
+) -> usize
     requires { at + 22 ≤ room STORED out.old }
-    ensures { Fits STORED (operands_a_bx b_mode i) 22 at out.old result out.new }
+    ensures { Fits STORED (operands_a_bx b_mode i.0) 22 at out.old result out.new }
 {
-    let a = fit_decimal::<STORED>(out, at, Instruction(i).a());
+    let a = fit_decimal::<STORED>(out, at, i.a());
     let b = fit_byte::<STORED>(out, a, b' ');
     fit_bx::<STORED>(b_mode, i, out, b)
 }
 
-// A, but for JMP, and sBx.
-fn fit_asbx<const STORED: bool>(op: u8, i: u32, out: &mut [u8], at: usize) -> usize
+// A, but for JMP, and sBx. op stands beside i as in fit_operands.
+fn fit_asbx<const STORED: bool>(op: u8, i: Instruction, out: &mut [u8], at: usize) -> usize
     requires { at + 22 ≤ room STORED out.old }
-    ensures { Fits STORED (operands_as_bx op i) 22 at out.old result out.new }
+    ensures { Fits STORED (operands_as_bx op i.0) 22 at out.old result out.new }
 {
-    let bx = Instruction(i).bx();
+    let bx = i.bx();
     if op == instructions::OP_JMP {
         return fit_difference::<STORED>(bx, MAXARG_SBX, out, at);
     }
-    let a = fit_decimal::<STORED>(out, at, Instruction(i).a());
+    let a = fit_decimal::<STORED>(out, at, i.a());
     let b = fit_byte::<STORED>(out, a, b' ');
     fit_difference::<STORED>(bx, MAXARG_SBX, out, b)
 }
 
-// The operands of an instruction, which fit.
-pub fn fit_operands<const STORED: bool>(op: u8, i: u32, out: &mut [u8], at: usize) -> usize
+// The operands of an instruction, which fit. op stands beside i, as in the definitions and the Rust: the promise is of any opcode, and of i's alone it
+// would be less.
+#[tactic(auto, using(crate::proofs::Fits::fits_more), unfolding(crate::specs::Operands::format_operands))]
+pub fn fit_operands<const STORED: bool>(op: u8, i: Instruction, out: &mut [u8], at: usize) -> usize
     requires { at + 34 ≤ room STORED out.old }
-    ensures { Fits STORED (format_operands op i) 34 at out.old result out.new }
+    ensures { Fits STORED (format_operands op i.0) 34 at out.old result out.new }
 {
     let m = instructions::op_modes(op);
     match m.mode {

@@ -28,6 +28,10 @@ module _ {A B C D : Type 0} {bs : List ℕ} {R : Reader A} {P : A → B → Type
       by (got a rest) t = absurd t
       by (refused n) t = t
 
+  -- so does the answer that ? makes of its refusal
+  pub reads_refused_with : {e : Refusal} {r : Result D Refusal} → ReadsBy bs R P next at (Err e) → IsErrAnd r (λ x. x ≡ e) → ReadsBy bs (R >>= f) Q next' at r
+  reads_refused_with {r = r} h i = let p = err_from_is_err_and r i in rw (p.1, p.2) (reads_refused h)
+
 -- a size of four bytes is an integer
 pub size_of_4 : {B : Type 0} {bs : List ℕ} {size4 : Bool} {P : ℕ → B → Type 0} {next : B → ℕ} {at : ℕ} {r : Result B Refusal} → size4 ≡ true → ReadsBy bs load_int P next at r → ReadsBy bs (load_size size4) P next at r
 unfolding load_size
@@ -44,9 +48,9 @@ same_then h k = record { chunk = k.chunk ∙ h.chunk; size_4 = k.size_4 ∙ h.si
 module _ {A B C D : Type 0} {R : Reader A} {P : A → B → Type 0} {Q : C → D → Type 0} {σ m : Loader} (f : A → Reader C) where
   pub loads_then : {σ' : Loader} {b : B} {r : Result D Refusal} → LoadsBy R P σ m (Ok b) → ((a : A) → P a b → LoadsBy (f a) Q m σ' r) → LoadsBy (R >>= f) Q σ σ' r
   loads_then {σ'} {b} {r} h k =
-      record { same = by (R (drop σ.reader.pos σ.reader.chunk.now)) h.reads.ends; reads = reads_then f h.reads (λ a p. rw h.same.chunk at (k a p).reads) }
+      record { same = by (R (drop σ.reader.state.pos σ.reader.state.chunk.now)) h.reads.ends; reads = reads_then f h.reads (λ a p. rw h.same.chunk at (k a p).reads) }
     where
-      by : (x : Read A) → Ends x (λ a rest c. (rest ≡ drop m.reader.pos σ.reader.chunk.now) × P a c) (Ok b) → Same σ σ'
+      by : (x : Read A) → Ends x (λ a rest c. (rest ≡ drop m.reader.state.pos σ.reader.state.chunk.now) × P a c) (Ok b) → Same σ σ'
       by (got a rest) t = same_then h.same (k a t.1).same
       by (refused n) t = absurd t
 
@@ -58,7 +62,7 @@ pub loads_mapped : {A B C : Type 0} {R : Reader A} {P : A → B → Type 0} {Q :
     → ((a : A) (b : B) → P a b → Q (g a) b) → LoadsBy R P σ σ' r → LoadsBy (R >>= λ a. return (g a)) Q σ σ' r
 loads_mapped {A} {B} {P = P} {Q = Q} {σ = σ} {σ' = σ'} {r = r} g k h = record { same = h.same; reads = record { ends = by (_) r h.reads.ends } }
   where
-    by : (x : Read A) (r : Result B Refusal) → Ends x (λ a rest c. (rest ≡ drop σ'.reader.pos σ.reader.chunk.now) × P a c) r → Ends (and_then x (λ a. return (g a))) (λ c rest d. (rest ≡ drop σ'.reader.pos σ.reader.chunk.now) × Q c d) r
+    by : (x : Read A) (r : Result B Refusal) → Ends x (λ a rest c. (rest ≡ drop σ'.reader.state.pos σ.reader.state.chunk.now) × P a c) r → Ends (and_then x (λ a. return (g a))) (λ c rest d. (rest ≡ drop σ'.reader.state.pos σ.reader.state.chunk.now) × Q c d) r
     by (got a rest) (Ok b) t = (t.0, k a b t.1)
     by (got a rest) (Err e) t = absurd t
     by (refused n) (Ok b) t = absurd t
@@ -68,7 +72,7 @@ loads_mapped {A} {B} {P = P} {Q = Q} {σ = σ} {σ' = σ'} {r = r} g k h = recor
 pub loads_weaken : {A B : Type 0} {R : Reader A} {P Q : A → B → Type 0} {σ σ' : Loader} {r : Result B Refusal} → ((a : A) (b : B) → P a b → Q a b) → LoadsBy R P σ σ' r → LoadsBy R Q σ σ' r
 loads_weaken {A} {B} {P = P} {Q = Q} {σ = σ} {σ' = σ'} {r = r} k h = record { same = h.same; reads = record { ends = by (_) r h.reads.ends } }
   where
-    by : (x : Read A) (r : Result B Refusal) → Ends x (λ a rest c. (rest ≡ drop σ'.reader.pos σ.reader.chunk.now) × P a c) r → Ends x (λ a rest c. (rest ≡ drop σ'.reader.pos σ.reader.chunk.now) × Q a c) r
+    by : (x : Read A) (r : Result B Refusal) → Ends x (λ a rest c. (rest ≡ drop σ'.reader.state.pos σ.reader.state.chunk.now) × P a c) r → Ends x (λ a rest c. (rest ≡ drop σ'.reader.state.pos σ.reader.state.chunk.now) × Q a c) r
     by (got a rest) (Ok b) t = (t.0, k a b t.1)
     by (got a rest) (Err e) t = t
     by (refused n) (Ok b) t = t
@@ -79,7 +83,7 @@ pub loads_done : {A B : Type 0} {P : A → B → Type 0} {σ : Loader} (a : A) (
 loads_done a b p = record { same = same_self; reads = record { ends = (refl, p) } }
 
 -- the width of sizes is that of any state before
-pub at_width : {A B : Type 0} (R : Bool → Reader A) {P : A → B → Type 0} {σ m ρ : Loader} {r : Result B Refusal} → Same σ m → LoadsBy (R m.size_4) P m ρ r → LoadsBy (R σ.size_4) P m ρ r
+pub at_width : {A B : Type 0} (R : Bool → Reader A) {P : A → B → Type 0} {σ m ρ : Loader} {r : Result B Refusal} → Same σ m → LoadsBy (R m.reader.size_4) P m ρ r → LoadsBy (R σ.reader.size_4) P m ρ r
 at_width R {P} {m = m} {ρ = ρ} {r = r} s h = subst (λ (w : Bool). LoadsBy (R w) P m ρ r) s.size_4 h
 
 -- what is answered with the refusal of a step

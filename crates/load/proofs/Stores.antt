@@ -1,8 +1,9 @@
 -- Pieces stored one after the other.
-use Rattle.lent.proofs.Prelude.{ℕ, ◌+◌, min, ◌≡◌, refl, ◌∙◌, [], ◌++◌, append_assoc, arith, length, length-append}
+use Rattle.lent.proofs.Prelude.{◌+◌, min, ◌≡◌, refl, ◌∙◌, [], ◌++◌, arith, length, length-append}
 use Rattle.lent.specs.Memory.{far}
 use Rattle.lent.proofs.Writes.{put_none, put_then, put_length}
 use Rattle.format.specs.Store.{Piece, plain, ◌⊕◌}
+use Rattle.format.proofs.Pieces.{Same, same_assoc}
 use Rattle.load.specs.declared.Loader.{Loader}
 use Rattle.load.specs.Loads.{Space, Wrote, Does, Stores}
 use Rattle.load.proofs.Steps.{same_then}
@@ -32,17 +33,14 @@ join {p} {q} {σ} {m} {σ'} d e =
 pub stores_then : {p q : Piece} {σ m σ' : Loader} → Stores p σ m → Stores q m σ' → Stores (p ⊕ q) σ σ'
 stores_then h k = record { same = same_then h.same k.same; pos = k.pos ∙ h.pos; does = join h.does k.does }
 
--- a piece with the same words and the same text
-same_piece : {p q : Piece} {σ σ' : Space} → ((τ : ℕ) → p.words τ ≡ q.words τ) → p.text ≡ q.text → Does p σ σ' → Does q σ σ'
-same_piece {p} {q} {σ} {σ'} e f d =
+-- a piece that reads the same
+same_piece : {p q : Piece} {σ σ' : Space} → Same p q → Does p σ σ' → Does q σ σ'
+same_piece {p} {q} {σ} {σ'} e d =
     record {
       does = λ τ g h.
           let a : Wrote τ p σ σ' = d.does τ g h in
-          record { stored = a.stored; many = rw (← e τ) a.many; exact = λ k. rw (← e τ) (a.exact (rw f k)); words = a.words; text = rw (← f) a.text };
+          record { stored = a.stored; many = rw (← e.words τ) a.many; exact = λ k. rw (← e.words τ) (a.exact (rw e.text k)); words = a.words; text = rw (← e.text) a.text };
     }
 
 pub regroup : {σ σ' : Space} (p q r : Piece) → Does ((p ⊕ q) ⊕ r) σ σ' → Does (p ⊕ (q ⊕ r)) σ σ'
-regroup p q r d =
-    same_piece
-    (λ τ. let e : τ + length (p.text ++ q.text) ≡ τ + length p.text + length q.text = simp length-append (omega arith) in rw e (append_assoc (p.words τ) _ _))
-    (append_assoc p.text q.text r.text) d
+regroup p q r d = same_piece (same_assoc p q r) d

@@ -79,10 +79,16 @@ pub record Does (p : Piece) (σ σ' : Space) : Type 0 where
 
 -- the chunk, the width of sizes and the lent memory are the same
 pub record Same (σ σ' : Loader) : Type 0 where
-  pub chunk : σ'.reader.chunk ≡ σ.reader.chunk
-  pub size_4 : σ'.size_4 ≡ σ.size_4
+  pub chunk : σ'.reader.state.chunk ≡ σ.reader.state.chunk
+  pub size_4 : σ'.reader.size_4 ≡ σ.reader.size_4
   pub words : σ'.words.ghost_name ≡ σ.words.ghost_name
   pub text : σ'.text.ghost_name ≡ σ.text.ghost_name
+
+-- the reader moves on to a place, and nothing is stored
+pub record Moves (next : ℕ) (σ σ' : Loader) : Type 0 where
+  pub same : Same σ σ'
+  pub pos : σ'.reader.state.pos ≡ next
+  pub space : space σ' ≡ space σ
 
 -- bytes go to the text, and nothing else changes
 pub record PutsText (bytes : List ℕ) (σ σ' : Loader) : Type 0 where
@@ -95,13 +101,13 @@ pub record PutsText (bytes : List ℕ) (σ σ' : Loader) : Type 0 where
 -- a piece is stored, and nothing read
 pub record Stores (p : Piece) (σ σ' : Loader) : Type 0 where
   pub same : Same σ σ'
-  pub pos : σ'.reader.pos ≡ σ.reader.pos
+  pub pos : σ'.reader.state.pos ≡ σ.reader.state.pos
   pub does : Does p (space σ) (space σ')
 
 -- from σ to σ' by the reader R, with P of what it gives and r's value, or with r's refusal
 pub record LoadsBy {A B : Type 0} (R : Reader A) (P : A → B → Type 0) (σ σ' : Loader) (r : Result B Refusal) : Type 0 where
   pub same : Same σ σ'
-  pub reads : ReadsBy σ.reader.chunk.now R P (λ b. σ'.reader.pos) σ.reader.pos r
+  pub reads : ReadsBy σ.reader.state.chunk.now R P (λ b. σ'.reader.state.pos) σ.reader.state.pos r
 
 -- what it gives being stored as a piece
 abbrev pub Loads : {A : Type 0} → Reader A → (A → Piece) → Loader → Loader → Result (Unit {0}) Refusal → Type 0

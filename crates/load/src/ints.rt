@@ -1,50 +1,52 @@
 // Integers in a row, after their count: one test, and one block.
-ghost use Rattle.std.specs.Prelude.{◌≡◌, ◌+◌, ◌-◌, ◌*◌, ◌≤◌, length};
-ghost use Rattle.std.proofs.lemmas.List.Edits.{sets};
+ghost use Rattle.std.specs.Prelude.{◌≡◌, ◌*◌, ◌/◌, length};
 ghost use Rattle.lent.specs.Memory.{Puts};
 ghost use Rattle.format.specs.Read.{load_int, load_list};
-ghost use Rattle.format.specs.Store.{ints};
-ghost use Rattle.load.specs.Loads.{fours, Loads};
+ghost use Rattle.format.specs.Store.{ints, plain};
+ghost use Rattle.load.specs.Loads.{fours, Loads, Stores};
 
 use crate::Loader;
 use format::Refusal;
-use load_state::cursor::four_at;
 
-// n integers, which fit, go from the chunk to the words. By index: of the items of an iter_mut nothing is known behind the loop.
-#[tactic(auto, using(crate::proofs::Fours::fill_more), unfolding(crate::specs::Loads::fours))]
-fn fill(chunk: &[u8], from: usize, n: usize, words: &mut [u32], at: usize)
-    requires { (4 * n ≤ length chunk.now - from) × (n ≤ length words.old - at) }
-    ensures { words.new ≡ sets words.old at (fours chunk.now from n) }
+// As many integers as there are words, four bytes each. The words by index: of the items of an iter_mut nothing is known behind the loop.
+#[tactic(auto, using(crate::proofs::Fours::filled), unfolding(crate::specs::Loads::fours))]
+fn fill(bytes: &[u8], words: &mut [u32])
+    requires { length bytes.now ≡ 4 * length words.old }
+    ensures { words.new ≡ fours bytes.now 0 (length words.old) }
 {
-    for i in 0..n {
-        words[at + i] = four_at(chunk, from + 4 * i);
+    for (i, four) in bytes.as_chunks::<4>().0.iter().enumerate() {
+        words[i] = u32::from_le_bytes(*four);
     }
 }
 
-// n integers go from the chunk to the words, as many as there is room for. Answers the next place.
-#[tactic(auto, using(crate::proofs::Fours::ints_stored))]
-fn put_ints(chunk: &[u8], from: usize, n: usize, words: &mut [u32], at: usize) -> usize
-    requires { 4 * n ≤ length chunk.now - from }
-    ensures { Puts (fours chunk.now from n) at words.old result words.new }
+// Integers, four bytes each, go to the words, as many as there is room for. Answers the next place.
+#[tactic(auto, using(crate::proofs::Fours::ints_stored, crate::proofs::Fours::ints_lost))]
+fn put_fours(bytes: &[u8], words: &mut [u32], at: usize) -> usize
+    ensures { Puts (fours bytes.now 0 (length bytes.now / 4)) at words.old result words.new }
 {
-    let room = words.len().saturating_sub(at);
-    fill(chunk, from, n.min(room), words, at);
+    let n = bytes.len() / 4;
+    if at < words.len() {
+        let stored = n.min(words.len() - at);
+        fill(&bytes[..4 * stored], &mut words[at..at + stored]);
+    }
     at.saturating_add(n)
 }
 
 impl<'a> Loader<'a> {
+    // Integers are stored, four bytes each.
+    fn put_ints(&mut self, bytes: &[u8])
+        ensures { Stores (plain (fours bytes.now 0 (length bytes.now / 4))) self.old self.new }
+    {
+        self.words_at = put_fours(bytes, self.words, self.words_at);
+    }
+
     // A list of integers: one test tells whether all are there.
     pub fn load_ints(&mut self) -> Result<(), Refusal>
         ensures { Loads (load_list load_int) ints self.old self.new result }
     {
         let n = self.copy_count()? as usize;
-        let chunk = self.reader.chunk;
-        let from = self.reader.pos;
-        if chunk.len().saturating_sub(from) < 4 * n {
-            return Err(Refusal::Truncated);
-        }
-        self.words_at = put_ints(chunk, from, n, self.words, self.words_at);
-        self.reader.pos = from + 4 * n;
+        let bytes = self.advance(self.reader.state.load_block(4 * n)?);
+        self.put_ints(bytes);
         Ok(())
     }
 }

@@ -9,20 +9,18 @@ ghost use Rattle.utf8.specs.Utf8.{repair};
 ghost use Rattle.format.specs.Read.{load_byte, load_int, load_count, load_string, load_text};
 ghost use Rattle.format.specs.Store.{plain, string, ◌⊕◌};
 ghost use Rattle.format.specs.Store.{word as word_piece};
-ghost use Rattle.load.specs.Loads.{space, Does, PutsText, Stores, Loads, LoadsBy, repaired_name, repaired_source_piece};
+ghost use Rattle.load.specs.Loads.{space, Does, PutsText, Moves, Stores, Loads, LoadsBy, repaired_name, repaired_source_piece};
 
-use cursor::{load_count, load_string, load_text};
+use cursor::ChunkReader;
 use format::{Refusal, low};
 use lent::Writer;
-use load_state::LoadState;
+use load_state::cursor::Got;
 
-// The state of the reader: the chunk with its place, the width of sizes, and lent memory with the places of what is stored next.
+// The state of the reader: the chunk with its place and the width of sizes, and lent memory with the places of what is stored next.
 // Places of its own, no Writer: at the end of a loan inside it only the length of the words would be known.
-// The width is a bool, as the C interface has it.
 #[derive(Drop)]
 pub struct Loader<'a> {
-    pub reader: LoadState<'a>,
-    pub size_4: bool,
+    pub reader: ChunkReader<'a>,
     pub words: &'a mut [u32],
     pub words_at: usize,
     pub text: &'a mut [u8],
@@ -50,11 +48,11 @@ impl<'a> Loader<'a> {
         self.words_at = lent::put(self.words, self.words_at, v);
     }
 
-    // Three words are stored.
-    pub fn put3(&mut self, a: u32, b: u32, c: u32)
-        ensures { Stores (plain (a ∷ b ∷ c ∷ [])) self.old self.new }
+    // N words are stored: where all fit, the room is tested once.
+    pub fn put_words<const N: usize>(&mut self, words: [u32; N])
+        ensures { Stores (plain words.entry) self.old self.new }
     {
-        self.words_at = lent::put_array(self.words, self.words_at, [a, b, c]);
+        self.words_at = lent::put_array(self.words, self.words_at, words);
     }
 
     // A name is stored: its bytes, repaired, as text, its place and its length as words.
@@ -64,7 +62,7 @@ impl<'a> Loader<'a> {
         let start = self.text_at;
         self.put_repaired(bytes);
         let len = self.text_at.saturating_sub(start);
-        self.words_at = lent::put_array(self.words, self.words_at, [low(start), low(len)]);
+        self.put_words([low(start), low(len)]);
     }
 
     // A source of a function's own: 1 before what stands of a name.
@@ -75,35 +73,41 @@ impl<'a> Loader<'a> {
         self.put_name(bytes);
     }
 
-    // A string constant: 4, and its bytes as they are. Three words by one test of the room.
+    // A string constant: 4, and its bytes as they are. Constants are many, so its three words are put at once, by one test of the room; a source, one for
+    // each function, takes two.
     pub fn put_str(&mut self, bytes: &[u8])
         ensures { Stores (word_piece 4 ⊕ string bytes.now) self.old self.new }
     {
         let start = self.text_at;
         self.text_at = lent::put_all(self.text, start, bytes);
         let len = self.text_at.saturating_sub(start);
-        self.words_at = lent::put_array(self.words, self.words_at, [4, low(start), low(len)]);
+        self.put_words([4, low(start), low(len)]);
+    }
+
+    // Moves on behind what was read, and answers it.
+    pub fn advance<T: Copy>(&mut self, got: Got<T>) -> T
+        ensures { (result ≡ got.value) × Moves got.next self.old self.new }
+    {
+        self.reader.state.pos = got.next;
+        got.value
     }
 
     // A name goes from the chunk to lent memory.
     pub fn load_name(&mut self) -> Result<(), Refusal>
-        ensures { Loads (load_text self.old.size_4) repaired_name self.old self.new result }
+        ensures { Loads (load_text self.old.reader.size_4) repaired_name self.old self.new result }
     {
-        let z = load_text(self.reader, self.size_4)?;
-        self.reader.pos = z.next;
-        self.put_name(z.value.of(self.reader.chunk));
+        let name = self.advance(self.reader.load_text()?);
+        self.put_name(name.of(self.reader.state.chunk));
         Ok(())
     }
 
     // A source: the function's own, or none, which is three zeros.
     pub fn load_source(&mut self) -> Result<(), Refusal>
-        ensures { Loads (load_string self.old.size_4) repaired_source_piece self.old self.new result }
+        ensures { Loads (load_string self.old.reader.size_4) repaired_source_piece self.old self.new result }
     {
-        let z = load_string(self.reader, self.size_4)?;
-        self.reader.pos = z.next;
-        match z.value {
-            None => self.put3(0, 0, 0),
-            Some(s) => self.put_source(s.of(self.reader.chunk)),
+        match self.advance(self.reader.load_string()?) {
+            None => self.put_words([0, 0, 0]),
+            Some(s) => self.put_source(s.of(self.reader.state.chunk)),
         }
         Ok(())
     }
@@ -112,18 +116,15 @@ impl<'a> Loader<'a> {
     pub fn load_byte(&mut self) -> Result<u8, Refusal>
         ensures { (LoadsBy load_byte (λ a b. (a ≡ b) × (space self.new ≡ space self.old)) self.old self.new result) × (space self.new ≡ space self.old) }
     {
-        let b = self.reader.load_byte()?;
-        self.reader.pos = b.next;
-        Ok(b.value)
+        Ok(self.advance(self.reader.state.load_byte()?))
     }
 
     // An integer goes from the chunk to the words.
     pub fn copy_int(&mut self) -> Result<(), Refusal>
         ensures { Loads load_int word_piece self.old self.new result }
     {
-        let v = self.reader.load_int()?;
-        self.reader.pos = v.next;
-        self.put(v.value);
+        let v = self.advance(self.reader.state.load_int()?);
+        self.put(v);
         Ok(())
     }
 
@@ -131,9 +132,8 @@ impl<'a> Loader<'a> {
     pub fn copy_count(&mut self) -> Result<u32, Refusal>
         ensures { LoadsBy load_count (λ a n. (a ≡ n) × Does (word_piece a) (space self.old) (space self.new)) self.old self.new result }
     {
-        let n = load_count(self.reader)?;
-        self.reader.pos = n.next;
-        self.put(n.value);
-        Ok(n.value)
+        let n = self.advance(self.reader.load_count()?);
+        self.put(n);
+        Ok(n)
     }
 }

@@ -36,7 +36,7 @@ pub record End : Type 0 where
 
 -- n items are read from σ on
 abbrev pub LoadsAll : {L : Type 0} → (Bool → ℕ → Reader L) → (L → ℕ) → (L → Piece) → ℕ → Loader → End → Type 0
-LoadsAll Many size all n σ e = LoadsBy (Many σ.size_4 n) (λ l (b : Unit {0}). (size l ≡ n) × Does (all l) (space σ) (space e.at)) σ e.at e.answer
+LoadsAll Many size all n σ e = LoadsBy (Many σ.reader.size_4 n) (λ l (b : Unit {0}). (size l ≡ n) × Does (all l) (space σ) (space e.at)) σ e.at e.answer
 
 -- the loop that reads n items, begun at σ₀, stands at σ before item i
 pub record Loading {L : Type 0} (Many : Bool → ℕ → Reader L) (size : L → ℕ) (all : L → Piece) (n : ℕ) (σ₀ : Loader) (i : ℕ) (σ : Loader) : Type 0 where
@@ -49,29 +49,29 @@ Counts n σ m = LoadsBy load_count (λ a (b : ℕ). (a ≡ b) × Does (word a) (
 
 -- a count, and as many items
 counted : {L : Type 0} {size : L → ℕ} {all : L → Piece} {n : ℕ} {σ m : Loader} {e : End} (Many : Bool → ℕ → Reader L)
-    → Counts n σ m → LoadsAll Many size all n m e → Loads (load_count >>= Many σ.size_4) (λ l. word (size l) ⊕ all l) σ e.at e.answer
+    → Counts n σ m → LoadsAll Many size all n m e → Loads (load_count >>= Many σ.reader.size_4) (λ l. word (size l) ⊕ all l) σ e.at e.answer
 counted Many c t = loads_then _ c (λ a d. at_width (λ w. Many w a) c.same (rw d.0 (loads_weaken (λ l b f. rw f.0 (join (rw d.0 at d.1) f.1)) t)))
 
 module _ {A L : Type 0} {R : Bool → Reader A} {Many : Bool → ℕ → Reader L} {size : L → ℕ} {piece : A → Piece} {all : L → Piece}
     (laws : Listing R Many size piece all) {n : ℕ} where
   pub loading_start : {σ : Loader} → Loading Many size all n σ 0 σ
-  loading_start = record { loop = loop_start; none = λ ρ. rw (laws.none ρ.size_4).0 (loads_done laws.nil tt ((laws.none ρ.size_4).1, rw (laws.none ρ.size_4).2 nothing)) }
+  loading_start = record { loop = loop_start; none = λ ρ. rw (laws.none ρ.reader.size_4).0 (loads_done laws.nil tt ((laws.none ρ.reader.size_4).1, rw (laws.none ρ.reader.size_4).2 nothing)) }
 
-  pub loading_turn : {i : ℕ} {σ₀ σ m : Loader} → Loading Many size all n σ₀ i σ → i < n → Loads (R σ.size_4) piece σ m (Ok tt) → Loading Many size all n σ₀ (i + 1) m
+  pub loading_turn : {i : ℕ} {σ₀ σ m : Loader} → Loading Many size all n σ₀ i σ → i < n → Loads (R σ.reader.size_4) piece σ m (Ok tt) → Loading Many size all n σ₀ (i + 1) m
   loading_turn {σ = σ} {m = m} h k d = record { loop = loop_turn k h.loop more; none = h.none }
     where
       more : (k : ℕ) (e : End) → LoadsAll Many size all k m e → LoadsAll Many size all (suc k) σ e
       more k e t =
-          rw (laws.more σ.size_4 k)
+          rw (laws.more σ.reader.size_4 k)
           (loads_then _ d (λ a f. loads_mapped {P = λ l (b : Unit {0}). (size l ≡ k) × Does (all l) (space m) (space e.at)} (λ l. laws.cons a l) (λ l b g. ((laws.cell a l).0 ∙ ap suc g.0, rw (laws.cell a l).1 (join f g.1))) (at_width (λ w. Many w k) d.same t)))
 
   -- a refusal ends it at once
-  pub loading_refused : {i : ℕ} {e : Refusal} {σ σ₀ τ m : Loader} → Counts n σ σ₀ → Loading Many size all n σ₀ i τ → i < n → Loads (R τ.size_4) piece τ m (Err e)
-      → Loads (load_count >>= Many σ.size_4) (λ l. word (size l) ⊕ all l) σ m (Err e)
-  loading_refused {e = e} {τ = τ} {m = m} c h k d = counted {e = record { at = m; answer = Err e }} Many c (loop_stop k h.loop (λ j. rw (laws.more τ.size_4 j) (loads_refused _ d)))
+  pub loading_refused : {i : ℕ} {e : Refusal} {σ σ₀ τ m : Loader} → Counts n σ σ₀ → Loading Many size all n σ₀ i τ → i < n → Loads (R τ.reader.size_4) piece τ m (Err e)
+      → Loads (load_count >>= Many σ.reader.size_4) (λ l. word (size l) ⊕ all l) σ m (Err e)
+  loading_refused {e = e} {τ = τ} {m = m} c h k d = counted {e = record { at = m; answer = Err e }} Many c (loop_stop k h.loop (λ j. rw (laws.more τ.reader.size_4 j) (loads_refused _ d)))
 
 pub loading_end : {L : Type 0} {Many : Bool → ℕ → Reader L} {size : L → ℕ} {all : L → Piece} {n i : ℕ} {σ σ₀ τ : Loader} → Counts n σ σ₀ → Loading Many size all n σ₀ i τ → n ≤ i
-    → Loads (load_count >>= Many σ.size_4) (λ l. word (size l) ⊕ all l) σ τ (Ok tt)
+    → Loads (load_count >>= Many σ.reader.size_4) (λ l. word (size l) ⊕ all l) σ τ (Ok tt)
 loading_end {Many = Many} {τ = τ} c h k = counted {e = record { at = τ; answer = Ok tt }} Many c (loop_end k h.loop (h.none τ))
 
 -- items that are changed by g before they are stored

@@ -23,33 +23,29 @@ names_repaired : (l : List (List ℕ)) → list repaired_name l ≡ repaired_nam
 names_repaired l = list_map repair string l
 
 module _ {σ a b ρ : Loader} {r : Result (Unit {0}) Refusal} where
-  pub local_loaded : Loads (load_text σ.size_4) repaired_name σ a (Ok tt) → Loads load_int word a b (Ok tt) → Loads load_int word b ρ r → Loads (load_local σ.size_4) repaired_local_piece σ ρ r
+  pub local_loaded : Loads (load_text σ.reader.size_4) repaired_name σ a (Ok tt) → Loads load_int word a b (Ok tt) → Loads load_int word b ρ r → Loads (load_local σ.reader.size_4) repaired_local_piece σ ρ r
   local_loaded h k l = loads_then _ h (λ n d. loads_then _ k (λ s e. loads_mapped _ (λ t u f. join d (join e f)) l))
 
-  pub debug_loaded : Loads (load_list load_int) ints σ a (Ok tt) → Loads (load_list (load_local a.size_4)) (list repaired_local_piece) a b (Ok tt) → Loads (load_list (load_text b.size_4)) (list repaired_name) b ρ r
-      → Loads (load_debug σ.size_4) repaired_debug_piece σ ρ r
+  pub debug_loaded : Loads (load_list load_int) ints σ a (Ok tt) → Loads (load_list (load_local a.reader.size_4)) (list repaired_local_piece) a b (Ok tt) → Loads (load_list (load_text b.reader.size_4)) (list repaired_name) b ρ r
+      → Loads (load_debug σ.reader.size_4) repaired_debug_piece σ ρ r
   unfolding load_debug
   debug_loaded h k l =
       loads_then _ h (λ li d. loads_then _ (at_width (λ w. load_list (load_local w)) h.same k) (λ lo e. loads_mapped _ (λ up u f. join d (join (rw (locals_repaired lo) at e) (rw (names_repaired up) at f))) (at_width (λ w. load_list (load_text w)) (same_then h.same k.same) l)))
 
 -- the constants, then the functions
-pub constants_loaded : {σ a ρ : Loader} {r : Result (Unit {0}) Refusal} (allowance : ℕ) → Loads (load_list (load_constant σ.size_4)) (list constant_piece) σ a (Ok tt)
-    → Loads (load_count >>= many_functions (load_function a.size_4 allowance)) (λ fs. children_piece (repaired_all fs)) a ρ r → Loads (load_constants σ.size_4 (load_function σ.size_4 allowance)) repaired_constants σ ρ r
+pub constants_loaded : {σ a ρ : Loader} {r : Result (Unit {0}) Refusal} (allowance : ℕ) → Loads (load_list (load_constant σ.reader.size_4)) (list constant_piece) σ a (Ok tt)
+    → Loads (load_count >>= many_functions (load_function a.reader.size_4 allowance)) (λ fs. children_piece (repaired_all fs)) a ρ r → Loads (load_constants σ.reader.size_4 (load_function σ.reader.size_4 allowance)) repaired_constants σ ρ r
 unfolding load_constants
 constants_loaded allowance h k =
     loads_then _ h (λ ks d. loads_mapped _ (λ fs u e. join d e) (at_width (λ w. load_count >>= many_functions (load_function w allowance)) h.same k))
 
-pub pool_refused : {σ ρ : Loader} {x : Refusal} (allowance : ℕ) → Loads (load_list (load_constant σ.size_4)) (list constant_piece) σ ρ (Err x) → Loads (load_constants σ.size_4 (load_function σ.size_4 allowance)) repaired_constants σ ρ (Err x)
-unfolding load_constants
-pool_refused allowance h = loads_refused _ h
-
 -- four bytes, read one by one
-limits_then : {C D : Type 0} {Q : C → D → Type 0} {σ σ' : Loader} {r : Result D Refusal} (f : ℕ → ℕ → ℕ → ℕ → Reader C) → LoadsBy (load_limits >>= λ l. f l.nu l.np l.va l.ms) Q σ σ' r
+pub limits_then : {C D : Type 0} {Q : C → D → Type 0} {σ σ' : Loader} {r : Result D Refusal} (f : ℕ → ℕ → ℕ → ℕ → Reader C) → LoadsBy (load_limits >>= λ l. f l.nu l.np l.va l.ms) Q σ σ' r
     → LoadsBy (load_byte >>= λ a. load_byte >>= λ b. load_byte >>= λ c. load_byte >>= λ d. f a b c d) Q σ σ' r
-limits_then {C} {D} {Q} {σ} {σ'} {r} f h = record { same = h.same; reads = record { ends = by (drop σ.reader.pos σ.reader.chunk.now) h.reads.ends } }
+limits_then {C} {D} {Q} {σ} {σ'} {r} f h = record { same = h.same; reads = record { ends = by (drop σ.reader.state.pos σ.reader.state.chunk.now) h.reads.ends } }
   where
-    by : (bs : List ℕ) → Ends ((load_limits >>= λ l. f l.nu l.np l.va l.ms) bs) (λ c rest (d : D). (rest ≡ drop σ'.reader.pos σ.reader.chunk.now) × Q c d) r
-        → Ends ((load_byte >>= λ a. load_byte >>= λ b. load_byte >>= λ c. load_byte >>= λ d. f a b c d) bs) (λ c rest (d : D). (rest ≡ drop σ'.reader.pos σ.reader.chunk.now) × Q c d) r
+    by : (bs : List ℕ) → Ends ((load_limits >>= λ l. f l.nu l.np l.va l.ms) bs) (λ c rest (d : D). (rest ≡ drop σ'.reader.state.pos σ.reader.state.chunk.now) × Q c d) r
+        → Ends ((load_byte >>= λ a. load_byte >>= λ b. load_byte >>= λ c. load_byte >>= λ d. f a b c d) bs) (λ c rest (d : D). (rest ≡ drop σ'.reader.state.pos σ.reader.state.chunk.now) × Q c d) r
     by [] t = t
     by (a ∷ []) t = t
     by (a ∷ b ∷ []) t = t
@@ -57,47 +53,22 @@ limits_then {C} {D} {Q} {σ} {σ'} {r} f h = record { same = h.same; reads = rec
     by (a ∷ b ∷ c ∷ d ∷ rest) t = t
 
 -- 7
-pub function_too_deep : {σ : Loader} {k : ℕ} → k ≡ 0 → Loads (load_function σ.size_4 k) repaired_function σ σ (Err TooDeep)
+pub function_too_deep : {σ : Loader} {k : ℕ} → k ≡ 0 → Loads (load_function σ.reader.size_4 k) repaired_function σ σ (Err TooDeep)
 unfolding load_function
 function_too_deep q = rw q (record { same = same_self; reads = record { ends = refl } })
 
--- the parts, one after the other, and what ends it at each
-module _ {σ ρ : Loader} {x : Refusal} {k n : ℕ} (q : k ≡ suc n) where
-  pub source_refused : Loads (load_string σ.size_4) repaired_source_piece σ ρ (Err x) → Loads (load_function σ.size_4 k) repaired_function σ ρ (Err x)
-  unfolding load_function
-  source_refused h = rw q (loads_refused _ h)
+-- the code's refusal ends it, behind the parts before
+pub code_refused : {σ a b c d ρ : Loader} {x : Refusal} {k n : ℕ} → k ≡ suc n → Loads (load_string σ.reader.size_4) repaired_source_piece σ a (Ok tt)
+    → Loads load_int word a b (Ok tt) → Loads load_int word b c (Ok tt) → Loads load_limits limits_piece c d (Ok tt) → Loads load_code ints d ρ (Err x)
+    → Loads (load_function σ.reader.size_4 k) repaired_function σ ρ (Err x)
+unfolding load_function
+code_refused q h₁ h₂ h₃ h₄ h = rw q (loads_then _ h₁ (λ i e. loads_then _ h₂ (λ j f. loads_then _ h₃ (λ l g. limits_then _ (loads_then _ h₄ (λ m u. loads_refused _ h))))))
 
-  module _ {a : Loader} (h₁ : Loads (load_string σ.size_4) repaired_source_piece σ a (Ok tt)) where
-    pub line_refused : Loads load_int word a ρ (Err x) → Loads (load_function σ.size_4 k) repaired_function σ ρ (Err x)
-    unfolding load_function
-    line_refused h = rw q (loads_then _ h₁ (λ i d. loads_refused _ h))
-
-    module _ {b : Loader} (h₂ : Loads load_int word a b (Ok tt)) where
-      pub last_line_refused : Loads load_int word b ρ (Err x) → Loads (load_function σ.size_4 k) repaired_function σ ρ (Err x)
-      unfolding load_function
-      last_line_refused h = rw q (loads_then _ h₁ (λ i d. loads_then _ h₂ (λ j e. loads_refused _ h)))
-
-      module _ {c : Loader} (h₃ : Loads load_int word b c (Ok tt)) where
-        pub limits_refused : Loads load_limits limits_piece c ρ (Err x) → Loads (load_function σ.size_4 k) repaired_function σ ρ (Err x)
-        unfolding load_function
-        limits_refused h = rw q (loads_then _ h₁ (λ i d. loads_then _ h₂ (λ j e. loads_then _ h₃ (λ l f. limits_then _ (loads_refused _ h)))))
-
-        module _ {d : Loader} (h₄ : Loads load_limits limits_piece c d (Ok tt)) where
-          pub code_refused : Loads load_code ints d ρ (Err x) → Loads (load_function σ.size_4 k) repaired_function σ ρ (Err x)
-          unfolding load_function
-          code_refused h = rw q (loads_then _ h₁ (λ i e. loads_then _ h₂ (λ j f. loads_then _ h₃ (λ l g. limits_then _ (loads_then _ h₄ (λ m u. loads_refused _ h))))))
-
-          module _ {e : Loader} (h₅ : Loads load_code ints d e (Ok tt)) where
-            pub constants_refused : Loads (load_constants e.size_4 (load_function e.size_4 n)) repaired_constants e ρ (Err x) → Loads (load_function σ.size_4 k) repaired_function σ ρ (Err x)
-            unfolding load_function
-            constants_refused h =
-                let s = same_then h₁.same (same_then h₂.same (same_then h₃.same (same_then h₄.same h₅.same))) in
-                rw q (loads_then _ h₁ (λ i f. loads_then _ h₂ (λ j g. loads_then _ h₃ (λ l u. limits_then _ (loads_then _ h₄ (λ m v. loads_then _ h₅ (λ o w. loads_refused _ (at_width (λ w. load_constants w (load_function w n)) s h))))))))
-
-pub function_loaded : {σ a b c d e f ρ : Loader} {r : Result (Unit {0}) Refusal} {k n : ℕ} → k ≡ suc n → Loads (load_string σ.size_4) repaired_source_piece σ a (Ok tt)
+-- the parts, one after the other
+pub function_loaded : {σ a b c d e f ρ : Loader} {r : Result (Unit {0}) Refusal} {k n : ℕ} → k ≡ suc n → Loads (load_string σ.reader.size_4) repaired_source_piece σ a (Ok tt)
     → Loads load_int word a b (Ok tt) → Loads load_int word b c (Ok tt) → Loads load_limits limits_piece c d (Ok tt) → Loads load_code ints d e (Ok tt)
-    → Loads (load_constants e.size_4 (load_function e.size_4 n)) repaired_constants e f (Ok tt) → Loads (load_debug f.size_4) repaired_debug_piece f ρ r
-    → Loads (load_function σ.size_4 k) repaired_function σ ρ r
+    → Loads (load_constants e.reader.size_4 (load_function e.reader.size_4 n)) repaired_constants e f (Ok tt) → Loads (load_debug f.reader.size_4) repaired_debug_piece f ρ r
+    → Loads (load_function σ.reader.size_4 k) repaired_function σ ρ r
 unfolding load_function repaired function_piece
 function_loaded {n = n} q h₁ h₂ h₃ h₄ h₅ h₆ h₇ =
     let s = same_then h₁.same (same_then h₂.same (same_then h₃.same (same_then h₄.same h₅.same))) in

@@ -8,10 +8,11 @@ ghost use Rattle.format.specs.Store.{ints};
 ghost use Rattle.load.specs.Loads.{Loads};
 ghost use Rattle.load_function.specs.Repaired.{load_limits, limits_piece, repaired_constants, repaired_debug_piece, repaired_function};
 
-use format::Refusal;
-use list::{Locals, Names, Pool, load_list};
+use format::{Constants, Locals, Names, Refusal};
+use list::load_list;
 use load::Loader;
 
+// By the name that it has in lundump.c, LoadCode.
 pub fn load_code(s: &mut Loader) -> Result<(), Refusal>
     ensures { Loads load_code ints s.old s.new result }
 {
@@ -21,7 +22,7 @@ pub fn load_code(s: &mut Loader) -> Result<(), Refusal>
 // The lines, the locals and the upvalue names.
 #[tactic(auto, unfolding(format::specs::Read::load_debug))]
 pub fn load_debug(s: &mut Loader) -> Result<(), Refusal>
-    ensures { Loads (load_debug s.old.size_4) repaired_debug_piece s.old s.new result }
+    ensures { Loads (load_debug s.old.reader.size_4) repaired_debug_piece s.old s.new result }
 {
     s.load_ints()?;
     load_list::<Locals>(s)?;
@@ -41,9 +42,10 @@ fn load_limits(s: &mut Loader) -> Result<(), Refusal>
 }
 
 // A function, with so many functions nested at most.
+#[tactic(auto, using(load::proofs::Steps::refused_with, load::proofs::Steps::loads_refused, load::proofs::Steps::loads_then, load::proofs::Steps::at_width, crate::proofs::Trees::limits_then, crate::proofs::Trees::function_too_deep), unfolding(format::specs::Read::load_function))]
 #[cycle(load_constants_load_function)]
 pub fn load_function(s: &mut Loader, allowance: u32) -> Result<(), Refusal>
-    ensures { Loads (load_function s.old.size_4 allowance) repaired_function s.old s.new result }
+    ensures { Loads (load_function s.old.reader.size_4 allowance) repaired_function s.old s.new result }
 {
     if allowance == 0 {
         return Err(Refusal::TooDeep);
@@ -57,12 +59,13 @@ pub fn load_function(s: &mut Loader, allowance: u32) -> Result<(), Refusal>
     load_debug(s)
 }
 
-// The constants of a function, then the functions inside it.
+// The constants of a function, then the functions inside it: a loop and no Item, as the check gives no proof of one whose load leads back to it.
+#[tactic(auto, using(load::proofs::Steps::refused_with, load::proofs::Steps::loads_refused, crate::proofs::Trees::constants_loaded), unfolding(format::specs::Read::load_constants))]
 #[cycle(load_constants_load_function)]
 pub fn load_constants(s: &mut Loader, allowance: u32) -> Result<(), Refusal>
-    ensures { Loads (load_constants s.old.size_4 (load_function s.old.size_4 allowance)) repaired_constants s.old s.new result }
+    ensures { Loads (load_constants s.old.reader.size_4 (load_function s.old.reader.size_4 allowance)) repaired_constants s.old s.new result }
 {
-    load_list::<Pool>(s)?;
+    load_list::<Constants>(s)?;
     let n = s.copy_count()?;
     for _i in 0..n {
         load_function(s, allowance)?;

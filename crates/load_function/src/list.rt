@@ -10,9 +10,8 @@ ghost use Rattle.format.specs.Constants.{value_of};
 ghost use Rattle.load.specs.Loads.{Stores, Loads, repaired_name};
 ghost use Rattle.load_function.specs.Repaired.{repaired_local_piece};
 
-use format::{Constant, Refusal};
+use format::{Constant, Constants, Locals, Names, Refusal};
 use load::Loader;
-use load::cursor::load_constant;
 
 // What the items of a list are. proto, dump and listing_headers have such a trait each, as proto's says.
 pub trait Item {
@@ -23,12 +22,12 @@ pub trait Item {
     ghost piece: { Value → Piece };
 
     fn load(s: &mut Loader) -> Result<(), Refusal>
-        ensures { Loads (reader s.old.size_4) piece s.old s.new result };
+        ensures { Loads (reader s.old.reader.size_4) piece s.old s.new result };
 }
 
 // A list of them: its count, and one by one.
 pub fn load_list<T: Item>(s: &mut Loader) -> Result<(), Refusal>
-    ensures { Loads (list_reader (T.reader s.old.size_4)) (list_piece T.piece) s.old s.new result }
+    ensures { Loads (list_reader (T.reader s.old.reader.size_4)) (list_piece T.piece) s.old s.new result }
 {
     let n = s.copy_count()?;
     for _i in 0..n {
@@ -37,22 +36,19 @@ pub fn load_list<T: Item>(s: &mut Loader) -> Result<(), Refusal>
     Ok(())
 }
 
-// Constants.
-pub struct Pool;
-
 // A constant that was read goes to the store, its tag one of the format's numbers.
 fn put_constant(s: &mut Loader, k: Constant)
-    ensures { Stores (constant_piece (value_of s.old.reader.chunk.now k)) s.old s.new }
+    ensures { Stores (constant_piece (value_of s.old.reader.state.chunk.now k)) s.old s.new }
 {
     match k {
-        Constant::Nil => s.put3(0, 0, 0),
-        Constant::Bool(b) => s.put3(1, u32::from(b), 0),
-        Constant::Num(high, low) => s.put3(3, high, low),
-        Constant::String(z) => s.put_str(z.of(s.reader.chunk)),
+        Constant::Nil => s.put_words([0, 0, 0]),
+        Constant::Bool(b) => s.put_words([1, u32::from(b), 0]),
+        Constant::Num(high, low) => s.put_words([3, high, low]),
+        Constant::String(z) => s.put_str(z.of(s.reader.state.chunk)),
     }
 }
 
-impl Item for Pool {
+impl Item for Constants {
     ghost Value = { TreeConstant };
 
     ghost reader = { load_constant };
@@ -60,16 +56,13 @@ impl Item for Pool {
     ghost piece = { constant_piece };
 
     fn load(s: &mut Loader) -> Result<(), Refusal> {
-        let z = load_constant(s.reader, s.size_4)?;
-        s.reader.pos = z.next;
-        put_constant(s, z.value);
+        let k = s.advance(s.reader.load_constant()?);
+        put_constant(s, k);
         Ok(())
     }
 }
 
-// Locals: each a name and two integers.
-pub struct Locals;
-
+// Each a name and two integers.
 impl Item for Locals {
     ghost Value = { Local };
 
@@ -83,9 +76,6 @@ impl Item for Locals {
         s.copy_int()
     }
 }
-
-// Names of upvalues.
-pub struct Names;
 
 impl Item for Names {
     ghost Value = { List ℕ };

@@ -1,7 +1,8 @@
 -- What reading at a place of the chunk gives.
 use Rattle.std.specs.Prelude.{ℕ, ◌+◌, ◌*◌, ◌≡◌, List, drop, get_or, Result, Ok, Err}
+use Rattle.std.specs.Borrow.{Bor}
 use Rattle.format.specs.Tree.{Constant}
-use Rattle.format.specs.Read.{Read, Reader, got, refused, load_num}
+use Rattle.format.specs.Read.{Read, Reader, got, refused, load_block, load_num}
 use Rattle.format.specs.Refusal.{number}
 use Rattle.format.specs.declared.Refusal.{Refusal}
 use Rattle.load_state.specs.declared.cursor.Got.{Got}
@@ -20,6 +21,10 @@ pub record ReadsBy {A B : Type 0} (bs : List ℕ) (R : Reader A) (P : A → B �
 -- the reader R gives r's value from a place on and ends at r's next place, or with r's refusal
 abbrev pub ReadAt : {A : Type 0} → List ℕ → Reader A → ℕ → Result (Got A) Refusal → Type 0
 ReadAt bs R at r = ReadsBy bs R (λ a g. a ≡ g.value) (λ g. g.next) at r
+
+-- n bytes from a place on, or the refusal
+abbrev pub BlockAt : List ℕ → ℕ → ℕ → Result (Got (Bor (List ℕ))) Refusal → Type 0
+BlockAt bs n at r = ReadsBy bs (load_block n) (λ s g. s ≡ g.value.now) (λ g. g.next) at r
 
 -- a lua_Number by its halves, the low one first
 abbrev pub HalvesAt : List ℕ → ℕ → Result (Got (ℕ × ℕ)) Refusal → Type 0

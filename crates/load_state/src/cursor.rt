@@ -1,9 +1,10 @@
-// What stands at a place of the chunk: a byte, a 4-byte integer, a size; refused by 2 where too few bytes are left.
-ghost use Rattle.std.specs.Prelude.{◌≡◌, ◌+◌, ◌≤◌, length};
-ghost use Rattle.format.specs.Read.{load_byte, load_number, load_int};
-ghost use Rattle.load_state.specs.ReadAt.{four_at, ReadAt, HalvesAt};
+// What stands at a place of the chunk: bytes, an integer, a size, a number; refused by 2 where too few bytes are left.
+// Functions of a chunk and a place, as the thin calls of LoadState take the struct apart.
+ghost use Rattle.std.specs.Prelude.{◌≡◌};
+ghost use Rattle.format.specs.Read.{load_block, load_byte, load_number, load_int};
+ghost use Rattle.load_state.specs.ReadAt.{ReadAt, BlockAt, HalvesAt};
 
-use format::{Refusal, joined};
+use format::{Refusal, Span};
 
 // What was read, and the next place.
 #[derive(Clone, Copy)]
@@ -24,12 +25,26 @@ impl<T: Copy> Got<T> {
     }
 }
 
-// The number that four bytes from a place on stand for, the lowest first.
-pub fn four_at(chunk: &[u8], at: usize) -> u32
-    requires { at + 4 ≤ length chunk.now }
-    ensures { result ≡ four_at chunk.now at }
+// The n bytes at a place.
+pub fn block_at(chunk: &[u8], at: usize, n: usize) -> Result<Got<&[u8]>, Refusal>
+    ensures { BlockAt chunk.now n at result }
 {
-    u32::from_le_bytes([chunk[at], chunk[at + 1], chunk[at + 2], chunk[at + 3]])
+    let value = Span { start: at, len: n }.of(chunk);
+    if value.len() < n {
+        return Err(Refusal::Truncated);
+    }
+    Ok(Got {
+        value,
+        next: at + value.len(),
+    })
+}
+
+// The N bytes at a place.
+pub fn bytes_at<const N: usize>(chunk: &[u8], at: usize) -> Result<Got<[u8; N]>, Refusal>
+    ensures { ReadAt chunk.now (load_block N) at result }
+{
+    let b = block_at(chunk, at, N)?;
+    Ok(b.with(b.value.try_into().unwrap()))
 }
 
 // The byte at a place.
@@ -48,39 +63,24 @@ pub fn byte_at(chunk: &[u8], at: usize) -> Result<Got<u8>, Refusal>
 pub fn int_at(chunk: &[u8], at: usize) -> Result<Got<u32>, Refusal>
     ensures { ReadAt chunk.now load_int at result }
 {
-    if chunk.len().saturating_sub(at) < 4 {
-        return Err(Refusal::Truncated);
-    }
-    Ok(Got {
-        value: four_at(chunk, at),
-        next: at + 4,
-    })
+    let b = bytes_at::<4>(chunk, at)?;
+    Ok(b.with(u32::from_le_bytes(b.value)))
 }
 
-// The number at a place, of eight bytes: its low half, then its high half. One test for both.
-#[tactic(auto, using(crate::proofs::Bytes::number_taken))]
-pub fn number_at(chunk: &[u8], at: usize) -> Result<Got<(u32, u32)>, Refusal>
-    ensures { HalvesAt chunk.now at result }
-{
-    if chunk.len().saturating_sub(at) < 8 {
-        return Err(Refusal::Truncated);
-    }
-    Ok(Got {
-        value: (four_at(chunk, at), four_at(chunk, at + 4)),
-        next: at + 8,
-    })
-}
-
-// The size at a place, of eight bytes. One of four is the integer there.
+// The size at a place, of eight bytes. One of four is the integer there. Two functions: from_le_bytes is of each type, and of no trait.
 #[tactic(auto, using(crate::proofs::Bytes::size_taken))]
 pub fn size_at(chunk: &[u8], at: usize) -> Result<Got<u64>, Refusal>
     ensures { ReadAt chunk.now (load_number 8) at result }
 {
-    if chunk.len().saturating_sub(at) < 8 {
-        return Err(Refusal::Truncated);
-    }
-    Ok(Got {
-        value: joined(four_at(chunk, at), four_at(chunk, at + 4)),
-        next: at + 8,
-    })
+    let b = bytes_at::<8>(chunk, at)?;
+    Ok(b.with(u64::from_le_bytes(b.value)))
+}
+
+// The number at a place, of eight bytes: its low half, then its high half. One size is split, and not two integers read: so one test serves both halves.
+#[tactic(auto, using(crate::proofs::Bytes::halves_taken, crate::proofs::Bytes::halves_short))]
+pub fn number_at(chunk: &[u8], at: usize) -> Result<Got<(u32, u32)>, Refusal>
+    ensures { HalvesAt chunk.now at result }
+{
+    let n = size_at(chunk, at)?;
+    Ok(n.with(((n.value % 4294967296) as u32, (n.value / 4294967296) as u32)))
 }

@@ -1,12 +1,13 @@
-// LoadState, the reader of undump.rs: the chunk and the place in it. Its calls are thin: each takes the struct apart and reads by the cursor.
+// LoadState, the reader of undump.rs: the chunk and the place in it. Its calls are thin, a rule of the project: each takes
+// the struct apart and reads by the cursor.
 #![tactic(auto)]
 
 pub mod cursor;
 
 ghost use Rattle.format.specs.Read.{load_byte, load_number, load_int};
-ghost use Rattle.load_state.specs.ReadAt.{ReadAt, HalvesAt};
+ghost use Rattle.load_state.specs.ReadAt.{ReadAt, BlockAt, HalvesAt};
 
-use cursor::{Got, byte_at, int_at, number_at, size_at};
+use cursor::{Got, block_at, byte_at, int_at, number_at, size_at};
 use format::Refusal;
 
 // The chunk, and the place of the next byte.
@@ -17,6 +18,12 @@ pub struct LoadState<'a> {
 }
 
 impl<'a> LoadState<'a> {
+    pub fn load_block(self, n: usize) -> Result<Got<&'a [u8]>, Refusal>
+        ensures { BlockAt self.entry.chunk.now n self.entry.pos result }
+    {
+        block_at(self.chunk, self.pos, n)
+    }
+
     pub fn load_byte(self) -> Result<Got<u8>, Refusal>
         ensures { ReadAt self.entry.chunk.now load_byte self.entry.pos result }
     {

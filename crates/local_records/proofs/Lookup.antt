@@ -1,5 +1,6 @@
 -- The lookup: where the locals stand, what their records lead to, and what the call leaves.
 use Rattle.std.specs.Prelude.{Option, Result, Ok, Err}
+use Rattle.std.specs.Simd.{first_chunks}
 use Rattle.lent.proofs.Prelude.{ℕ, ◌+◌, ◌*◌, ◌/◌, ◌≤◌, ◌<◌, ◌%◌, ◌^◌, min, ◌≡◌, refl, sym, ap, ◌∙◌, List, [], ◌∷◌, ◌++◌, Bool, true, false, cond, arith, length, take, drop, length-take-le, length-drop, get_or, leb, eq-eqb, ne_eqb, le-leb, lt-leb, leb-true}
 use Rattle.lent.specs.Memory.{far, Puts}
 use Rattle.format.specs.Tree.{Local, Parts, Function, Functions}
@@ -32,8 +33,8 @@ use Rattle.debug_info.specs.declared.list.Seen.{Seen}
 use Rattle.debug_info.specs.declared.list.Seen.TheVariants.{Nothing, Found, Left}
 use Rattle.debug_info.specs.Seen.{look, after}
 use Rattle.debug_info.proofs.Lists.{active_step}
-use Rattle.local_records.specs.Records.{record_at, records_at, records_filled, look_at, unnamed, text_named, active_in}
-use Rattle.local_records.proofs.Records.{records_part}
+use Rattle.local_records.specs.Records.{record_at, records_at, records_of, records_filled, look_at, unnamed, text_named, active_in}
+use Rattle.local_records.proofs.Records.{records_fours}
 use Rattle.local_records.specs.Lookup.{locals_of, locals_at, LookupLeft, lookup_left, with_records, local_named_in, no_locals, locals_for}
 
 -- ---- what the records of locals lead to
@@ -106,7 +107,7 @@ module _ (words text : List ℕ) (place n pc records space : ℕ) where
   -- the place is refused
   pub for_refused : (e : Refusal) → number e ≡ place_refusal words text place → no_locals (number e) ≡ locals_for words text place n pc records space
   unfolding locals_for
-  for_refused e h = place_refused no_locals choose words text place e h
+  for_refused e h = place_refused no_locals (λ x. choose x.function) words text place e h
 
   module _ (z : 0 ≡ place_refusal words text place) (lists : Lists) {m : ℕ} (q : lists.store.words.now ≡ words) (w : (p : Parts) (fs : Functions) → ValidAll fs depth → ListsFound place p fs lists) (c : m ≡ get_or words lists.locals 0) where
     abbrev o : On words text place
@@ -202,7 +203,7 @@ module _ (rs : List LocalRecord) (words text : List ℕ) (place n pc : ℕ) (out
     start_is : v.start ≡ locals_at place f
     start_is = ap (λ (x : Span). x.start) y.is
 
-    -- their words
+    -- their words, in fours
     module _ {locals : List ℕ} (t : locals ≡ take v.len (drop v.start words)) where
       within : v.start + 4 * length (locals_of f) ≤ length words
       within =
@@ -211,40 +212,42 @@ module _ (rs : List LocalRecord) (words text : List ℕ) (place n pc : ℕ) (out
           let h = here_length _ x.stand.stands.in_words in
           omega (arith, start_is, x.behind, k, h)
 
-      long : length locals ≡ 4 * length (locals_of f)
-      long =
-          let m : v.len ≡ 4 * length (locals_of f) = ap (λ (x : Span). x.len) y.is in
-          ap length t ∙ length-take-le v.len (drop v.start words) (omega (arith, length-drop v.start words, m, within)) ∙ m
+      len_is : v.len ≡ 4 * length (locals_of f)
+      len_is = ap (λ (x : Span). x.len) y.is
 
-      count_is : length locals / 4 ≡ length (locals_of f)
-      count_is = omega (arith, long)
+      quarter : length locals / 4 ≡ length (locals_of f)
+      quarter = let l = ap length t ∙ length-take-le v.len (drop v.start words) (omega (arith, length-drop v.start words, len_is, within)) in omega (arith, l, len_is)
 
-      pub count_enough : length locals / 4 ≤ length rs
-      count_enough = omega (arith, count_is, y.enough)
+      module _ (fours : List (List ℕ)) (h : length fours ≡ length locals / 4) where
+        count_is : length fours ≡ length (locals_of f)
+        count_is = h ∙ quarter
 
-      pub count_taken : length locals / 4 ≡ length (take (length locals / 4) rs)
-      count_taken = sym (length-take-le (length locals / 4) rs count_enough)
+        pub count_enough : length fours ≤ length rs
+        count_enough = omega (arith, count_is, y.enough)
 
-      records_are : records_at locals 0 (length (take (length locals / 4) rs)) ≡ records_at words (locals_at place f) (length (locals_of f))
-      records_are =
-          let z : v.start + 0 ≡ locals_at place f = omega (arith, start_is) in
-          let m : v.len ≡ 4 * length (locals_of f) = ap (λ (x : Span). x.len) y.is in
-          ap (records_at locals 0) (sym count_taken ∙ count_is) ∙ rw t (records_part words v.start v.len 0 (length (locals_of f)) (omega (arith, m)) ∙ ap (λ (u : ℕ). records_at words u (length (locals_of f))) z)
+        pub count_taken : length (take (length fours) rs) ≡ length fours
+        count_taken = length-take-le (length fours) rs count_enough
 
-      -- the records are filled, searched, and the name is given
-      pub in_answered : {filled : List LocalRecord} {k : Option Known} {r : Named} {out' : List ℕ} → filled ≡ records_at locals 0 (length (take (length locals / 4) rs)) → k ≡ active_in filled n (pc % 2 ^ 32) → name_left r out' ≡ named (object_of text k) out
-          → lookup_left r (filled ++ drop (length locals / 4) rs) out' ≡ local_named_in rs words text place n pc out
-      unfolding get_local_name
-      in_answered {filled} {k} {r} {out'} a b g =
-          let q : filled ≡ records_at words (locals_at place f) (length (locals_of f)) = a ∙ records_are in
-          let F = records_filled rs words (locals_at place f) (length (locals_of f)) in
-          let l : object_of text k ≡ get_local_name (locals_of f) n pc = ap (object_of text) (b ∙ ap (λ (u : List LocalRecord). active_in u n (pc % 2 ^ 32)) q) ∙ locals_lead y.on n (pc % 2 ^ 32) refl refl in
-          let w : name_left r out' ≡ named (get_local_name (locals_of f) n pc) out = g ∙ ap (λ (o : Object). named o out) l in
-          let z : r.refusal ≡ 0 = ap (λ (u : NameLeft). u.answer.refusal) w ∙ rw (le-leb (length (get_local_name (locals_of f) n pc).name) (length out) y.fits) in
-          let d : filled ++ drop (length locals / 4) rs ≡ F = rw (q, count_is) in
-          rw d (ap (λ (b : Bool). lookup_left r (cond b F rs) out') (sym (eq-eqb r.refusal 0 z)))
-          ∙ ap (with_records rs F) w
-          ∙ sym (left_by y.on ∙ rw (le-leb (length (locals_of f)) (length rs) y.enough))
+        records_are : fours ≡ first_chunks 4 (length locals / 4) locals → records_of fours ≡ records_at words (locals_at place f) (length (locals_of f))
+        records_are g =
+            let n = length (locals_of f) in
+            let l : locals ≡ take (4 * n) (drop (locals_at place f) words) = t ∙ ap (λ (m : ℕ). take m (drop v.start words)) len_is ∙ ap (λ (at : ℕ). take (4 * n) (drop at words)) start_is in
+            ap records_of (g ∙ ap (λ (m : ℕ). first_chunks 4 m locals) quarter ∙ ap (first_chunks 4 n) l) ∙ records_fours words (locals_at place f) n
+
+        -- the records are filled, searched, and the name is given
+        pub in_answered : {filled : List LocalRecord} {k : Option Known} {r : Named} {out' : List ℕ} → fours ≡ first_chunks 4 (length locals / 4) locals → filled ≡ records_of fours → k ≡ active_in filled n (pc % 2 ^ 32) → name_left r out' ≡ named (object_of text k) out
+            → lookup_left r (filled ++ drop (length fours) rs) out' ≡ local_named_in rs words text place n pc out
+        unfolding get_local_name
+        in_answered {filled} {k} {r} {out'} g a b s =
+            let q : filled ≡ records_at words (locals_at place f) (length (locals_of f)) = a ∙ records_are g in
+            let F = records_filled rs words (locals_at place f) (length (locals_of f)) in
+            let l : object_of text k ≡ get_local_name (locals_of f) n pc = ap (object_of text) (b ∙ ap (λ (u : List LocalRecord). active_in u n (pc % 2 ^ 32)) q) ∙ locals_lead y.on n (pc % 2 ^ 32) refl refl in
+            let w : name_left r out' ≡ named (get_local_name (locals_of f) n pc) out = s ∙ ap (λ (o : Object). named o out) l in
+            let z : r.refusal ≡ 0 = ap (λ (u : NameLeft). u.answer.refusal) w ∙ rw (le-leb (length (get_local_name (locals_of f) n pc).name) (length out) y.fits) in
+            let d : filled ++ drop (length fours) rs ≡ F = rw (q, count_is) in
+            rw d (ap (λ (b : Bool). lookup_left r (cond b F rs) out') (sym (eq-eqb r.refusal 0 z)))
+            ∙ ap (with_records rs F) w
+            ∙ sym (left_by y.on ∙ rw (le-leb (length (locals_of f)) (length rs) y.enough))
 
 -- ==== the statement: but for 8, the answer and what is left in out are get_local_name's
 

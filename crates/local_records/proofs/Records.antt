@@ -1,59 +1,66 @@
 -- Records: one is filled after the other, and each tells how the search goes on.
+use Rattle.std.specs.Simd.{first_chunks}
 use Rattle.std.specs.Prelude.{Option}
-use Rattle.lent.proofs.Prelude.{ℕ, zero, suc, ◌+◌, ◌*◌, ◌≤◌, ◌<◌, ◌≡◌, refl, sym, ap, ◌∙◌, List, ◌∷◌, arith, add-one, length, drop, get_or, set, drop_of_length-le, paste, paste-suc, drop-cons, append-nil, take_all, take, get_or-take, get_or-drop}
+use Rattle.lent.proofs.Prelude.{ℕ, zero, suc, ◌+◌, ◌*◌, ◌≤◌, ◌<◌, ◌≡◌, refl, sym, ap, ◌∙◌, List, [], ◌∷◌, add-zero, arith, add-one, length, drop, get_or, set, drop_of_length-le, paste, paste-suc, drop-cons, append-nil, take_all, take, get_or-take, get_or-drop, drop-drop}
+use Rattle.std.proofs.lemmas.List.{drop-take}
 use Rattle.local_records.specs.declared.record.LocalRecord.{LocalRecord}
 use Rattle.debug_info.specs.declared.name.Known.{Known}
 use Rattle.debug_info.specs.declared.list.Seen.{Seen}
 use Rattle.debug_info.specs.declared.list.Seen.TheVariants.{Nothing, Found, Left}
 use Rattle.debug_info.specs.Seen.{after}
-use Rattle.local_records.specs.Records.{record_at, records_at, look_at, active_in, unnamed, text_named}
+use Rattle.local_records.specs.Records.{record_at, records_at, records_of, look_at, active_in, unnamed, text_named}
 
 abbrev blank : LocalRecord
 blank = record { place = 0; len = 0; start = 0; end = 0 }
 
 -- ---- filling
 
-pub records_length : (words : List ℕ) (at n : ℕ) → length (records_at words at n) ≡ n
-unfolding records_at
-records_length words at zero = refl
-records_length words at (suc n) = ap suc (records_length words (at + 4) n)
+records_length : (l : List (List ℕ)) → length (records_of l) ≡ length l
+unfolding records_of
+records_length [] = refl
+records_length (words ∷ l) = ap suc (records_length l)
 
-records_get : (words : List ℕ) (at n i : ℕ) → i < n → get_or (records_at words at n) i blank ≡ record_at words (at + 4 * i)
-unfolding records_at
-records_get words at zero i h = absurd (omega arith)
-records_get words at (suc n) zero h = ap (record_at words) (omega arith)
-records_get words at (suc n) (suc i) h = records_get words (at + 4) n i (omega arith) ∙ ap (record_at words) (omega arith)
+records_get : (l : List (List ℕ)) (i : ℕ) → i < length l → get_or (records_of l) i blank ≡ record_at (get_or l i []) 0
+unfolding records_of
+records_get [] i h = absurd (omega arith)
+records_get (words ∷ l) zero h = refl
+records_get (words ∷ l) (suc i) h = records_get l i (omega arith)
 
--- those of a part of the words
-pub records_part : (words : List ℕ) (at m i n : ℕ) → i + 4 * n ≤ m → records_at (take m (drop at words)) i n ≡ records_at words (at + i) n
-unfolding records_at
-records_part words at m i zero h = refl
-records_part words at m i (suc n) h =
-    let g : (j : ℕ) → j < m → get_or (take m (drop at words)) j 0 ≡ get_or words (at + j) 0 = λ j k. get_or-take m (drop at words) j 0 k ∙ get_or-drop at words j 0 in
-    let a : at + i + 1 ≡ at + (i + 1) = omega arith in
-    let b : at + i + 2 ≡ at + (i + 2) = omega arith in
-    let c : at + i + 3 ≡ at + (i + 3) = omega arith in
-    let d : at + (i + 4) ≡ at + i + 4 = omega arith in
-    rw (g i (omega arith), g (i + 1) (omega arith), g (i + 2) (omega arith), g (i + 3) (omega arith), ← a, ← b, ← c) (ap (λ (l : List LocalRecord). record_at words (at + i) ∷ l) (records_part words at m (i + 4) n (omega arith) ∙ ap (λ (u : ℕ). records_at words u n) d))
+-- by its four words
+record_same : (words words' : List ℕ) (at at' : ℕ) → ((k : ℕ) → k < 4 → get_or words (at + k) 0 ≡ get_or words' (at' + k) 0) → record_at words at ≡ record_at words' at'
+record_same words words' at at' g =
+    let p : get_or words at 0 ≡ get_or words' at' 0 = simp add-zero at (g 0 (omega arith)) in
+    rw (p, g 1 (omega arith), g 2 (omega arith), g 3 (omega arith))
 
--- i of the n records are filled
-abbrev pub Filling : List LocalRecord → List ℕ → ℕ → ℕ → ℕ → List LocalRecord → Type 0
-Filling before words at n i records = records ≡ paste before 0 (records_at words at n) i
+-- those of a part of the words, in fours
+pub records_fours : (words : List ℕ) (at n : ℕ) → records_of (first_chunks 4 n (take (4 * n) (drop at words))) ≡ records_at words at n
+unfolding records_of records_at
+records_fours words at zero = refl
+records_fours words at (suc n) =
+    let m : 4 * suc n ≡ 4 + 4 * n = omega arith in
+    let d : drop 4 (take (4 + 4 * n) (drop at words)) ≡ take (4 * n) (drop (at + 4) words) = drop-take 4 (4 * n) (drop at words) ∙ ap (take (4 * n)) (drop-drop 4 at words) in
+    let e : record_at (take 4 (take (4 + 4 * n) (drop at words))) 0 ≡ record_at words at = record_same (take 4 (take (4 + 4 * n) (drop at words))) words 0 at
+    (λ k l. let z : 0 + k ≡ k = omega arith in rw z (get_or-take 4 (take (4 + 4 * n) (drop at words)) k 0 (omega arith) ∙ get_or-take (4 + 4 * n) (drop at words) k 0 (omega arith) ∙ get_or-drop at words k 0)) in
+    rw m (rw (e, d, records_fours words (at + 4) n))
 
-module _ (before : List LocalRecord) (words : List ℕ) (at n : ℕ) where
-  pub filling_more : {i to : ℕ} {records : List LocalRecord} {r : LocalRecord} → i < n → n ≤ length before → to ≡ at + 4 * i → Filling before words at n i records → r ≡ record_at words to
-      → Filling before words at n (i + 1) (set records i r)
-  filling_more {i} {to} {records} {r} h k t f e =
-      let g : r ≡ get_or (records_at words at n) i blank = e ∙ ap (record_at words) t ∙ sym (records_get words at n i h) in
+-- i of the records are filled
+abbrev pub Filling : List LocalRecord → List (List ℕ) → ℕ → List LocalRecord → Type 0
+Filling before words i records = records ≡ paste before 0 (records_of words) i
+
+module _ (before : List LocalRecord) (words : List (List ℕ)) where
+  pub filling_more : {i : ℕ} {records : List LocalRecord} {r : LocalRecord} → i < length before → length before ≡ length words → Filling before words i records → r ≡ record_at (get_or words i []) 0
+      → Filling before words (i + 1) (set records i r)
+  filling_more {i} {r = r} h k f e =
+      let g : r ≡ get_or (records_of words) i blank = e ∙ sym (records_get words i (omega arith)) in
       let z : i ≡ 0 + i = omega arith in
       rw (f, g, add-one i)
-      (ap (λ (j : ℕ). set (paste before 0 (records_at words at n) i) j (get_or (records_at words at n) i blank)) z ∙ paste-suc before 0 (records_at words at n) i blank (omega arith) (omega (arith, records_length words at n)))
+      (ap (λ (j : ℕ). set (paste before 0 (records_of words) i) j (get_or (records_of words) i blank)) z ∙ paste-suc before 0 (records_of words) i blank (omega arith) (omega (arith, records_length words)))
 
-  pub filling_all : {i : ℕ} {records : List LocalRecord} → n ≡ length before → n ≤ i → i ≤ n → Filling before words at n i records → records ≡ records_at words at n
+  pub filling_all : {i : ℕ} {records : List LocalRecord} → length before ≡ length words → length before ≤ i → i ≤ length before → Filling before words i records → records ≡ records_of words
   filling_all {i} {records} h k l f =
-      let e : i ≡ n = omega arith in
-      let z : 0 + n ≡ n = omega arith in
-      f ∙ rw (e, z, take_all n (records_at words at n) (omega (arith, records_length words at n)), drop_of_length-le before {i = n} (omega arith)) (append-nil (records_at words at n))
+      let e : i ≡ length words = omega arith in
+      let z : 0 + length words ≡ length words = omega arith in
+      f ∙ rw (e, z, take_all (length words) (records_of words) (omega (arith, records_length words)), drop_of_length-le before {i = length words} (omega arith)) (append-nil (records_of words))
 
 -- ---- the search
 

@@ -16,6 +16,11 @@ unfoldable pub records_at : List ℕ → ℕ → ℕ → List LocalRecord
 records_at words at zero = []
 records_at words at (suc n) = record_at words at ∷ records_at words (at + 4) n
 
+-- those of the locals that have these words, four each
+unfoldable pub records_of : List (List ℕ) → List LocalRecord
+records_of [] = []
+records_of (words ∷ l) = record_at words 0 ∷ records_of l
+
 -- the first n records are filled, the others kept
 abbrev pub records_filled : List LocalRecord → List ℕ → ℕ → ℕ → List LocalRecord
 records_filled records words at n = records_at words at n ++ drop n records

@@ -1,13 +1,14 @@
-// The name of an active local, looked up in a lent slice of records that is filled from the store (debug_info.rs, get_local_name).
+// The name of an active local, looked up in a lent slice of records that is filled from the store (debug_info.rs, get_local_name). The call for C
+// takes the words and the text apart, as C lends them.
 #![tactic(auto)]
 
 pub mod record;
 
-ghost use Rattle.std.specs.Prelude.{[], ◌≡◌, ◌*◌, ◌<◌, ◌≤◌, length};
-ghost use Rattle.lent.specs.Memory.{far, Puts};
+ghost use Rattle.std.specs.Prelude.{[], ◌≡◌, length};
+ghost use Rattle.lent.specs.Memory.{Puts};
 ghost use Rattle.debug_info.specs.Calls.{named_result};
 ghost use Rattle.debug_info.specs.Known.{object_of};
-ghost use Rattle.local_records.specs.Records.{records_at, active_in};
+ghost use Rattle.local_records.specs.Records.{records_of, active_in};
 ghost use Rattle.local_records.specs.Lookup.{numbered, locals_for, lookup_left, local_named_in};
 
 use debug_info::answer::Named;
@@ -17,7 +18,7 @@ use debug_info::write_known;
 use format::{Refusal, Span, low};
 use proto::store::Store;
 use proto::walk::{skip, word_at};
-use record::{LocalRecord, record_at};
+use record::LocalRecord;
 
 // How many bytes the name of what is known has, none where nothing is.
 fn known_len(text: &[u8], v: Option<Known>) -> usize
@@ -26,27 +27,27 @@ fn known_len(text: &[u8], v: Option<Known>) -> usize
     v.map_or(0, |known| name_len(text, known.name))
 }
 
-// Where the words of the locals of the function at a place stand, four for each, for a lookup with so many records and so much space: refused
-// by 10, 12, 8, 11.
+// Where the words of the locals of the function at a place stand, four for each, for a lookup in records that writes to out: refused by 10, 12,
+// 8, 11.
+#[tactic(auto, using(std::proofs::lemmas::Result::err_from_is_err_and, crate::proofs::Lookup::for_refused))]
 fn locals_for(
     store: Store,
     place: usize,
     local_number: usize,
     pc: u32,
-    records: usize,
-    space: usize,
+    records: &[LocalRecord],
+    out: &[u8],
 ) -> Result<Span, Refusal>
-    requires { space < far }
-    ensures { numbered result ≡ locals_for store.entry.words.now store.entry.text.now place local_number pc records space }
+    ensures { numbered result ≡ locals_for store.entry.words.now store.entry.text.now place local_number pc (length records.now) (length out.now) }
 {
     store.has_function(place)?;
     let locals = store.lists_at(place).locals;
     let count = word_at(store.words, locals) as usize;
-    if records < count {
+    if records.len() < count {
         return Err(Refusal::TooFewWords);
     }
     let v = active_local(store.words, locals, local_number, pc);
-    if space < known_len(store.text, v) {
+    if out.len() < known_len(store.text, v) {
         return Err(Refusal::TooLittleOutput);
     }
     Ok(Span {
@@ -55,13 +56,13 @@ fn locals_for(
     })
 }
 
-// Fills records with the locals whose words these are. By the index: where iter_mut is zipped, nothing is known of the records behind the loop.
-fn fill(records: &mut [LocalRecord], locals: &[u32])
-    requires { 4 * length records.old ≤ length locals.now }
-    ensures { records.new ≡ records_at locals.now 0 (length records.old) }
+// Fills records with the locals that have these words. By the index: where iter_mut is zipped, nothing is known of the records behind the loop.
+fn fill(records: &mut [LocalRecord], words: &[[u32; 4]])
+    requires { length records.old ≡ length words.now }
+    ensures { records.new ≡ records_of words.now }
 {
     for (i, r) in records.iter_mut().enumerate() {
-        *r = record_at(locals, 4 * i);
+        *r = words[i].into();
     }
 }
 
@@ -82,6 +83,7 @@ fn find(records: &[LocalRecord], local_number: usize, pc: u32) -> Option<Known>
 }
 
 // Looks the name of local number local_number up in records, and writes it. Refused by 10, 12, 8, 11.
+#[tactic(auto, using(std::proofs::lemmas::Result::err_from_is_err_and, crate::proofs::Lookup::in_refused, crate::proofs::Lookup::count_enough, crate::proofs::Lookup::count_taken))]
 fn look_up(
     records: &mut [LocalRecord],
     store: Store,
@@ -92,12 +94,12 @@ fn look_up(
 ) -> Result<Option<(Kind, usize)>, Refusal>
     ensures { lookup_left (named_result result) records.new out.new ≡ local_named_in records.old store.entry.words.now store.entry.text.now place local_number pc out.old }
 {
-    let last = low(pc);
-    let span = locals_for(store, place, local_number, last, records.len(), out.len())?;
-    let locals = span.of(store.words);
-    let filled = &mut records[..locals.len() / 4];
-    fill(filled, locals);
-    write_known(store.text, find(filled, local_number, last), out)
+    let pc = low(pc);
+    let span = locals_for(store, place, local_number, pc, records, out)?;
+    let (words, _) = span.of(store.words).as_chunks();
+    let locals = &mut records[..words.len()];
+    fill(locals, words);
+    write_known(store.text, find(locals, local_number, pc), out)
 }
 
 // The name of local number local_number, from 1, of those active at pc, looked up in records, one for each local of the function.

@@ -1,11 +1,11 @@
 // A record of a local.
-ghost use Rattle.std.specs.Prelude.{◌≡◌, ◌+◌, ◌≤◌, length};
+ghost use Rattle.std.specs.Prelude.{◌≡◌};
 ghost use Rattle.local_records.specs.Records.{record_at, text_named};
 
 use debug_info::name::{Kind, Known, Name};
 use format::Span;
 
-// A local: where its name stands in the text, how many bytes it has, and the pcs from which and before which it is active.
+// A local, as C has it: where its name stands in the text, how many bytes it has, and the pcs from which and before which it is active.
 #[repr(C)]
 #[derive(Clone, Copy)]
 pub struct LocalRecord {
@@ -30,15 +30,16 @@ impl LocalRecord {
     }
 }
 
-// The record of the local at a place.
-pub fn record_at(words: &[u32], at: usize) -> LocalRecord
-    requires { at + 4 ≤ length words.now }
-    ensures { result ≡ record_at words.now at }
-{
-    LocalRecord {
-        place: words[at],
-        len: words[at + 1],
-        start: words[at + 2],
-        end: words[at + 3],
+// The record of the local that has these words.
+impl From<[u32; 4]> for LocalRecord {
+    ghost from_gives = { λ words r. r ≡ record_at words 0 };
+
+    fn from([place, len, start, end]: [u32; 4]) -> LocalRecord {
+        LocalRecord {
+            place,
+            len,
+            start,
+            end,
+        }
     }
 }

@@ -1,5 +1,5 @@
 -- Steps of the check, one after the other: words, strings and lists.
-use Rattle.lent.proofs.Prelude.{append-nil, ℕ, suc, zero-le, ◌+◌, ◌-◌, ◌≤◌, ◌<◌, ◌^◌, ◌≡◌, refl, sym, ap, ◌∙◌, List, [], ◌∷◌, Bool, true, false, arith, dec_lt, add-zero, add_assoc, length, drop, get_or, length-append, length-drop, length-take, get_or-eq_default, get_or-take, get_or-drop, length-take-le}
+use Rattle.lent.proofs.Prelude.{append-nil, ℕ, suc, zero-le, ◌+◌, ◌-◌, ◌≤◌, ◌<◌, ◌^◌, ◌≡◌, refl, sym, ap, ◌∙◌, List, [], ◌∷◌, Bool, true, false, true≢false, arith, dec_lt, add-zero, add_assoc, length, drop, get_or, length-append, length-drop, length-take, get_or-eq_default, get_or-take, get_or-drop, length-take-le}
 use Rattle.std.specs.Prelude.{Option as Answer, Some, None}
 use Rattle.std.specs.List.{slice_range}
 use Rattle.std.proofs.lemmas.List.Folds.{drop_split}
@@ -15,14 +15,11 @@ use Rattle.format.specs.Stored.{part, Here}
 use Rattle.format.specs.Valid.{Name, ValidList}
 use Rattle.format.proofs.Stored.{here_left, here_part}
 use Rattle.format.proofs.Loops.{Loop, loop_turn, loop_stop, loop_end}
-use Rattle.proto.specs.declared.formed.Reached.{Reached}
+use Rattle.proto.specs.declared.formed.Places.{Places}
 use Rattle.proto.specs.Walk.{Stands}
 use Rattle.proto.specs.Formed.{Found, behind, Both, beside, Check, Within, three, Three}
 use Rattle.proto.proofs.Sublists.{here_length, here_item, here_get, here_none, here_one, here_two, here_three, here_join, here_take}
 use Rattle.proto.proofs.Pieces.{Same, same_refl, stands_same, same_sym, stands_left, stands_right, stands_join}
-
-pub never : {b : Bool} → b ≡ true → b ≡ false → ⊥
-never p q = let z : ◌≡◌ {A = ℕ} 0 1 = cc in omega arith
 
 -- the piece is that of a valid value
 pub record As {A : Type 0} (ok : A → Type 0) (piece : A → Piece) (p : Piece) : Type 0 where
@@ -46,34 +43,34 @@ module _ (words l : List ℕ) (at : ℕ) (h : Rest words at l) where
   rest_first = rw (add-zero at) at (rest_item 0)
 
 -- no answer is a place
-pub no_answer : {A : Type 0} {q : Reached} → None ≡ Some q → A
+pub no_answer : {A : Type 0} {q : Places} → None ≡ Some q → A
 no_answer {q = q} e = absurd (none-some q e)
 
-behind_same : {p q : Piece} → Same p q → (s : Reached) → behind p s ≡ behind q s
+behind_same : {p q : Piece} → Same p q → (s : Places) → behind p s ≡ behind q s
 behind_same e s = rw (e.words s.to, e.text)
 
 module _ {words text : List ℕ} where
   module _ {A : Type 0} {ok : A → Type 0} {piece : A → Piece} where
-    pub check_wrong : {s : Reached} → ((a : A) → ok a → Stands words text s.at s.to (piece a) → ⊥) → Check words text ok piece s None
+    pub check_wrong : {s : Places} → ((a : A) → ok a → Stands words text s.at s.to (piece a) → ⊥) → Check words text ok piece s None
     check_wrong f = record { sound = λ q e. no_answer e; complete = λ a k t. absurd (f a k t) }
 
     -- a value stands there, and any that does is passed
-    pub check_good : {s r : Reached} (a : A) → ok a → Stands words text s.at s.to (piece a) → ((b : A) → ok b → Stands words text s.at s.to (piece b) → r ≡ behind (piece b) s) → Check words text ok piece s (Some r)
+    pub check_good : {s r : Places} (a : A) → ok a → Stands words text s.at s.to (piece a) → ((b : A) → ok b → Stands words text s.at s.to (piece b) → r ≡ behind (piece b) s) → Check words text ok piece s (Some r)
     check_good a v t pass = record { sound = λ q e. record { value = a; valid = v; stands = t }; complete = λ b w u. rw (pass b w u) }
 
     -- what was found, and past it
-    pub found : {s r : Reached} → Check words text ok piece s (Some r) → Found words text ok piece s
+    pub found : {s r : Places} → Check words text ok piece s (Some r) → Found words text ok piece s
     found {r = r} c = c.sound r refl
 
-    pub passed : {s r : Reached} → Check words text ok piece s (Some r) → (a : A) → ok a → Stands words text s.at s.to (piece a) → r ≡ behind (piece a) s
+    pub passed : {s r : Places} → Check words text ok piece s (Some r) → (a : A) → ok a → Stands words text s.at s.to (piece a) → r ≡ behind (piece a) s
     passed c a k t = same_Some _ _ (c.complete a k t)
 
-    pub check_passed : {s r : Reached} (c : Check words text ok piece s (Some r)) → r ≡ behind (piece (found c).value) s
+    pub check_passed : {s r : Places} (c : Check words text ok piece s (Some r)) → r ≡ behind (piece (found c).value) s
     check_passed c = let x = found c in passed c x.value x.valid x.stands
 
   module _ {A B : Type 0} {ok : A → Type 0} {ok' : B → Type 0} {p : A → Piece} {q : B → Piece} where
     -- the same check of other values
-    pub check_as : {s : Reached} {r : Answer Reached} → ((a : A) → ok a → As ok' q (p a)) → ((b : B) → ok' b → Stands words text s.at s.to (q b) → As ok p (q b)) → Check words text ok p s r → Check words text ok' q s r
+    pub check_as : {s : Places} {r : Answer Places} → ((a : A) → ok a → As ok' q (p a)) → ((b : B) → ok' b → Stands words text s.at s.to (q b) → As ok p (q b)) → Check words text ok p s r → Check words text ok' q s r
     check_as {s} f g c =
         record {
           sound = λ z e. let x = c.sound z e in let y = f x.value x.valid in record { value = y.value; valid = y.valid; stands = stands_same (same_sym y.same) x.stands };
@@ -81,11 +78,11 @@ module _ {words text : List ℕ} where
         }
 
     -- the same, where the values are told by what was checked
-    pub check_of : {s : Reached} {r : Answer Reached} → Check words text ok p s r → ((a : A) → ok a → As ok' q (p a)) → ((b : B) → ok' b → Stands words text s.at s.to (q b) → As ok p (q b)) → Check words text ok' q s r
+    pub check_of : {s : Places} {r : Answer Places} → Check words text ok p s r → ((a : A) → ok a → As ok' q (p a)) → ((b : B) → ok' b → Stands words text s.at s.to (q b) → As ok p (q b)) → Check words text ok' q s r
     check_of c f g = check_as f g c
 
     -- one behind the other
-    pub check_then : {s m : Reached} {r : Answer Reached} → Check words text ok p s (Some m) → Check words text ok' q m r → Check words text (Both ok ok') (beside p q) s r
+    pub check_then : {s m : Places} {r : Answer Places} → Check words text ok p s (Some m) → Check words text ok' q m r → Check words text (Both ok ok') (beside p q) s r
     unfolding Both beside
     check_then {s} {m} {r} c d =
         record {
@@ -101,11 +98,11 @@ module _ {words text : List ℕ} where
         }
 
   -- what is not well formed is not so beside any other
-  pub check_stop : {A B : Type 0} {ok : A → Type 0} {p : A → Piece} (ok' : B → Type 0) (q : B → Piece) {s : Reached} → Check words text ok p s None → Check words text (Both ok ok') (beside p q) s None
+  pub check_stop : {A B : Type 0} {ok : A → Type 0} {p : A → Piece} (ok' : B → Type 0) (q : B → Piece) {s : Places} → Check words text ok p s None → Check words text (Both ok ok') (beside p q) s None
   unfolding Both beside
   check_stop ok' q c = check_wrong (λ v k t. no_answer (c.complete v.0 k.0 (stands_left _ (q v.1) t)))
 
-  module _ {s : Reached} {l : List ℕ} (h : Rest words s.at l) where
+  module _ {s : Places} {l : List ℕ} (h : Rest words s.at l) where
     -- ---- two words, whatever they are
 
     pub pair_good : ((i : ℕ) → get_or words i 0 < 2 ^ 32) → 2 ≤ length l → Check words text (Both Word Word) (beside word word) s (Some (record { at = s.at + 2; to = s.to }))
@@ -123,11 +120,11 @@ module _ {words text : List ℕ} where
 -- ---- lists
 
 -- n items
-pub record CheckAll {A : Type 0} (words text : List ℕ) (P : A → Type 0) (piece : A → Piece) (n : ℕ) (s : Reached) (r : Answer Reached) : Type 0 where
+pub record CheckAll {A : Type 0} (words text : List ℕ) (P : A → Type 0) (piece : A → Piece) (n : ℕ) (s : Places) (r : Answer Places) : Type 0 where
   pub all : Check words text (λ l. (length l ≡ n) × Every P l) (pieces piece) s r
 
 module _ {A : Type 0} {words text : List ℕ} {P : A → Type 0} {piece : A → Piece} where
-  all_none : {s : Reached} → CheckAll words text P piece 0 s (Some s)
+  all_none : {s : Places} → CheckAll words text P piece 0 s (Some s)
   unfolding pieces Every
   all_none {s} =
       record {
@@ -138,7 +135,7 @@ module _ {A : Type 0} {words text : List ℕ} {P : A → Type 0} {piece : A → 
       }
 
   -- an item, and the others
-  more_of : {s : Reached} {r : Answer Reached} {n : ℕ} → Check words text (Both P (λ l. (length l ≡ n) × Every P l)) (beside piece (pieces piece)) s r → CheckAll words text P piece (suc n) s r
+  more_of : {s : Places} {r : Answer Places} {n : ℕ} → Check words text (Both P (λ l. (length l ≡ n) × Every P l)) (beside piece (pieces piece)) s r → CheckAll words text P piece (suc n) s r
   unfolding pieces Every Both beside
   more_of c =
       record {
@@ -147,14 +144,14 @@ module _ {A : Type 0} {words text : List ℕ} {P : A → Type 0} {piece : A → 
             c;
       }
 
-  all_more : {s m : Reached} → Check words text P piece s (Some m) → (n : ℕ) (r : Answer Reached) → CheckAll words text P piece n m r → CheckAll words text P piece (suc n) s r
+  all_more : {s m : Places} → Check words text P piece s (Some m) → (n : ℕ) (r : Answer Places) → CheckAll words text P piece n m r → CheckAll words text P piece (suc n) s r
   all_more c n r d = more_of (check_then c d.all)
 
-  all_stop : {s : Reached} → Check words text P piece s None → (n : ℕ) → CheckAll words text P piece (suc n) s None
+  all_stop : {s : Places} → Check words text P piece s None → (n : ℕ) → CheckAll words text P piece (suc n) s None
   all_stop c n = more_of (check_stop _ (pieces piece) c)
 
   -- a count, and as many items
-  counted : {n : ℕ} {s m : Reached} {r : Answer Reached} → n ≡ get_or words s.at 0 → Check words text (Within 0 limit) word s (Some m) → CheckAll words text P piece n m r → Check words text (ValidList P) (list piece) s r
+  counted : {n : ℕ} {s m : Places} {r : Answer Places} → n ≡ get_or words s.at 0 → Check words text (Within 0 limit) word s (Some m) → CheckAll words text P piece n m r → Check words text (ValidList P) (list piece) s r
   unfolding Both beside
   counted {n} {s} {m} {r} e c d =
       let w = check_then c d.all in
@@ -171,17 +168,17 @@ module _ {A : Type 0} {words text : List ℕ} {P : A → Type 0} {piece : A → 
             w.complete (length l, l) (record { above = zero-le; below = k.short }, (g, k.items)) t;
       }
 
-  pub items_turn : {n i : ℕ} {s m r : Reached} → i < n → Loop (CheckAll words text P piece) n s i m → Check words text P piece m (Some r) → Loop (CheckAll words text P piece) n s (i + 1) r
+  pub items_turn : {n i : ℕ} {s m r : Places} → i < n → Loop (CheckAll words text P piece) n s i m → Check words text P piece m (Some r) → Loop (CheckAll words text P piece) n s (i + 1) r
   items_turn h l c = loop_turn h l (all_more c)
 
-  module _ {n i : ℕ} {s m r : Reached} (e : n ≡ get_or words s.at 0) (c : Check words text (Within 0 limit) word s (Some m)) (l : Loop (CheckAll words text P piece) n m i r) where
+  module _ {n i : ℕ} {s m r : Places} (e : n ≡ get_or words s.at 0) (c : Check words text (Within 0 limit) word s (Some m)) (l : Loop (CheckAll words text P piece) n m i r) where
     pub items_end : n ≤ i → Check words text (ValidList P) (list piece) s (Some r)
     items_end h = counted e c (loop_end h l all_none)
 
     pub item_wrong : i < n → Check words text P piece r None → Check words text (ValidList P) (list piece) s None
     item_wrong h d = counted e c (loop_stop h l (all_stop d))
 
-pub count_wrong : {A : Type 0} {words text : List ℕ} {P : A → Type 0} (piece : A → Piece) {s : Reached} → Check words text (Within 0 limit) word s None → Check words text (ValidList P) (list piece) s None
+pub count_wrong : {A : Type 0} {words text : List ℕ} {P : A → Type 0} (piece : A → Piece) {s : Places} → Check words text (Within 0 limit) word s None → Check words text (ValidList P) (list piece) s None
 count_wrong piece c = check_wrong (λ l k t. no_answer (c.complete (length l) (record { above = zero-le; below = k.short }) (stands_left (word (length l)) (pieces piece l) t)))
 
 -- ---- words and bytes as they stand
@@ -199,7 +196,7 @@ part_below b xs place n f = every_below b (part xs place n) (λ i. elim (dec_lt 
 ])
 
 -- words after their count
-module _ {words text : List ℕ} {s m : Reached} {n : ℕ} (e : n ≡ get_or words s.at 0) (c : Check words text (Within 0 limit) word s (Some m)) where
+module _ {words text : List ℕ} {s m : Places} {n : ℕ} (e : n ≡ get_or words s.at 0) (c : Check words text (Within 0 limit) word s (Some m)) where
   counted_at : (m.at ≡ s.at + 1) × (m.to ≡ s.to) × (s.at < length words) × (n ≤ limit)
   counted_at =
       let p = check_passed c in
@@ -230,12 +227,12 @@ module _ {words text : List ℕ} {s m : Reached} {n : ℕ} (e : n ≡ get_or wor
       let q = here_get (length l) l t.in_words in
       omega (arith, here_length (length l ∷ l) t.in_words, counted_at))
 
-pub ints_short : {words text : List ℕ} {s : Reached} → Check words text (Within 0 limit) word s None → Check words text (ValidList Word) ints s None
+pub ints_short : {words text : List ℕ} {s : Places} → Check words text (Within 0 limit) word s None → Check words text (ValidList Word) ints s None
 ints_short c = check_wrong (λ l v t. no_answer (c.complete (length l) (record { above = zero-le; below = v.short }) (record { in_words = here_left (length l ∷ []) l t.in_words; in_text = here_none })))
 
 -- ---- strings
 
-module _ {words text : List ℕ} {s : Reached} where
+module _ {words text : List ℕ} {s : Places} where
   module _ {rest : List ℕ} (h : Rest words s.at rest) (two : 2 ≤ length rest) where
     pub string_good : ((i : ℕ) → get_or text i 0 < 256) → get_or rest 0 0 ≡ s.to → get_or rest 1 0 ≤ length text - s.to → Check words text Bytes string s (Some (record { at = s.at + 2; to = s.to + get_or rest 1 0 }))
     string_good y p q =
@@ -255,7 +252,7 @@ module _ {words text : List ℕ} {s : Reached} where
         let i : get_or rest 1 0 ≡ length x = sym (rest_item words rest s.at h 1) ∙ here_item (s.to ∷ length x ∷ []) 1 (omega arith) t.in_words in
         f (sym (rest_first words rest s.at h) ∙ here_get s.to _ t.in_words) (omega (arith, here_length x t.in_text)))
 
-module _ {words text : List ℕ} {s r : Reached} (c : Check words text Bytes string s (Some r)) where
+module _ {words text : List ℕ} {s r : Places} (c : Check words text Bytes string s (Some r)) where
   -- a string that is a name
   named : ((l : List ℕ) → Stands words text s.at s.to (string l) → r ≡ behind (string l) s → Name l) → Check words text (λ n. Name n) string s (Some r)
   named f =
@@ -266,15 +263,15 @@ module _ {words text : List ℕ} {s r : Reached} (c : Check words text Bytes str
     string_is : (l : List ℕ) → Stands words text s.at s.to (string l) → r ≡ behind (string l) s → b ≡ l
     string_is l t p = let n : r.to - s.to ≡ length l = rw p (omega arith) in f ∙ rw n (here_part l t.in_text)
 
-    pub name_good : u ≡ true → Check words text (λ n. Name n) string s (Some r)
-    name_good k = named (λ l t p. rw (string_is l t p) at (sym e ∙ k))
+    pub utf8_name : u ≡ true → Check words text (λ n. Name n) string s (Some r)
+    utf8_name k = named (λ l t p. rw (string_is l t p) at (sym e ∙ k))
 
     pub name_bad : u ≡ false → Check words text (λ n. Name n) string s None
-    name_bad z = check_wrong (λ l v t. never (e ∙ rw (string_is l t (passed c l (utf8_bytes l v) t)) v) z)
+    name_bad z = check_wrong (λ l v t. true≢false (sym (e ∙ rw (string_is l t (passed c l (utf8_bytes l v) t)) v) ∙ z))
 
   -- each name is text where all of the text is ASCII
   pub ascii_name : is_ascii text ≡ true → Check words text (λ n. Name n) string s (Some r)
   ascii_name h = named (λ l t p. utf8_ascii l (rw (here_part l t.in_text) at (part_below 0x80 text s.to (length l) (ascii_at text h))))
 
-pub name_stopped : {words text : List ℕ} {s : Reached} → Check words text Bytes string s None → Check words text (λ n. Name n) string s None
+pub name_stopped : {words text : List ℕ} {s : Places} → Check words text Bytes string s None → Check words text (λ n. Name n) string s None
 name_stopped c = check_wrong (λ l v t. no_answer (c.complete l (utf8_bytes l v) t))

@@ -1,22 +1,19 @@
 -- What stands at the places that walking finds: the lists of a function, their counts, their items, strings and constants.
-use Rattle.lent.proofs.Prelude.{ℕ, zero, suc, ◌+◌, ◌*◌, ◌≤◌, ◌<◌, ◌≡◌, refl, sym, ap, ◌∙◌, List, [], ◌∷◌, ◌++◌, true, false, cond, not, none, some, arith, add-zero, mul-suc, mul-zero, length, take, get_or, length-take-le, eqb, ne_eqb}
+use Rattle.lent.proofs.Prelude.{ℕ, zero, suc, ◌+◌, ◌*◌, ◌≤◌, ◌<◌, ◌≡◌, refl, sym, ap, ◌∙◌, List, [], ◌∷◌, ◌++◌, none, some, arith, add-zero, mul-suc, mul-zero, length, take, drop, get_or, length-take-le}
 use Rattle.std.specs.Prelude.{Some, None}
 use Rattle.std.specs.Int.{to_be_bytes}
 use Rattle.std.proofs.lemmas.Nat.{be_bytes_4}
 use mir.Syntax.{w32}
-use Rattle.format.specs.Tree.{Constant as Value, Source, Parts, Function, Functions, filled}
+use Rattle.format.specs.Tree.{Local, Source, Parts, Function, Functions}
 use Rattle.format.specs.Store.{Piece, word, ◌⊕◌, string, pieces, list, ints, source_piece, constant_piece, local_piece, debug_piece, packed, function_piece, children_piece}
-use Rattle.format.specs.Stored.{part, Here}
-use Rattle.format.specs.Constants.{value_of, constant_words}
+use Rattle.format.specs.Stored.{part}
 use Rattle.format.specs.declared.Span.{Span}
-use Rattle.format.specs.declared.Constant.{Constant}
-use Rattle.format.specs.declared.Constant.TheVariants.{Nil, Bool as Truth, Num, String}
 use Rattle.format.specs.Valid.{ValidParts}
 use Rattle.format.proofs.Stored.{here_left, here_right, here_part}
 use Rattle.proto.specs.Walk.{Stands, StandsAt, item, Skips, NthAt, Past, to_code, to_constants, to_functions, to_lines, to_locals, to_upvalues}
-use Rattle.proto.specs.Constants.{ConstantAt}
+use Rattle.proto.specs.Debug.{local_of}
 use Rattle.proto.specs.Head.{head_of}
-use Rattle.proto.proofs.Sublists.{here_get, here_item, here_front, skip_item}
+use Rattle.proto.proofs.Sublists.{here_get, here_front, skip_item}
 use Rattle.proto.proofs.Pieces.{same_sym, same_assoc, function_debug, stands_same, stands_left, stands_right, pieces_words}
 use Rattle.proto.proofs.Walks.{past_stands}
 
@@ -84,6 +81,13 @@ item_there [] i h = absurd (omega arith)
 item_there (a ∷ l) zero h = record { value = a; is = refl }
 item_there (a ∷ l) (suc i) h = let x = item_there l i (omega arith) in record { value = x.value; is = x.is }
 
+-- it and those behind it
+pub item_drop : {A : Type 0} (l : List A) (i : ℕ) {a : A} → item l i ≡ some a → drop i l ≡ a ∷ drop (suc i) l
+unfolding item
+item_drop [] i e = cc
+item_drop (b ∷ l) zero {a} e = let g : b ≡ a = cc in rw g
+item_drop (b ∷ l) (suc i) e = item_drop l i e
+
 module _ {words text : List ℕ} where
   module _ {at to : ℕ} where
     -- ---- the items of a list
@@ -135,17 +139,6 @@ module _ {words text : List ℕ} where
   pub string_here : {at to : ℕ} {z : Span} {r : List ℕ} (s : List ℕ) → z ≡ record { start = to; len = length s } → r ≡ part text z.start z.len → Stands words text at to (string s) → r ≡ s
   string_here s e q h = q ∙ rw e (here_part s h.in_text)
 
-  pub source_inherited : {at to x : ℕ} (around : List ℕ) (s : Source) → Stands words text at to (source_piece s) → x ≡ get_or words at 0 → x ≡ 0 → around ≡ filled around s
-  source_inherited around Source.inherited h e z = refl
-  source_inherited around (Source.own s) h e z = absurd (omega (arith, here_get 1 _ h.in_words))
-
-  pub source_own : {at to x a : ℕ} {r : List ℕ} (around : List ℕ) (s : Source) → Stands words text at to (source_piece s) → x ≡ get_or words at 0 → (x ≡ 0 → ⊥) → Skips words 1 at a
-      → ((b : List ℕ) (to : ℕ) → Stands words text a to (string b) → r ≡ b) → r ≡ filled around s
-  source_own around Source.inherited h e n f q = absurd (n (e ∙ here_get 0 _ h.in_words))
-  source_own {at} {to} {a = a} around (Source.own s) h e n f q =
-      let k : a ≡ at + 1 = f.skips (1 ∷ []) refl (here_left (1 ∷ []) _ h.in_words) in
-      q s (to + 0) (rw k (stands_right (word 1) (string s) h))
-
 -- ---- an item by its index, and a string
 
 -- item i of a list
@@ -166,36 +159,17 @@ string_span {to = to} s t h e f g =
     let w = h.in_words in
     rw (e ∙ here_get to _ w, skip_item (to ∷ length s ∷ []) (omega arith) w f g)
 
--- ---- constants
+-- ---- locals
 
--- the constant that three words say
-abbrev constant_from : ℕ → ℕ → ℕ → Constant
-constant_from kind a b = cond (eqb kind 0) Nil (cond (eqb kind 1) (Truth (not (eqb a 0))) (cond (eqb kind 3) (Num a b) (String (record { start = a; len = b }))))
-
-module _ {words : List ℕ} {at : ℕ} where
-  constant_from_law : (k : Value) (text : List ℕ) (to : ℕ) → Stands words text at to (constant_piece k) → let r = constant_from (get_or words at 0) (get_or words (at + 1) 0) (get_or words (at + 2) 0) in
-      (value_of text r ≡ k) × Here words at (constant_words r)
-  constant_from_law k text to h = by k h.in_words h.in_text
-    where
-      here : {u v w : ℕ} → Here words at (u ∷ v ∷ w ∷ []) → (get_or words at 0 ≡ u) × (get_or words (at + 1) 0 ≡ v) × (get_or words (at + 2) 0 ≡ w)
-      here {u} {v} {w} i = (here_get u _ i, here_item (u ∷ v ∷ w ∷ []) 1 (omega arith) i, here_item (u ∷ v ∷ w ∷ []) 2 (omega arith) i)
-
-      by : (k : Value) → Here words at ((constant_piece k).words to) → Here text to (constant_piece k).text → let r = constant_from (get_or words at 0) (get_or words (at + 1) 0) (get_or words (at + 2) 0) in
-          (value_of text r ≡ k) × Here words at (constant_words r)
-      by Value.nil i j = rw (here i).0 (refl, i)
-      by (Value.bool true) i j = rw ((here i).0, (here i).1) (refl, i)
-      by (Value.bool false) i j = rw ((here i).0, (here i).1) (refl, i)
-      by (Value.num high low) i j = rw ((here i).0, (here i).1, (here i).2) (refl, i)
-      by (Value.str s) i j = rw ((here i).0, (here i).1, (here i).2) (rw (add-zero to) (ap Value.str (here_part s j)), i)
-
-  constant_is : {r : Constant} → constant_from (get_or words at 0) (get_or words (at + 1) 0) (get_or words (at + 2) 0) ≡ r → ConstantAt words at r
-  constant_is q = record { value = λ k text to h. rw q at (constant_from_law k text to h).0; numbered = λ k text to h. rw q at (constant_from_law k text to h).1 }
-
-  pub constant_num : get_or words at 0 ≡ 3 → ConstantAt words at (Num (get_or words (at + 1) 0) (get_or words (at + 2) 0))
-  constant_num n = constant_is (rw n)
-
-  pub constant_str : (get_or words at 0 ≡ 0 → ⊥) → (get_or words at 0 ≡ 1 → ⊥) → (get_or words at 0 ≡ 3 → ⊥) → ConstantAt words at (String (record { start = get_or words (at + 1) 0; len = get_or words (at + 2) 0 }))
-  constant_str n₀ n₁ n₃ = constant_is (rw (ne_eqb _ 0 n₀, ne_eqb _ 1 n₁, ne_eqb _ 3 n₃))
+-- a name, and behind it two words
+pub local_is : {words : List ℕ} {at a b x y : ℕ} (name : Span) → ((s t : List ℕ) (to : ℕ) → Stands words t at to (string s) → name ≡ record { start = to; len = length s }) → Skips words 2 at a → x ≡ get_or words a 0 → Skips words 3 at b → y ≡ get_or words b 0
+    → (text : List ℕ) (v : Local) → StandsAt words text at (local_piece v) → local_of text (record { name = name; start = x; end = y }) ≡ v
+local_is {x = x} {y = y} name n s e s' e' text v h =
+    let l = h.to ∷ length v.name ∷ v.start ∷ v.end ∷ [] in
+    let z = stands_left (string v.name) (word v.start ⊕ word v.end) h.stands in
+    let q : x ≡ v.start = skip_item l (omega arith) h.stands.in_words s e in
+    let r : y ≡ v.end = skip_item l (omega arith) h.stands.in_words s' e' in
+    rw (n v.name text h.to z, q, r) (ap (λ (b : List ℕ). record { name = b; start = v.start; end = v.end }) (here_part v.name z.in_text))
 
 -- ---- the head of a function
 

@@ -1,7 +1,7 @@
 -- Where the lists of a function stand: each behind the one before it, the lines behind the functions; and what is kept of lines.
-use Rattle.lent.proofs.Prelude.{ℕ, zero, suc, ◌+◌, ◌*◌, ◌-◌, ◌<◌, ◌≡◌, refl, sym, ◌∙◌, List, arith, ℕ_discrete, length, get_or, set, replicate, get_or-set_same, get_or-set_other}
+use Rattle.lent.proofs.Prelude.{ℕ, suc, ◌-◌, ◌<◌, ◌≡◌, refl, sym, ◌∙◌, List, arith, ℕ_discrete, length, set, get_or-set_same, get_or-set_other}
 use Rattle.std.specs.Prelude.{Option, None, Some}
-use Rattle.std.proofs.lemmas.Option.{none-some, same_Some}
+use Rattle.std.proofs.lemmas.Option.{same_Some}
 use Rattle.format.specs.Tree.{Parts, Function, Functions, Debug, count}
 use Rattle.format.specs.Store.{list, ints, local_piece, debug_piece, function_piece}
 use Rattle.format.specs.Valid.{ValidAll}
@@ -9,27 +9,27 @@ use Rattle.proto.specs.declared.walk.Next.{Next}
 use Rattle.proto.specs.declared.lists.Lists.{Lists}
 use Rattle.proto.specs.declared.lists.Kept.{Kept}
 use Rattle.proto.specs.declared.store.Store.{Store}
-use Rattle.proto.specs.Walk.{StandsAt, Skips, Past, PassesAll, to_code, to_constants, to_functions, to_lines, to_locals}
+use Rattle.proto.specs.Walk.{StandsAt, SkipsItems, Past, PassesAll, to_code, to_constants, to_functions, to_lines, to_locals}
 use Rattle.proto.specs.Lists.{ListsAt, ListsFound, LinesAt, LinesKept, WalksToLines}
-use Rattle.proto.proofs.Walks.{past_then, past_ints, past_list, skip_items, all_none, all_more, passes_past, none_deep, pass_inside}
+use Rattle.proto.proofs.Walks.{past_then, past_ints, past_list, all_none, all_more, passes_past, none_deep, pass_inside}
 use Rattle.proto.proofs.Items.{somewhere, code_stands, constants_stand, functions_stand, lines_stand, locals_stand, upvalues_stand}
 
 -- ---- the lists of a function
 
-pub lists_found : {store : Store} {at code constants functions lines locals upvalues n m : ℕ} (allowance : ℕ)
-    → ((p : Parts) (fs : Functions) → ValidAll fs allowance → Past store.words.now (to_lines p fs) at lines) → n ≡ get_or store.words.now lines 0 → Skips store.words.now (1 + 1 * n) lines locals → m ≡ get_or store.words.now locals 0 → Skips store.words.now (1 + 4 * m) locals upvalues
+pub lists_found : {store : Store} {at code constants functions lines locals upvalues : ℕ} (allowance : ℕ)
+    → ((p : Parts) (fs : Functions) → ValidAll fs allowance → Past store.words.now (to_lines p fs) at lines) → SkipsItems store.words.now 1 lines locals → SkipsItems store.words.now 4 locals upvalues
     → ((p : Parts) (fs : Functions) → Past store.words.now (to_code p fs) at code) → ((p : Parts) (fs : Functions) → Past store.words.now (to_constants p fs) at constants) → ((p : Parts) (fs : Functions) → Past store.words.now (to_functions p fs) at functions)
     → (p : Parts) (fs : Functions) → ValidAll fs allowance
     → ListsFound at p fs (record { store = store; code = code; constants = constants; functions = functions; lines = lines; locals = locals; upvalues = upvalues })
-lists_found allowance li e lo f up co ks fu p fs v =
-    let to-locals = past_then {p = to_lines p fs} {q = ints p.debug.lines} (li p fs v) (past_ints p.debug.lines (skip_items 1 e lo)) in
+lists_found allowance li lo up co ks fu p fs v =
+    let to-locals = past_then {p = to_lines p fs} {q = ints p.debug.lines} (li p fs v) (past_ints p.debug.lines lo) in
     record {
       code = co p fs;
       constants = ks p fs;
       functions = fu p fs;
       lines = li p fs v;
       locals = to-locals;
-      upvalues = past_then {p = to_locals p fs} {q = list local_piece p.debug.locals} to-locals (past_list local_piece 4 (λ a to. refl) p.debug.locals (skip_items 4 f up));
+      upvalues = past_then {p = to_locals p fs} {q = list local_piece p.debug.locals} to-locals (past_list local_piece 4 (λ a to. refl) p.debug.locals up);
     }
 
 -- where the function stands, so do its lists
@@ -45,15 +45,7 @@ lists_stand {at = at} p fs e h l =
       upvalues = somewhere (upvalues_stand p fs s l.upvalues);
     }
 
-none_at : (n k : ℕ) → get_or {A = Option Kept} (replicate n None) k None ≡ None
-none_at zero k = refl
-none_at (suc n) zero = refl
-none_at (suc n) (suc k) = none_at n k
-
--- ---- what is kept of lines: nothing at first, and one thing more
-
-pub kept_none : {words : List ℕ} (n : ℕ) → LinesKept words (replicate n None)
-kept_none n = record { kept = λ k x h. absurd (none-some x (sym (none_at n k) ∙ h)) }
+-- ---- what is kept of lines: one thing more
 
 pub kept_more : {words : List ℕ} {kept : List (Option Kept)} {k at r : ℕ} → k < length kept → LinesKept words kept → LinesAt words k at r → LinesKept words (set kept k (Some (record { begin = at; lines = r })))
 kept_more {kept = kept} {k} {at} {r} h w l = record {
@@ -69,11 +61,6 @@ kept_more {kept = kept} {k} {at} {r} h w l = record {
 
 pub walked : {words : List ℕ} {allowance : ℕ} {s r : Next} → WalksToLines words allowance s r → LinesAt words allowance s.at r.at
 walked w = record { past = λ p fs v. passes_past (w p fs v) }
-
--- and they are kept
-pub walked_kept : {words : List ℕ} {kept kept' : List (Option Kept)} {allowance : ℕ} {s r : Next} → ((ws : List ℕ) → LinesKept ws kept → LinesAt ws allowance s.at r.at → LinesKept ws kept')
-    → LinesKept words kept → WalksToLines words allowance s r → WalksToLines words allowance s r × LinesKept words kept'
-walked_kept keeps k w = (w, keeps _ k (walked w))
 
 pub all_zero : {words : List ℕ} {i n : ℕ} {s : Next} → i ≡ 0 → PassesAll words n i s s
 all_zero e = rw e all_none

@@ -2,15 +2,12 @@
 use Rattle.lent.proofs.Prelude.{ℕ, ◌+◌, ◌*◌, ◌≡◌, refl, sym, ◌∙◌, List, [], ◌∷◌, append_assoc, arith, add_assoc, mul-zero, mul-suc, length, length-append}
 use Rattle.format.specs.Tree.{Constant, Source, Parts, Function, Functions}
 use Rattle.format.specs.Store.{Piece, word, ◌⊕◌, pieces, list, ints, source_piece, constant_piece, debug_piece, packed, function_piece, children_piece}
+pub use Rattle.format.proofs.Pieces.{Same, same_assoc}
 use Rattle.format.proofs.Stored.{here_left, here_right}
 use Rattle.proto.specs.Walk.{Stands, to_lines}
 use Rattle.proto.proofs.Sublists.{here_join}
 
 -- ---- two pieces that read the same
-
-pub record Same (p q : Piece) : Type 0 where
-  pub words : (to : ℕ) → p.words to ≡ q.words to
-  pub text : p.text ≡ q.text
 
 pub same_refl : {p : Piece} → Same p p
 same_refl = record { words = λ to. refl; text = refl }
@@ -26,9 +23,6 @@ same_trans s t = record { words = λ to. s.words to ∙ t.words to; text = s.tex
 
 pub same_behind : (p : Piece) {q r : Piece} → Same q r → Same (p ⊕ q) (p ⊕ r)
 same_behind p s = record { words = λ to. rw (s.words (to + length p.text)); text = rw s.text }
-
-pub same_assoc : (p q r : Piece) → Same ((p ⊕ q) ⊕ r) (p ⊕ q ⊕ r)
-same_assoc p q r = record { words = λ to. simp (append_assoc, length-append, add_assoc); text = simp append_assoc }
 
 regroup : (s a b c code ks fs d : Piece) → Same (s ⊕ a ⊕ b ⊕ c ⊕ code ⊕ ks ⊕ fs ⊕ d) (((((s ⊕ a ⊕ b ⊕ c) ⊕ code) ⊕ ks) ⊕ fs) ⊕ d)
 regroup s a b c code ks fs d = record { words = λ to. simp (append_assoc, length-append, add_assoc); text = simp append_assoc }

@@ -1,6 +1,9 @@
 -- Each function that function_at finds stands in the store, well formed, and its source stands where its span says. So source_at and source answer as defined.
 use Rattle.lent.proofs.Prelude.{ℕ, zero, suc, ◌+◌, ◌-◌, ◌<◌, ◌≡◌, refl, sym, ap, ◌∙◌, List, [], ◌∷◌, Bool, true, false, cond, none, some, arith, add-zero, length, take-length, eqb, eqb-true}
 use Rattle.std.specs.Prelude.{Result, Ok, Err}
+use Rattle.std.specs.Option.{ok_or}
+use Rattle.std.specs.ControlFlow.{break_value}
+use Rattle.std.specs.declared.ops.ControlFlow.{ControlFlow}
 use Rattle.lent.specs.Memory.{Every}
 use Rattle.lent.proofs.Lists.{every_append}
 use Rattle.format.specs.Tree.{Source, Parts, Function, Functions, count}
@@ -11,6 +14,7 @@ use Rattle.format.specs.Valid.{depth, Valid, ValidAll, Holds}
 use Rattle.format.specs.Dump.{on_tree, name_refusal, store_refusal}
 use Rattle.format.specs.Refusal.{number}
 use Rattle.format.specs.declared.Refusal.{Refusal}
+use Rattle.format.specs.declared.Refusal.TheVariants.{NoFunction}
 use Rattle.format.proofs.Refusals.{refusal_above, name_good, by_name}
 use Rattle.format.proofs.Stored.{here_part, tree_holds, holds_tree}
 use Rattle.proto.specs.declared.place.SourceSpan.{SourceSpan}
@@ -31,7 +35,7 @@ Sourced text name source (Text start end) = part text start (end - start) ≡ so
 Sourced text name source (Name start end) = part name start (end - start) ≡ source
 
 -- a function that begins at a place stands there, with at most so many nested
-pub record StandsIn (words text name : List ℕ) (allowance : ℕ) (x : Placed) : Type 0 where
+pub record PlacedIn (words text name : List ℕ) (allowance : ℕ) (x : Placed) : Type 0 where
   pub to : ℕ
   pub stands : Stands words text x.place to (function_piece x.function)
   pub valid : Valid x.function allowance
@@ -72,7 +76,7 @@ module _ {words text : List ℕ} (name : List ℕ) (allowance : ℕ) where
     unfolding placed Valid Every function_pieces
 
     placed_stands : (f : Function) (n at to : ℕ) (around : Filled) → Valid f n → ((g : Function) → Valid g n → Valid g allowance)
-        → Stands words text at to (function_piece f) → Sourced text name around.bytes around.span → Every (StandsIn words text name allowance) (placed f at to around)
+        → Stands words text at to (function_piece f) → Sourced text name around.bytes around.span → Every (PlacedIn words text name allowance) (placed f at to around)
     placed_stands (Function.function p fs) zero at to around v up h k = absurd v
     placed_stands (Function.function p fs) (suc n) at to around v up h k =
         let j = filled_sourced name around p.source (source_stands p fs h) k in (
@@ -81,10 +85,10 @@ module _ {words text : List ℕ} (name : List ℕ) (allowance : ℕ) where
         )
 
     all_stand : (fs : Functions) (n at to : ℕ) (around : Filled) → ValidAll fs n → ((g : Function) → Valid g n → Valid g allowance)
-        → Stands words text at to (function_pieces fs) → Sourced text name around.bytes around.span → Every (StandsIn words text name allowance) (placed_all fs at to around)
+        → Stands words text at to (function_pieces fs) → Sourced text name around.bytes around.span → Every (PlacedIn words text name allowance) (placed_all fs at to around)
     all_stand Functions.none n at to around v up h k = tt
     all_stand (Functions.more f fs) n at to around v up h k =
-        every_append (StandsIn words text name allowance) (placed f at to around) _
+        every_append (PlacedIn words text name allowance) (placed f at to around) _
         (placed_stands f n at to around v.0 up (stands_left (function_piece f) (function_pieces fs) h) k)
         (all_stand fs n _ _ around v.1 up (stands_right (function_piece f) (function_pieces fs) h) k)
 
@@ -99,16 +103,15 @@ begins_every P place (y ∷ l) x h e =
 
 -- ==== the statement: where function_at finds a function, it stands there
 
-pub function_stands : {words text : List ℕ} (name : List ℕ) {f : Function} (place : ℕ) (x : Placed) → Holds words text f → function_at f name place ≡ some x → StandsIn words text name depth x × (x.place ≡ place)
+pub function_stands : {words text : List ℕ} (name : List ℕ) {f : Function} (place : ℕ) (x : Placed) → Holds words text f → function_at f name place ≡ some x → PlacedIn words text name depth x × (x.place ≡ place)
 function_stands {text = text} name {f} place x h e =
     begins_every _ place (placed f 0 0 (chunk_name name)) x (placed_stands name depth f depth 0 0 (chunk_name name) h.valid (λ g v. v) (root_stands h) (named_sourced text name)) e
 
 -- ---- the calls
 
 -- the answer for what the search finds
-abbrev pub sought_answer : Result SourceSpan ℕ → SourceAt
-sought_answer (Ok z) = span_answer z
-sought_answer (Err behind) = no_source 12
+abbrev sought_answer : ControlFlow SourceSpan ℕ → SourceAt
+sought_answer r = source_result (ok_or (break_value r) NoFunction)
 
 -- a call on a function of a store
 abbrev called : {A : Type 0} → (ℕ → A) → (Placed → A) → List ℕ → List ℕ → List ℕ → ℕ → A
@@ -132,7 +135,8 @@ module _ (words text name : List ℕ) (place : ℕ) where
       no_tree words text (λ t. no_source (number e) ≡ on_tree no_source (λ f. on_function no_source (λ x. span_answer x.source.span) (function_at f name place)) t) (refusal_above e) h (λ k. rw k)
 
   -- what the search finds
-  pub find_sought : {r : Result SourceSpan ℕ} → 0 ≡ store_refusal words text → ((f : Function) → Valid f depth → Search words place (chunk_name name).span f 0 r) → sought_answer r ≡ found_answer words text name place
+  pub find_sought : {r : ControlFlow SourceSpan ℕ} → 0 ≡ store_refusal words text → ((f : Function) → Valid f depth → Search words place (chunk_name name).span f 0 r)
+      → sought_answer r ≡ found_answer words text name place
   unfolding found_answer
   find_sought {r} e s =
       held_tree words text (λ t. sought_answer r ≡ on_tree no_source (λ f. on_function no_source (λ x. span_answer x.source.span) (function_at f name place)) t) e
@@ -156,11 +160,11 @@ place_found words text place =
     (λ f x h b. rw (holds_tree h, b) (span_0 x.source.span))
 
 -- of what was found, or is refused
-pub place_here : (words text : List ℕ) (place : ℕ) (z : SourceSpan) → span_answer z ≡ found_answer words text [] place → 0 ≡ place_refusal words text place
-place_here words text place z e = sym (span_0 z) ∙ ap (λ (a : SourceAt). a.refusal) e ∙ place_found words text place
+pub place_here : {name : List ℕ} (words text : List ℕ) (place : ℕ) (z : SourceSpan) → name ≡ [] → source_result (Ok z) ≡ found_answer words text name place → 0 ≡ place_refusal words text place
+place_here words text place z n e = sym (span_0 z) ∙ ap (λ (a : SourceAt). a.refusal) (rw n at e) ∙ place_found words text place
 
-pub place_refused : (words text : List ℕ) (place : ℕ) (n : ℕ) → no_source n ≡ found_answer words text [] place → n ≡ place_refusal words text place
-place_refused words text place n e = ap (λ (a : SourceAt). a.refusal) e ∙ place_found words text place
+pub place_refused : {name : List ℕ} (words text : List ℕ) (place : ℕ) (e : Refusal) → name ≡ [] → source_result (Err e) ≡ found_answer words text name place → number e ≡ place_refusal words text place
+place_refused words text place x n e = ap (λ (a : SourceAt). a.refusal) (rw n at e) ∙ place_found words text place
 
 -- what a call on the function at a place finds, where it is not refused
 pub record On (words text : List ℕ) (place : ℕ) : Type 0 where

@@ -10,13 +10,13 @@ use Rattle.format.specs.Stored.{tree_of}
 use Rattle.format.specs.Dump.{on_tree, store_refusal}
 use Rattle.format.specs.Valid.{depth, most, Name, ValidSource, ValidConstant, ValidLocal, ValidList, ValidDebug, ValidParts, Valid, ValidAll, Holds}
 use Rattle.format.proofs.Stored.{holds_tree, tree_holds}
-use Rattle.proto.specs.declared.formed.Reached.{Reached}
+use Rattle.proto.specs.declared.formed.Places.{Places}
 use Rattle.proto.specs.Walk.{Stands, children}
 use Rattle.proto.specs.Formed.{behind, Both, beside, Check, Within, three, Three, ValidChildren}
 use Rattle.proto.proofs.Sublists.{here_get, here_whole, whole_here}
 use Rattle.proto.proofs.Pieces.{same_refl, same_is}
 use Rattle.proto.proofs.Walks.{none_deep}
-use Rattle.proto.proofs.Checks.{no_answer, As, check_wrong, check_as, check_of}
+use Rattle.proto.proofs.Checks.{no_answer, As, check_wrong, check_as, check_of, check_then, check_stop}
 
 -- the first word of a constant
 abbrev kind_of : Constant → ℕ
@@ -37,8 +37,8 @@ bit_small false = omega arith
 module _ {words text : List ℕ} where
   -- ---- sources
 
-  pub source_inherited : {x : ℕ} {s : Reached} {r : Answer Reached} → x ≡ get_or words s.at 0 → x ≡ 0 → Check words text (Three 0 0 0) three s r → Check words text ValidSource source_piece s r
-  source_inherited e z c =
+  pub inherited_checked : {x : ℕ} {s : Places} {r : Answer Places} → x ≡ get_or words s.at 0 → x ≡ 0 → Check words text (Three 0 0 0) three s r → Check words text ValidSource source_piece s r
+  inherited_checked e z c =
       check_as
       (λ w k.
       let e₂ : w.second ≡ 0 = omega (arith, k.second) in
@@ -50,15 +50,21 @@ module _ {words text : List ℕ} where
       ])
       c
 
-  pub source_own : {x : ℕ} {s : Reached} {r : Answer Reached} → x ≡ get_or words s.at 0 → (x ≡ 0 → ⊥) → Check words text (Both (Within 1 1) (λ n. Name n)) (beside word string) s r → Check words text ValidSource source_piece s r
+  pub own_checked : {x : ℕ} {s : Places} {r : Answer Places} → x ≡ get_or words s.at 0 → 0 < x → Check words text (Both (Within 1 1) (λ n. Name n)) (beside word string) s r → Check words text ValidSource source_piece s r
   unfolding Both beside
-  source_own e z c =
+  own_checked e z c =
       check_as (λ v k. let g : v.0 ≡ 1 = omega (arith, k.0.above, k.0.below) in record { value = Source.own v.1; valid = k.1; same = rw g same_refl })
       (elim [
-        | Source.inherited ↦ λ k h. absurd (z (e ∙ here_get 0 _ h.in_words))
+        | Source.inherited ↦ λ k h. absurd (omega (arith, here_get 0 _ h.in_words))
         | Source.own l ↦ λ k h. record { value = (1, l); valid = (record { above = omega arith; below = omega arith }, k); same = same_refl }
       ])
       c
+
+  pub own_then : {x : ℕ} {s m : Places} {r : Answer Places} → x ≡ get_or words s.at 0 → 0 < x → Check words text (Within 1 1) word s (Some m) → Check words text (λ n. Name n) string m r → Check words text ValidSource source_piece s r
+  own_then e z c d = own_checked e z (check_then c d)
+
+  pub own_stop : {x : ℕ} {s : Places} → x ≡ get_or words s.at 0 → 0 < x → Check words text (Within 1 1) word s None → Check words text ValidSource source_piece s None
+  own_stop e z c = own_checked e z (check_stop _ _ c)
 
   -- ---- constants
 
@@ -68,7 +74,7 @@ module _ {words text : List ℕ} where
   kind_here (Constant.num high low) h = here_get 3 _ h.in_words
   kind_here (Constant.str s) h = here_get 4 _ h.in_words
 
-  module _ {x : ℕ} {s : Reached} {r : Answer Reached} (e : x ≡ get_or words s.at 0) where
+  module _ {x : ℕ} {s : Places} {r : Answer Places} (e : x ≡ get_or words s.at 0) where
     -- nil and false take no second word but 0, and true takes 1
     pub constant_plain : x ≤ 1 → Check words text (Three x x 0) three s r → Check words text ValidConstant constant_piece s r
     constant_plain h c = check_as (λ w k. let z : w.third ≡ 0 = omega (arith, k.third) in rw z (to w.first w.second (omega (arith, k.is)) (omega (arith, k.is, k.second)))) from c
@@ -87,8 +93,8 @@ module _ {words text : List ℕ} where
         from (Constant.num high low) k t = absurd (omega (arith, kind_here (Constant.num high low) t))
         from (Constant.str l) k t = absurd (omega (arith, kind_here (Constant.str l) t))
 
-    pub constant_num : x ≡ 3 → Check words text (Three 3 4294967295 4294967295) three s r → Check words text ValidConstant constant_piece s r
-    constant_num z c =
+    pub num_checked : x ≡ 3 → Check words text (Three 3 4294967295 4294967295) three s r → Check words text ValidConstant constant_piece s r
+    num_checked z c =
         check_as (λ w k. record { value = Constant.num w.second w.third; valid = (omega (arith, k.second), omega (arith, k.third)); same = rw k.is same_refl })
         (elim [
           | Constant.nil ↦ λ k h. absurd (omega (arith, kind_here Constant.nil h))
@@ -99,9 +105,9 @@ module _ {words text : List ℕ} where
         c
 
     -- none of the kinds above
-    pub constant_str : (x ≡ 0 → ⊥) → (x ≡ 1 → ⊥) → (x ≡ 3 → ⊥) → Check words text (Both (Within 4 4) Bytes) (beside word string) s r → Check words text ValidConstant constant_piece s r
+    pub str_checked : (x ≡ 0 → ⊥) → (x ≡ 1 → ⊥) → (x ≡ 3 → ⊥) → Check words text (Both (Within 4 4) Bytes) (beside word string) s r → Check words text ValidConstant constant_piece s r
     unfolding Both beside
-    constant_str n₀ n₁ n₃ c =
+    str_checked n₀ n₁ n₃ c =
         check_as (λ v k. let g : v.0 ≡ 4 = omega (arith, k.0.above, k.0.below) in record { value = Constant.str v.1; valid = k.1; same = rw g same_refl })
         (elim [
           | Constant.nil ↦ λ k t. absurd (n₀ (e ∙ kind_here Constant.nil t))
@@ -111,9 +117,15 @@ module _ {words text : List ℕ} where
         ])
         c
 
+    pub str_then : {m : Places} → (x ≡ 0 → ⊥) → (x ≡ 1 → ⊥) → (x ≡ 3 → ⊥) → Check words text (Within 4 4) word s (Some m) → Check words text Bytes string m r → Check words text ValidConstant constant_piece s r
+    str_then n₀ n₁ n₃ c d = str_checked n₀ n₁ n₃ (check_then c d)
+
+  pub str_stop : {x : ℕ} {s : Places} → x ≡ get_or words s.at 0 → (x ≡ 0 → ⊥) → (x ≡ 1 → ⊥) → (x ≡ 3 → ⊥) → Check words text (Within 4 4) word s None → Check words text ValidConstant constant_piece s None
+  str_stop e n₀ n₁ n₃ c = str_checked e n₀ n₁ n₃ (check_stop _ _ c)
+
   -- ---- locals
 
-  pub local_checked : {s : Reached} {r : Answer Reached} → Check words text (Both (λ n. Name n) (Both Word Word)) (beside string (beside word word)) s r → Check words text ValidLocal local_piece s r
+  pub local_checked : {s : Places} {r : Answer Places} → Check words text (Both (λ n. Name n) (Both Word Word)) (beside string (beside word word)) s r → Check words text ValidLocal local_piece s r
   unfolding Both beside
   local_checked c =
       check_as
@@ -156,7 +168,7 @@ pub children_list : (fs : Functions) → list function_piece (children fs) ≡ c
 children_list fs = rw (children_count fs, children_pieces fs)
 
 module _ {words text : List ℕ} where
-  pub children_checked : {s : Reached} {r : Answer Reached} {n : ℕ} → Check words text (ValidList (λ f. Valid f n)) (list function_piece) s r → Check words text (ValidChildren n) children_piece s r
+  pub children_checked : {s : Places} {r : Answer Places} {n : ℕ} → Check words text (ValidList (λ f. Valid f n)) (list function_piece) s r → Check words text (ValidChildren n) children_piece s r
   children_checked {n = n} c =
       check_as
       (λ l k.
@@ -173,7 +185,7 @@ module _ {words text : List ℕ} where
 -- ---- functions
 
 module _ {words text : List ℕ} where
-  pub debug_checked : {s : Reached} {r : Answer Reached} → Check words text (Both (ValidList Word) (Both (ValidList ValidLocal) (ValidList (λ n. Name n)))) (beside ints (beside (list local_piece) (list string))) s r
+  pub debug_checked : {s : Places} {r : Answer Places} → Check words text (Both (ValidList Word) (Both (ValidList ValidLocal) (ValidList (λ n. Name n)))) (beside ints (beside (list local_piece) (list string))) s r
       → Check words text ValidDebug debug_piece s r
   unfolding Both beside
   debug_checked c =
@@ -212,7 +224,7 @@ word_packed p v = omega arith
 
 module _ {words text : List ℕ} where
   -- its parts, one behind the other
-  pub function_checked : {allowance : ℕ} {s : Reached} {r : Answer Reached} → (allowance ≡ 0 → ⊥)
+  pub function_checked : {allowance : ℕ} {s : Places} {r : Answer Places} → (allowance ≡ 0 → ⊥)
       → Check words text
       (Both ValidSource (Both AnyWord (Both AnyWord (Both AnyWord (Both (ValidList Word) (Both (ValidList ValidConstant) (Both (ValidChildren (allowance - 1)) ValidDebug)))))))
       (beside source_piece (beside word (beside word (beside word (beside ints (beside (list constant_piece) (beside children_piece debug_piece)))))))
@@ -255,7 +267,7 @@ module _ {words text : List ℕ} where
         }
       ]))
 
-  pub function_deep : {n : ℕ} {s : Reached} → n ≡ 0 → Check words text (λ f. Valid f n) function_piece s None
+  pub function_deep : {n : ℕ} {s : Places} → n ≡ 0 → Check words text (λ f. Valid f n) function_piece s None
   function_deep e = check_wrong (λ f k t. none_deep e f k)
 
 -- ---- a whole store
@@ -273,7 +285,7 @@ pub held_no : (words text : List ℕ) → ((f : Function) → Holds words text f
 held_no words text k =
     (elim (tree_of words text) as (λ x. tree_of words text ≡ x → 10 ≡ on_tree (λ n. n) (λ f. 0) x) [ none ↦ λ e. refl | some f ↦ λ e. absurd (k f (tree_holds words text f e)) ]) refl
 
-module _ {words text : List ℕ} {r : Answer Reached} (c : Check words text (λ f. Valid f depth) function_piece (record { at = 0; to = 0 }) r) where
+module _ {words text : List ℕ} {r : Answer Places} (c : Check words text (λ f. Valid f depth) function_piece (record { at = 0; to = 0 }) r) where
   -- what holds a tree is passed to its end
   pub store_passed : (f : Function) → Holds words text f → r ≡ Some (record { at = length words; to = length text })
   store_passed f h =
@@ -294,12 +306,12 @@ module _ {words text : List ℕ} {r : Answer Reached} (c : Check words text (λ 
   store_no n = held_no words text (λ f h. n (store_passed f h))
 
   -- the test that it is passed to its end, by a test of places
-  module _ {b : Bool} (E : Reached → Reached → Bool) (d : (x y : Reached) → E x y ≡ (eqb x.at y.at && eqb x.to y.to)) (e : b ≡ option_eq E r (Some (record { at = length words; to = length text })))
+  module _ {b : Bool} (E : Places → Places → Bool) (d : (x y : Places) → E x y ≡ (eqb x.at y.at && eqb x.to y.to)) (e : b ≡ option_eq E r (Some (record { at = length words; to = length text })))
       (k : length words ≤ most) (l : length text ≤ most) where
     store_answer : cond b 0 10 ≡ store_refusal words text
     store_answer = rw e (go r refl)
       where
-        go : (x : Answer Reached) → r ≡ x → cond (option_eq E x (Some (record { at = length words; to = length text }))) 0 10 ≡ store_refusal words text
+        go : (x : Answer Places) → r ≡ x → cond (option_eq E x (Some (record { at = length words; to = length text }))) 0 10 ≡ store_refusal words text
         go None h = store_no (λ z. no_answer (sym h ∙ z))
         go (Some q) h =
             rw d

@@ -1,7 +1,9 @@
 -- A list that stands at a place of another: its length, its items, and two of them one behind the other.
-use Rattle.lent.proofs.Prelude.{ℕ, ◌+◌, ◌-◌, ◌≤◌, ◌<◌, ◌≡◌, refl, sym, ap, ◌∙◌, List, [], ◌∷◌, ◌++◌, append_assoc, append-nil, arith, length, take, drop, get_or, length-append, length-drop, take-append-drop, get_or-append, drop_at, drop-drop, get_or-drop, length-take-le}
+use Rattle.lent.proofs.Prelude.{ℕ, ◌+◌, ◌-◌, ◌≤◌, ◌<◌, min, ◌≡◌, refl, sym, ap, ◌∙◌, List, [], ◌∷◌, ◌++◌, append_assoc, append-nil, arith, length, take, drop, get_or, length-append, length-drop, take-append-drop, get_or-append, drop_at, drop-drop, get_or-drop, length-take-le}
+use Rattle.std.proofs.lemmas.List.{nil_from_length}
+use Rattle.lent.specs.Memory.{far}
 use Rattle.format.specs.Stored.{Here}
-use Rattle.lent.proofs.Lists.{drop_more}
+use Rattle.std.proofs.lemmas.List.{drop_more}
 use Rattle.format.proofs.Stored.{here_left}
 use Rattle.proto.specs.Walk.{Skips}
 
@@ -19,7 +21,7 @@ module _ {xs : List ℕ} {at : ℕ} where
   here_none = record { more = drop at xs; is = refl }
 
   pub here_one : at < length xs → Here xs at (get_or xs at 0 ∷ [])
-  here_one h = record { more = drop (at + 1) xs; is = drop_more xs at h }
+  here_one h = record { more = drop (at + 1) xs; is = drop_more xs at 0 h }
 
   pub here_join : (s t : List ℕ) → Here xs at s → Here xs (at + length s) t → Here xs at (s ++ t)
   here_join s t h k =
@@ -37,6 +39,10 @@ module _ {xs : List ℕ} {at : ℕ} where
   pub here_take : (n : ℕ) → Here xs at (take n (drop at xs))
   here_take n = record { more = drop n (drop at xs); is = sym (take-append-drop n (drop at xs)) }
 
+-- where n words stand, there are so many from the place to the end, and no place stops
+pub skips_all : {xs : List ℕ} {n at r : ℕ} → length xs ≤ far → at ≤ far → r ≡ min (at + n) far → Skips xs n at r
+skips_all f k e = record { skips = λ l g h. omega (arith, here_length l h) }
+
 -- two words, and three
 pub here_two : {xs : List ℕ} {at : ℕ} → at + 2 ≤ length xs → Here xs at (get_or xs at 0 ∷ get_or xs (at + 1) 0 ∷ [])
 here_two {xs} {at} h = here_join (get_or xs at 0 ∷ []) (get_or xs (at + 1) 0 ∷ []) (here_one (omega arith)) (here_one (omega arith))
@@ -46,14 +52,10 @@ here_three {xs} {at} h =
     let e : at + 1 + 1 ≡ at + 2 = omega arith in
     here_join (get_or xs at 0 ∷ []) (get_or xs (at + 1) 0 ∷ get_or xs (at + 2) 0 ∷ []) (here_one (omega arith)) (rw e at (here_two {xs = xs} {at = at + 1} (omega arith)))
 
-nil_of : (l : List ℕ) → length l ≡ 0 → l ≡ []
-nil_of [] e = refl
-nil_of (x ∷ l) e = absurd (omega arith)
-
 -- a list as long as the one it begins is that one
 pub here_whole : (xs l : List ℕ) → Here xs 0 l → length l ≡ length xs → l ≡ xs
 here_whole xs l h e =
-    let m : h.more ≡ [] = nil_of h.more (omega (arith, here_length l h)) in
+    let m : h.more ≡ [] = nil_from_length h.more (omega (arith, here_length l h)) in
     sym (append-nil l) ∙ rw (← m) (sym h.is)
 
 pub whole_here : (l xs : List ℕ) → l ≡ xs → Here xs 0 l

@@ -88,7 +88,7 @@ module _ {words : List ℕ} where
   unfolding function_pieces count ValidAll total_all
   all_more w k r a = record { all = elim [ Functions.none ↦ λ v e. absurd (omega arith) | Functions.more f fs ↦ λ v e. passes_then (w f v.0) (a.all fs v.1 (omega arith)) ] }
 
-  -- past all functions in a function, as many as the count says
+  -- from a function to its lines: to the functions in it, and past as many as the count says
   pub passes_lines : {allowance i a : ℕ} {s m r : Next} → i ≡ get_or words a 0 → ((p : Parts) (fs : Functions) → Past words (to_functions p fs) s.at a) → Skips words 1 a m.at
       → m.number ≡ min (s.number + 1) far → PassesAll words allowance i m r → WalksToLines words allowance s r
   passes_lines {a = a} {s = s} {m = m} e w k g all p fs v =
@@ -119,12 +119,7 @@ pub valid_inside : {n : ℕ} → (n ≡ 0 → ⊥) → (p : Parts) (fs : Functio
 unfolding Valid
 valid_inside {n} z p fs v = let e : n ≡ suc (n - 1) = omega arith in (rw e at v).2
 
--- from a function to its lines: to the functions in it, and past as many as the count says
-pub to_lines : {words : List ℕ} {allowance i a b x : ℕ} {s r : Next} → ((p : Parts) (fs : Functions) → Past words (to_functions p fs) s.at a) → i ≡ get_or words a 0 → Skips words 1 a b
-    → x ≡ min (s.number + 1) far → PassesAll words allowance i (record { at = b; number = x }) r → WalksToLines words allowance s r
-to_lines w e k x all = passes_lines e w k x all
-
--- past it: and past the debug lists
+-- past a function: to its lines, and past the debug lists
 pub pass_inside : {words : List ℕ} {allowance k : ℕ} {s m : Next} → (allowance ≡ 0 → ⊥) → WalksToLines words (allowance - 1) s m → ((d : Debug) → Past words (debug_piece d) m.at k)
     → (f : Function) → Valid f allowance → Passes words (function_piece f) (total f) s (record { at = k; number = m.number })
 pass_inside {allowance = allowance} z w d = let y : allowance ≡ suc (allowance - 1) = omega arith in rw y (passes_function (allowance - 1) w d refl)

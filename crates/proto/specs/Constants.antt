@@ -9,6 +9,7 @@ use Rattle.format.specs.declared.Constant.{Constant}
 use Rattle.proto.specs.Walk.{Stands}
 
 -- an Option that was answered, and what its value stands for
+-- Code's Option and the logic's are two types. One for both is no plainer: item and tree_of answer the logic's, in the definitions of nine crates, and read would stay, as option_map.
 abbrev pub read : {A B : Type 0} → (A → B) → Answer A → Option B
 read f None = none
 read f (Some a) = some (f a)

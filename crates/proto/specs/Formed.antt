@@ -5,23 +5,23 @@ use Rattle.format.specs.Read.{limit}
 use Rattle.format.specs.Store.{Piece, ◌⊕◌, plain}
 use Rattle.format.specs.Valid.{ValidAll}
 use Rattle.proto.specs.Walk.{Stands}
-use Rattle.proto.specs.declared.formed.Reached.{Reached}
+use Rattle.proto.specs.declared.formed.Places.{Places}
 
 -- ---- a step of the check
 
 -- a valid value, whose piece stands there
-pub record Found {A : Type 0} (words text : List ℕ) (ok : A → Type 0) (piece : A → Piece) (s : Reached) : Type 0 where
+pub record Found {A : Type 0} (words text : List ℕ) (ok : A → Type 0) (piece : A → Piece) (s : Places) : Type 0 where
   pub value : A
   pub valid : ok value
   pub stands : Stands words text s.at s.to (piece value)
 
 -- the places behind a piece
-abbrev pub behind : Piece → Reached → Reached
+abbrev pub behind : Piece → Places → Places
 behind p s = record { at = s.at + length (p.words s.to); to = s.to + length p.text }
 
 -- what a step from s answers: the places behind a valid value where one stands, and else None
-pub record Check {A : Type 0} (words text : List ℕ) (ok : A → Type 0) (piece : A → Piece) (s : Reached) (r : Answer Reached) : Type 0 where
-  pub sound : (q : Reached) → r ≡ Some q → Found words text ok piece s
+pub record Check {A : Type 0} (words text : List ℕ) (ok : A → Type 0) (piece : A → Piece) (s : Places) (r : Answer Places) : Type 0 where
+  pub sound : (q : Places) → r ≡ Some q → Found words text ok piece s
   pub complete : (a : A) → ok a → Stands words text s.at s.to (piece a) → r ≡ Some (behind (piece a) s)
 
 -- what a test of room says: n items from a place on are within so many, or they are not

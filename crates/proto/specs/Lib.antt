@@ -5,3 +5,4 @@ pub mod Formed
 pub mod Places
 pub mod Constants
 pub mod Head
+pub mod Debug

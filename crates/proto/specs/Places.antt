@@ -1,6 +1,8 @@
 -- The functions of a tree in its store: where each begins, and its source.
 use Rattle.std.specs.Prelude.{ℕ, ◌+◌, ◌≡◌, List, [], ◌∷◌, ◌++◌, cond, length, eqb, Result, Ok, Err}
 use Rattle.std.proofs.Math.Option.{Option, none, some}
+use Rattle.std.specs.declared.ops.ControlFlow.{ControlFlow}
+use Rattle.std.specs.declared.ops.ControlFlow.TheVariants.{Continue, Break}
 use Rattle.format.specs.Tree.{Source, Function, Functions, filled}
 use Rattle.format.specs.Store.{function_piece}
 use Rattle.format.specs.Stored.{tree_of, Here}
@@ -62,11 +64,11 @@ function_at f name place = begins_at place (placed f 0 0 (chunk_name name))
 -- ---- the search
 
 -- what it answers: where the function's source stands, or else the place behind those searched
-abbrev pub Seeks : Option Placed → ℕ → Result SourceSpan ℕ → Type 0
-Seeks none end r = r ≡ Err end
-Seeks (some x) end r = r ≡ Ok x.source.span
+abbrev pub Seeks : Option Placed → ℕ → ControlFlow SourceSpan ℕ → Type 0
+Seeks none end r = r ≡ Continue end
+Seeks (some x) end r = r ≡ Break x.source.span
 
-pub record Search (words : List ℕ) (place : ℕ) (around : SourceSpan) (f : Function) (at : ℕ) (r : Result SourceSpan ℕ) : Type 0 where
+pub record Search (words : List ℕ) (place : ℕ) (around : SourceSpan) (f : Function) (at : ℕ) (r : ControlFlow SourceSpan ℕ) : Type 0 where
   pub seeks : (to : ℕ) (bytes : List ℕ) → Here words at ((function_piece f).words to)
       → Seeks (begins_at place (placed f at to (record { bytes = bytes; span = around }))) (at + length ((function_piece f).words to)) r
 

@@ -2,7 +2,8 @@
 use Rattle.std.specs.Prelude.{ℕ, zero, suc, ◌+◌, ◌*◌, ◌≤◌, ◌<◌, min, ◌≡◌, List, [], ◌∷◌, length, get_or, Option as Answer, Some, None}
 use Rattle.std.proofs.Math.Option.{Option, none, some}
 use Rattle.lent.specs.Memory.{far}
-use Rattle.format.specs.Tree.{Parts, Function, Functions, count}
+use Rattle.format.specs.declared.Span.{Span}
+use Rattle.format.specs.Tree.{Source, Parts, Function, Functions, count}
 use Rattle.format.specs.Store.{Piece, word, ◌⊕◌, list, ints, source_piece, constant_piece, local_piece, packed, function_pieces, children_piece}
 use Rattle.format.specs.Stored.{Here}
 use Rattle.format.specs.Valid.{ValidAll}
@@ -17,6 +18,11 @@ pub record Stands (words text : List ℕ) (at to : ℕ) (p : Piece) : Type 0 whe
 pub record StandsAt (words text : List ℕ) (at : ℕ) (p : Piece) : Type 0 where
   pub to : ℕ
   pub stands : Stands words text at to p
+
+-- where a source stands whose text is at a place: none where it is inherited
+abbrev pub own_place : ℕ → Source → Answer Span
+own_place to Source.inherited = None
+own_place to (Source.own s) = Some (record { start = to; len = length s })
 
 -- item i of a list
 unfoldable pub item : {A : Type 0} → List A → ℕ → Option A

@@ -12,31 +12,30 @@ ghost use Rattle.proto.specs.Formed.{Check, Both, beside, Room, Within, Three, t
 
 use crate::store::Store;
 use crate::walk::word_at;
-use format::{DEPTH, LIMIT, MOST, Refusal, Span};
+use format::{Constants, DEPTH, LIMIT, Locals, MOST, Names, Refusal, Span};
 
 // The greatest word.
 const ANY: u32 = u32::MAX;
 
 // The places reached in the words and in the text.
 #[derive(Clone, Copy, PartialEq)]
-pub struct Reached {
+pub struct Places {
     pub at: usize,
     pub to: usize,
 }
 
-// A store that is checked: its words, its text, and whether all of the text is ASCII. Each step goes on from the places reached, past what it
-// checks, and answers None where that is not well formed.
+// A store that is checked, and whether all of its text is ASCII. Each step goes on from the places reached, past what it
+// checks, and answers None where that is not well formed. Check is of the words and the text, and not of a Store, as the definition of the store's refusal is.
 #[derive(Clone, Copy)]
 struct Checker<'a> {
-    words: &'a [u32],
-    text: &'a [u8],
+    store: Store<'a>,
     ascii: bool,
-    ghost words_fit: { (i : ℕ) → slice_index words.now i < 2 ^ 32 },
-    ghost text_fits: { (i : ℕ) → slice_index text.now i < 256 },
-    ghost ascii_holds: { ascii ≡ true → is_ascii text.now ≡ true },
+    ghost words_fit: { (i : ℕ) → slice_index store.words.now i < 2 ^ 32 },
+    ghost text_fits: { (i : ℕ) → slice_index store.text.now i < 256 },
+    ghost ascii_holds: { ascii ≡ true → is_ascii store.text.now ≡ true },
 }
 
-// What a list holds: how an item is checked. dump and listing_headers have an Item of their own, and no trait above one of proto's: a ghost member's
+// What a list holds: how an item is checked. load_function, dump and listing_headers have an Item of their own, and no trait above one of proto's: a ghost member's
 // type cannot name a member of a supertrait (only a law's can), and valid is of Value.
 trait Item {
     ghost Value: { Type 0 };
@@ -45,11 +44,9 @@ trait Item {
 
     ghost piece: { Value → Piece };
 
-    fn check(c: Checker, s: Reached) -> Option<Reached>
-        ensures { Check c.entry.words.now c.entry.text.now valid piece s result };
+    fn check(c: Checker, s: Places) -> Option<Places>
+        ensures { Check c.entry.store.words.now c.entry.store.text.now valid piece s result };
 }
-
-struct Constants;
 
 impl Item for Constants {
     ghost Value = { Value };
@@ -58,12 +55,10 @@ impl Item for Constants {
 
     ghost piece = { constant_piece };
 
-    fn check(c: Checker, s: Reached) -> Option<Reached> {
+    fn check(c: Checker, s: Places) -> Option<Places> {
         c.check_constant(s)
     }
 }
-
-struct Locals;
 
 impl Item for Locals {
     ghost Value = { Local };
@@ -72,12 +67,10 @@ impl Item for Locals {
 
     ghost piece = { local_piece };
 
-    fn check(c: Checker, s: Reached) -> Option<Reached> {
+    fn check(c: Checker, s: Places) -> Option<Places> {
         c.check_local(s)
     }
 }
-
-struct Names;
 
 impl Item for Names {
     ghost Value = { List ℕ };
@@ -86,87 +79,84 @@ impl Item for Names {
 
     ghost piece = { string };
 
-    fn check(c: Checker, s: Reached) -> Option<Reached> {
+    fn check(c: Checker, s: Places) -> Option<Places> {
         c.check_name(s)
     }
 }
 
 impl<'a> Checker<'a> {
-    // The one for these words and this text.
+    // The one for the store of these words and this text. Not of a Store: that each word fits is known of a slice, and not of a slice in a struct.
     fn new(words: &'a [u32], text: &'a [u8]) -> Self
-        ensures words { result.words.now ≡ words.now }
-        ensures text { result.text.now ≡ text.now }
+        ensures words { result.store.words.now ≡ words.now }
+        ensures text { result.store.text.now ≡ text.now }
     {
         Checker {
-            words,
-            text,
+            store: Store { words, text },
             ascii: utf8::is_ascii(text),
         }
     }
 
     // A word within limits.
-    fn check_word(self, s: Reached, low: u32, high: u32) -> Option<Reached>
-        ensures { Check self.entry.words.now self.entry.text.now (Within low high) word_piece s result }
+    fn check_word(self, s: Places, low: u32, high: u32) -> Option<Places>
+        ensures { Check self.entry.store.words.now self.entry.store.text.now (Within low high) word_piece s result }
     {
-        let w = *self.words.get(s.at)?;
+        let w = *self.store.words.get(s.at)?;
         if !(low..=high).contains(&w) {
             return None;
         }
-        Some(Reached { at: s.at + 1, ..s })
+        Some(Places { at: s.at + 1, ..s })
     }
 
     // Two words, whatever they are.
-    #[tactic(auto, unfolding(crate::specs::Formed::Both, crate::specs::Formed::beside))]
-    fn check_pair(self, s: Reached) -> Option<Reached>
-        ensures { Check self.entry.words.now self.entry.text.now (Both Word Word) (beside word_piece word_piece) s result }
+    #[tactic(auto, using(crate::proofs::Checks::pair_good), unfolding(crate::specs::Formed::Both, crate::specs::Formed::beside))]
+    fn check_pair(self, s: Places) -> Option<Places>
+        ensures { Check self.entry.store.words.now self.entry.store.text.now (Both Word Word) (beside word_piece word_piece) s result }
     {
-        if self.words.get(s.at..)?.len() < 2 {
-            return None;
-        }
-        Some(Reached { at: s.at + 2, ..s })
+        self.store.words.get(s.at..)?.first_chunk::<2>()?;
+        Some(Places { at: s.at + 2, ..s })
     }
 
     // Three words: a kind, and two with their greatest values.
     #[tactic(auto, using(crate::proofs::Checks::three_good))]
-    fn check_three(self, s: Reached, kind: u32, a: u32, b: u32) -> Option<Reached>
-        ensures { Check self.entry.words.now self.entry.text.now (Three kind a b) three s result }
+    fn check_three(self, s: Places, kind: u32, a: u32, b: u32) -> Option<Places>
+        ensures { Check self.entry.store.words.now self.entry.store.text.now (Three kind a b) three s result }
     {
-        let [k, x, y, ..] = self.words.get(s.at..)? else {
+        let [k, x, y, ..] = self.store.words.get(s.at..)? else {
             return None;
         };
         if *k != kind || a < *x || b < *y {
             return None;
         }
-        Some(Reached { at: s.at + 3, ..s })
+        Some(Places { at: s.at + 3, ..s })
     }
 
     // The place and the length of a string, which stands next in the text.
-    fn check_string(self, s: Reached) -> Option<Reached>
-        ensures { Check self.entry.words.now self.entry.text.now Bytes string s result }
+    fn check_string(self, s: Places) -> Option<Places>
+        ensures { Check self.entry.store.words.now self.entry.store.text.now Bytes string s result }
     {
-        let [place, n, ..] = self.words.get(s.at..)? else {
+        let [place, n, ..] = self.store.words.get(s.at..)? else {
             return None;
         };
         let n = *n as usize;
-        if *place as usize != s.to || !is_within(self.text.len(), s.to, n) {
+        if *place as usize != s.to || !is_within(self.store.text.len(), s.to, n) {
             return None;
         }
-        Some(Reached {
+        Some(Places {
             at: s.at + 2,
             to: s.to + n,
         })
     }
 
     // A string that is UTF-8, as each is where the whole text is ASCII.
-    fn check_name(self, s: Reached) -> Option<Reached>
-        ensures { Check self.entry.words.now self.entry.text.now Name string s result }
+    fn check_name(self, s: Places) -> Option<Places>
+        ensures { Check self.entry.store.words.now self.entry.store.text.now Name string s result }
     {
         let r = self.check_string(s)?;
         let name = Span {
             start: s.to,
             len: r.to - s.to,
         };
-        if self.ascii || utf8::is_utf8(name.of(self.text)) {
+        if self.ascii || utf8::is_utf8(name.of(self.store.text)) {
             Some(r)
         } else {
             None
@@ -174,20 +164,23 @@ impl<'a> Checker<'a> {
     }
 
     // The source of a function: inherited, or its own.
-    fn check_source(self, s: Reached) -> Option<Reached>
-        ensures { Check self.entry.words.now self.entry.text.now ValidSource source_piece s result }
+    #[tactic(auto, using(crate::proofs::Stores::inherited_checked, crate::proofs::Stores::own_then, crate::proofs::Stores::own_stop))]
+    fn check_source(self, s: Places) -> Option<Places>
+        ensures { Check self.entry.store.words.now self.entry.store.text.now ValidSource source_piece s result }
     {
-        if word_at(self.words, s.at) == 0 {
+        if word_at(self.store.words, s.at) == 0 {
             return self.check_three(s, 0, 0, 0);
         }
         self.check_name(self.check_word(s, 1, 1)?)
     }
 
-    // A constant, by the format's numbers: Nil or Bool, whose second word is no more than the first, Num or String.
-    fn check_constant(self, s: Reached) -> Option<Reached>
-        ensures { Check self.entry.words.now self.entry.text.now ValidConstant constant_piece s result }
+    // A constant, by the format's numbers: Nil or Bool, whose second word is no more than the first, Num or String. No enum of the kinds: they are words in a
+    // store and bytes in a chunk, and any other number is refused here.
+    #[tactic(auto, using(crate::proofs::Stores::constant_plain, crate::proofs::Stores::num_checked, crate::proofs::Stores::str_then, crate::proofs::Stores::str_stop))]
+    fn check_constant(self, s: Places) -> Option<Places>
+        ensures { Check self.entry.store.words.now self.entry.store.text.now ValidConstant constant_piece s result }
     {
-        let kind = word_at(self.words, s.at);
+        let kind = word_at(self.store.words, s.at);
         match kind {
             0 | 1 => self.check_three(s, kind, kind, 0),
             3 => self.check_three(s, 3, ANY, ANY),
@@ -197,30 +190,31 @@ impl<'a> Checker<'a> {
 
     // A local: its name, start and end.
     #[tactic(auto, using(crate::proofs::Checks::check_then, crate::proofs::Checks::check_stop, crate::proofs::Stores::local_checked))]
-    fn check_local(self, s: Reached) -> Option<Reached>
-        ensures { Check self.entry.words.now self.entry.text.now ValidLocal local_piece s result }
+    fn check_local(self, s: Places) -> Option<Places>
+        ensures { Check self.entry.store.words.now self.entry.store.text.now ValidLocal local_piece s result }
     {
         self.check_pair(self.check_name(s)?)
     }
 
     // A list of words.
     #[tactic(auto, using(crate::proofs::Checks::ints_within, crate::proofs::Checks::ints_good, crate::proofs::Checks::ints_bad, crate::proofs::Checks::ints_short))]
-    fn check_ints(self, s: Reached) -> Option<Reached>
-        ensures { Check self.entry.words.now self.entry.text.now (ValidList Word) ints s result }
+    fn check_ints(self, s: Places) -> Option<Places>
+        ensures { Check self.entry.store.words.now self.entry.store.text.now (ValidList Word) ints s result }
     {
-        let n = word_at(self.words, s.at) as usize;
+        let n = word_at(self.store.words, s.at) as usize;
         let p = self.check_word(s, 0, LIMIT)?;
-        if self.words.len() - p.at < n {
+        if self.store.words.len() - p.at < n {
             return None;
         }
-        Some(Reached { at: p.at + n, ..p })
+        Some(Places { at: p.at + n, ..p })
     }
 
     // A list of other items.
-    fn check_list<T: Item>(self, s: Reached) -> Option<Reached>
-        ensures { Check self.entry.words.now self.entry.text.now (ValidList T.valid) (list T.piece) s result }
+    #[tactic(auto, using(crate::proofs::Checks::items_turn, crate::proofs::Checks::items_end, crate::proofs::Checks::count_wrong, crate::proofs::Checks::item_wrong))]
+    fn check_list<T: Item>(self, s: Places) -> Option<Places>
+        ensures { Check self.entry.store.words.now self.entry.store.text.now (ValidList T.valid) (list T.piece) s result }
     {
-        let n = word_at(self.words, s.at);
+        let n = word_at(self.store.words, s.at);
         let mut p = self.check_word(s, 0, LIMIT)?;
         for _ in 0..n {
             p = T::check(self, p)?;
@@ -230,8 +224,8 @@ impl<'a> Checker<'a> {
 
     // The lists that strip leaves out: the lines, the locals and the upvalues' names.
     #[tactic(auto, using(crate::proofs::Checks::check_then, crate::proofs::Checks::check_stop, crate::proofs::Stores::debug_checked))]
-    fn check_debug(self, s: Reached) -> Option<Reached>
-        ensures { Check self.entry.words.now self.entry.text.now ValidDebug debug_piece s result }
+    fn check_debug(self, s: Places) -> Option<Places>
+        ensures { Check self.entry.store.words.now self.entry.store.text.now ValidDebug debug_piece s result }
     {
         let lines = self.check_ints(s)?;
         let locals = self.check_list::<Locals>(lines)?;
@@ -240,10 +234,10 @@ impl<'a> Checker<'a> {
 
     // The functions in a function, each with so many nested at most. No Item, as the check gives no proof of one whose check leads back to it.
     #[cycle(check_function_check_functions)]
-    fn check_functions(self, s: Reached, allowance: u32) -> Option<Reached>
-        ensures { Check self.entry.words.now self.entry.text.now (ValidChildren allowance) children_piece s result }
+    fn check_functions(self, s: Places, allowance: u32) -> Option<Places>
+        ensures { Check self.entry.store.words.now self.entry.store.text.now (ValidChildren allowance) children_piece s result }
     {
-        let n = word_at(self.words, s.at);
+        let n = word_at(self.store.words, s.at);
         let mut p = self.check_word(s, 0, LIMIT)?;
         for _ in 0..n {
             p = self.check_function(p, allowance)?;
@@ -253,8 +247,8 @@ impl<'a> Checker<'a> {
 
     // A function.
     #[cycle(check_function_check_functions)]
-    fn check_function(self, s: Reached, allowance: u32) -> Option<Reached>
-        ensures { Check self.entry.words.now self.entry.text.now (λ f. Valid f allowance) function_piece s result }
+    fn check_function(self, s: Places, allowance: u32) -> Option<Places>
+        ensures { Check self.entry.store.words.now self.entry.store.text.now (λ f. Valid f allowance) function_piece s result }
     {
         if allowance == 0 {
             return None;
@@ -271,7 +265,7 @@ impl<'a> Checker<'a> {
 }
 
 // Whether n items from a place on are within so many.
-pub fn is_within(len: usize, at: usize, n: usize) -> bool
+fn is_within(len: usize, at: usize, n: usize) -> bool
     ensures { Room result len at n }
 {
     n == 0 || n <= len && at <= len - n
@@ -279,14 +273,15 @@ pub fn is_within(len: usize, at: usize, n: usize) -> bool
 
 impl<'a> Store<'a> {
     // Whether it holds a tree: refused by 10.
+    #[tactic(auto, using(crate::proofs::Stores::held_no, crate::proofs::Stores::passed_10))]
     pub fn check_held(self) -> Result<(), Refusal>
         ensures { RefusedBy (store_refusal self.entry.words.now self.entry.text.now) result }
     {
         if MOST < self.words.len().max(self.text.len()) {
             return Err(Refusal::BadStore);
         }
-        let start = Reached { at: 0, to: 0 };
-        let end = Reached {
+        let start = Places { at: 0, to: 0 };
+        let end = Places {
             at: self.words.len(),
             to: self.text.len(),
         };

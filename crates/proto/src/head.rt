@@ -19,7 +19,8 @@ pub struct Head {
     pub max_stack_size: u32,
 }
 
-// Those of the function at a place.
+// Those of the function at a place. By three words: tried with one slice pattern, the goal stays open where the pattern does not fit, as no fact says there that
+// the words are too few.
 pub fn head_at(words: &[u32], at: usize) -> Head
     ensures { (p : Parts) (fs : Functions) (t : List ℕ) → ValidParts p → StandsAt words.now t at (function_piece (Function.function p fs)) → result ≡ head_of p }
 {

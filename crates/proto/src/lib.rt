@@ -3,6 +3,7 @@
 
 pub mod child;
 pub mod constant;
+pub mod debug;
 pub mod formed;
 pub mod head;
 pub mod lists;

@@ -8,8 +8,9 @@ ghost use Rattle.format.specs.Stored.{Here, part};
 ghost use Rattle.proto.specs.Places.{span_of, Search, place_refusal, source_result, found_answer, source_answer, source_part};
 
 use crate::store::Store;
-use crate::walk::{after_debug, functions_at, skip, word_at};
+use crate::walk::{after_debug, functions_at, own_at, skip, word_at};
 use format::{DEPTH, Refusal, Span, check_name};
+use std::ops::ControlFlow;
 
 // The bytes from a place on and before another, as far as they go.
 fn between(bytes: &[u8], start: usize, end: usize) -> &[u8]
@@ -26,7 +27,7 @@ pub enum SourceSpan {
     Name(usize, usize),
 }
 
-// The answer of source_at.
+// The answer of source_at, as C is told it: the refusal is 0 where there is none, in_text 1 where the source stands in the text and 0 where in the chunk name.
 #[repr(C)]
 #[derive(Clone, Copy)]
 pub struct SourceAt {
@@ -43,7 +44,7 @@ impl From<Result<SourceSpan, Refusal>> for SourceAt {
         let (refusal, in_text, start, end) = match r {
             Ok(SourceSpan::Text(start, end)) => (0, 1, start, end),
             Ok(SourceSpan::Name(start, end)) => (0, 0, start, end),
-            Err(e) => (e.number(), 0, 0, 0),
+            Err(e) => (e.into(), 0, 0, 0),
         };
         SourceAt {
             refusal,
@@ -55,58 +56,53 @@ impl From<Result<SourceSpan, Refusal>> for SourceAt {
 }
 
 // The source of the function at a place: its own, or the one around it.
+#[tactic(auto, using(crate::proofs::Places::span_own))]
 fn own_span(words: &[u32], at: usize, around: SourceSpan) -> SourceSpan
     ensures { (s : Source) (to : ℕ) → Here words.now at ((source_piece s).words to) → result ≡ span_of around to s }
 {
-    if word_at(words, at) == 0 {
-        return around;
+    match own_at(words, at) {
+        Some(Span { start, len }) => SourceSpan::Text(start, start.saturating_add(len)),
+        None => around,
     }
-    let start = word_at(words, skip(words, at, 1)) as usize;
-    let len = word_at(words, skip(words, at, 2)) as usize;
-    SourceSpan::Text(start, start + len)
 }
 
-// Looks for the function that begins at a place, in the one that stands at another. Answers where its source stands, or the place behind those searched.
+// Looks for the function that begins at a place, in the one that stands at another. Breaks with where its source stands, or goes on behind those searched.
 fn seek(
     words: &[u32],
     at: usize,
     place: usize,
     around: SourceSpan,
     allowance: u32,
-) -> Result<SourceSpan, usize>
+) -> ControlFlow<SourceSpan, usize>
     ensures { (f : Function) → Valid f allowance → Search words.now place around f at result }
 {
     if allowance == 0 {
-        return Err(at);
+        return ControlFlow::Continue(at);
     }
     let source = own_span(words, at, around);
     if place == at {
-        return Ok(source);
+        return ControlFlow::Break(source);
     }
     let list = functions_at(words, at);
     let n = word_at(words, list);
     let mut next = skip(words, list, 1);
     for _ in 0..n {
-        match seek(words, next, place, source, allowance - 1) {
-            Ok(found) => return Ok(found),
-            Err(behind) => next = behind,
-        }
+        next = seek(words, next, place, source, allowance - 1)?;
     }
-    Err(after_debug(words, next))
+    ControlFlow::Continue(after_debug(words, next))
 }
 
 impl<'a> Store<'a> {
     // Where the source of the function at a place stands, under a chunk name that is good: refused by 10, 12.
+    #[tactic(auto, using(std::proofs::lemmas::Result::err_from_is_err_and, crate::proofs::Sources::find_refused, crate::proofs::Sources::find_sought))]
     fn find(self, name: &[u8], place: usize) -> Result<SourceSpan, Refusal>
         ensures { source_result result ≡ found_answer self.entry.words.now self.entry.text.now name.now place }
     {
         self.check_held()?;
         let around = SourceSpan::Name(0, name.len());
-        // by match: tried map_err, whose promise is that of its closure, and the answer found did not follow from it
-        match seek(self.words, 0, place, around, DEPTH) {
-            Ok(source) => Ok(source),
-            Err(_) => Err(Refusal::NoFunction),
-        }
+        seek(self.words, 0, place, around, DEPTH)
+            .break_value()
+            .ok_or(Refusal::NoFunction)
     }
 
     // The same under any chunk name: refused by 1, 10, 12.
@@ -119,6 +115,7 @@ impl<'a> Store<'a> {
     }
 
     // Whether it holds a tree, and a function begins at a place: refused by 10, 12.
+    #[tactic(auto, using(std::proofs::lemmas::Result::err_from_is_err_and, crate::proofs::Sources::place_refused))]
     pub fn has_function(self, place: usize) -> Result<(), Refusal>
         ensures { RefusedBy (place_refusal self.entry.words.now self.entry.text.now place) result }
     {
@@ -127,7 +124,7 @@ impl<'a> Store<'a> {
     }
 }
 
-// Where the source of the function at a place stands. Refused by 1, 10, 12.
+// Where the source of the function at a place stands. Refused by 1, 10, 12. A call for C, as source is: the words and the text are told apart.
 pub fn source_at(words: &[u32], text: &[u8], name: &[u8], place: usize) -> SourceAt
     ensures { result ≡ source_answer words.now text.now name.now place }
 {

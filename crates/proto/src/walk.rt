@@ -1,11 +1,14 @@
 // Where the parts of a function stand. Past the end a word is 0, and a place stops at the farthest. Each answer is that for every tree that
 // stands at the place asked; where none stands it is open, since the calls check the store first.
+// No methods of a struct of words and place: tried for word_at, skip and string_at, each step promises also that the words stay, each proof of two steps
+// rewrites by that, and Lists, which holds six places in the same words, makes such a struct for each.
 ghost use Rattle.std.specs.Prelude.{List, ◌≡◌, ℕ, ◌+◌, ◌*◌, ◌≤◌, min, length, get_or};
 ghost use Rattle.lent.specs.Memory.{far};
-ghost use Rattle.format.specs.Tree.{Debug, Parts, Functions, Function};
-ghost use Rattle.format.specs.Store.{string, ints, debug_piece, function_piece};
+ghost use Rattle.format.specs.Tree.{Source, Debug, Parts, Functions, Function};
+ghost use Rattle.format.specs.Store.{string, ints, source_piece, debug_piece, function_piece};
+ghost use Rattle.format.specs.Stored.{Here};
 ghost use Rattle.format.specs.Valid.{Valid};
-ghost use Rattle.proto.specs.Walk.{Stands, Skips, SkipsItems, NthAt, Past, Passes, PassesAll, total, to_code, to_constants, to_functions};
+ghost use Rattle.proto.specs.Walk.{Stands, Skips, SkipsItems, NthAt, Past, Passes, PassesAll, own_place, total, to_code, to_constants, to_functions};
 
 use format::Span;
 
@@ -23,7 +26,8 @@ pub fn word_at(words: &[u32], at: usize) -> u32
     words.get(at).copied().unwrap_or(0)
 }
 
-// The place behind n words. The words are named for what is known of their number.
+// The place behind n words. `words` is there for the proof alone: there are never so many that a place among them stops.
+#[tactic(auto, using(crate::proofs::Sublists::skips_all))]
 pub fn skip(words: &[u32], at: usize, n: usize) -> usize
     ensures { Skips words.now n at result }
 {
@@ -38,6 +42,16 @@ pub fn string_at(words: &[u32], at: usize) -> Span
         start: word_at(words, at) as usize,
         len: word_at(words, skip(words, at, 1)) as usize,
     }
+}
+
+// Where the source stands in the text whose words stand at a place: none where it is inherited.
+pub(crate) fn own_at(words: &[u32], at: usize) -> Option<Span>
+    ensures { (s : Source) (to : ℕ) → Here words.now at ((source_piece s).words to) → result ≡ own_place to s }
+{
+    if word_at(words, at) == 0 {
+        return None;
+    }
+    Some(string_at(words, skip(words, at, 1)))
 }
 
 // The items of the list of words at a place.
@@ -81,7 +95,7 @@ pub fn first_in(words: &[u32], functions: usize, number: usize) -> Next
 
 // The place behind a list of items of k words each.
 #[tactic(auto, using(crate::proofs::Walks::skip_items))]
-fn after_list(words: &[u32], at: usize, k: usize) -> usize
+pub(crate) fn after_list(words: &[u32], at: usize, k: usize) -> usize
     requires { k ≤ 4 }
     ensures { SkipsItems words.now k at result }
 {

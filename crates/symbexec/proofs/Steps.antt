@@ -1,12 +1,11 @@
 -- The tests of one instruction, and the walk from one instruction to the next.
-use Rattle.lent.proofs.Prelude.{ℕ, zero, suc, ◌+◌, ◌-◌, ◌≤◌, ◌<◌, ◌≡◌, ap, ◌∙◌, List, true, false, cond, and-false, arith, dec_lt, length, get_or, lt-ltb, le-ltb}
+use Rattle.lent.proofs.Prelude.{ℕ, zero, suc, ◌+◌, ◌-◌, ◌≤◌, ◌<◌, ◌≡◌, sym, ap, ◌∙◌, List, true, false, cond, and-false, true≢false, arith, dec_lt, length, get_or, lt-ltb, le-ltb}
 use Rattle.format.specs.Tree.{Function, Functions}
 use Rattle.format.specs.Valid.{ValidAll}
 use Rattle.format.specs.Store.{children_piece}
 use Rattle.instructions.specs.Fields.{MAXARG_sBx, GETARG_Bx}
 use Rattle.instructions.specs.OpCodes.{opcode}
 use Rattle.proto.specs.Walk.{StandsAt, children}
-use Rattle.proto.proofs.Checks.{never}
 use Rattle.proto.specs.declared.child.Children.{Children}
 use Rattle.symbexec.specs.Operands.{Behind}
 use Rattle.symbexec.specs.SymbExec.{biased, followed, operands, next_pc, after, writes, last_write}
@@ -19,7 +18,7 @@ module _ (op bx lastpc reg pc : ℕ) where
   unfolding followed
   goes_forward h = elim (dec_lt (pc + MAXARG_sBx) (biased pc bx)) [
     | yes k ↦ k
-    | no k ↦ absurd (never h (simp (le-ltb (pc + MAXARG_sBx) (biased pc bx) (omega arith), and-false)))
+    | no k ↦ absurd (true≢false (sym h ∙ simp (le-ltb (pc + MAXARG_sBx) (biased pc bx) (omega arith), and-false)))
   ]
 
   module _ (skipped : ℕ) {r : ℕ} where

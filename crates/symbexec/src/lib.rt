@@ -18,22 +18,22 @@ use operands::operands;
 use proto::child::Children;
 use proto::lists::Lists;
 use proto::walk::{ints_at, word_at};
-use step::{latest, next_pc};
+use step::{Sought, latest};
 
 // The pc of the last instruction of the code before lastpc that wrote a register, the last pc of all where none did.
-fn last_write(code: &[u32], functions: Children, lastpc: u32, reg: u32) -> usize
-    ensures { (text : List ℕ) (fs : Functions) → StandsAt functions.entry.words.now text functions.entry.list (children_piece fs) → ValidAll fs functions.entry.allowance → result ≡ last_write code.now (children fs) lastpc reg lastpc 0 (length code.now - 1) }
+fn last_write(code: &[u32], functions: Children, sought: Sought) -> usize
+    ensures { (text : List ℕ) (fs : Functions) → StandsAt functions.entry.words.now text functions.entry.list (children_piece fs) → ValidAll fs functions.entry.allowance → result ≡ last_write code.now (children fs) sought.lastpc sought.reg sought.lastpc 0 (length code.now - 1) }
 {
-    let end = lastpc as usize;
+    let end = sought.lastpc as usize;
     let mut last = code.len().saturating_sub(1);
     let mut by_index = functions.by_index();
     let mut pc: usize = 0;
     // No range counts pc: it goes past the words that are no instructions, and where a jump leads.
     while pc < end {
         let i = Instruction(word_at(code, pc));
-        last = latest(i, reg, pc, last);
+        last = latest(i, sought.reg, pc, last);
         let skipped = operands(&mut by_index, i);
-        pc = next_pc(i, skipped, lastpc, reg, pc as u32);
+        pc = sought.next_pc(i, skipped, pc as u32);
     }
     last
 }
@@ -43,11 +43,8 @@ pub fn symbexec_at(s: Lists, lastpc: u32, reg: u32) -> u32
     ensures { (p : Parts) (fs : Functions) → ListsAt s.entry p fs → ValidAll fs depth → result ≡ symbexec (Function.function p fs) lastpc reg }
 {
     let code = ints_at(s.store.words, s.code);
-    let functions = Children {
-        words: s.store.words,
-        list: s.functions,
-        number: 0,
-        allowance: DEPTH,
-    };
-    word_at(code, last_write(code, functions, lastpc, reg))
+    word_at(
+        code,
+        last_write(code, s.children(0, DEPTH), Sought { lastpc, reg }),
+    )
 }

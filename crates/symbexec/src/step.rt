@@ -51,25 +51,34 @@ pub fn latest(i: Instruction, reg: u32, pc: usize, last: usize) -> usize
     if writes(i, reg) { pc } else { last }
 }
 
-// Whether an instruction is a jump that is followed: not for NO_REG, only forward, to lastpc at most.
-#[tactic(auto, unfolding(crate::specs::SymbExec::followed))]
-fn followed(i: Instruction, lastpc: u32, reg: u32, pc: u32) -> bool
-    ensures { result ≡ followed (opcode i.0) (GETARG_Bx i.0) lastpc reg pc }
-{
-    let biased = pc as usize + 1 + i.bx() as usize;
-    is_jump(i.opcode())
-        && reg != NO_REG
-        && pc as usize + SBX < biased
-        && biased <= lastpc as usize + SBX
+// What is looked for: the last write of a register before a pc.
+#[derive(Clone, Copy)]
+pub struct Sought {
+    pub lastpc: u32,
+    pub reg: u32,
 }
 
-// The next pc, where so many words behind the instruction are none.
-#[tactic(auto, using(crate::proofs::Steps::goes_forward, crate::proofs::Steps::next_jump, crate::proofs::Steps::next_on))]
-pub fn next_pc(i: Instruction, skipped: u32, lastpc: u32, reg: u32, pc: u32) -> usize
-    ensures { (result ≡ next_pc (opcode i.0) (GETARG_Bx i.0) skipped lastpc reg pc) × (pc < result) }
-{
-    if followed(i, lastpc, reg, pc) {
-        return pc as usize + 1 + i.bx() as usize - SBX;
+impl Sought {
+    // Whether an instruction is a jump that is followed: not for NO_REG, only forward, to lastpc at most.
+    #[tactic(auto, unfolding(crate::specs::SymbExec::followed))]
+    fn followed(self, i: Instruction, pc: u32) -> bool
+        ensures { result ≡ followed (opcode i.0) (GETARG_Bx i.0) self.lastpc self.reg pc }
+    {
+        let biased = pc as usize + 1 + i.bx() as usize;
+        is_jump(i.opcode())
+            && self.reg != NO_REG
+            && pc as usize + SBX < biased
+            && biased <= self.lastpc as usize + SBX
     }
-    pc as usize + 1 + skipped as usize
+
+    // The next pc, where so many words behind the instruction are none.
+    #[tactic(auto, using(crate::proofs::Steps::goes_forward, crate::proofs::Steps::next_jump, crate::proofs::Steps::next_on))]
+    pub fn next_pc(self, i: Instruction, skipped: u32, pc: u32) -> usize
+        ensures { (result ≡ next_pc (opcode i.0) (GETARG_Bx i.0) skipped self.lastpc self.reg pc) × (pc < result) }
+    {
+        if self.followed(i, pc) {
+            return pc as usize + 1 + i.bx() as usize - SBX;
+        }
+        pc as usize + 1 + skipped as usize
+    }
 }

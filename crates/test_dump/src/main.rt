@@ -13,16 +13,13 @@ use format::Undumped;
 use std::io;
 use std::io::Write;
 use test_records::store::Space;
-use test_records::{Records, put};
+use test_records::{Records, UNTOUCHED, put};
 
 // The most words and text bytes of the store, and the most that are lent to read back.
 const ROOM: usize = 4096;
 
 // The buffer's bytes.
 const BUFFER: usize = 32768;
-
-// What stands in lent memory before.
-const UNTOUCHED: u8 = 7;
 
 // The buffer, where the dumps in it end, and how far they are read.
 // Places, not slices: the same bytes are written here and read there.
@@ -52,11 +49,8 @@ fn read(
 // T: the tree of a chunk, read into the store.
 fn tree(cases: &mut Records, store: &mut Space<ROOM, ROOM>, to: &mut impl Write) -> io::Result<()> {
     let name = cases.name();
-    let n = ROOM.min(usize::from(cases.half()));
-    let m = ROOM.min(usize::from(cases.half()));
+    let (words, text) = store.lend(cases);
     let chunk = cases.text();
-    let words = &mut store.words[0..n];
-    let text = &mut store.text[0..m];
     let u = read(b"T ", chunk, name, words, text, to)?;
     store.used_words = u.words;
     store.used_text = u.text;
@@ -87,13 +81,11 @@ fn append(
 // U: the next tree of the buffer, read back.
 fn back(cases: &mut Records, dumps: &mut Dumps, to: &mut impl Write) -> io::Result<()> {
     let name = cases.name();
-    let n = ROOM.min(usize::from(cases.half()));
-    let m = ROOM.min(usize::from(cases.half()));
-    let mut words = [u32::from(UNTOUCHED); ROOM];
-    let mut text = [UNTOUCHED; ROOM];
+    let mut space = Space::<ROOM, ROOM>::untouched();
+    let (words, text) = space.lend(cases);
     let from = BUFFER.min(dumps.read);
     let rest = &dumps.buffer[from..];
-    let u = read(b"U ", rest, name, &mut words[0..n], &mut text[0..m], to)?;
+    let u = read(b"U ", rest, name, words, text, to)?;
     dumps.read = from.saturating_add(u.read);
     Ok(())
 }

@@ -12,7 +12,7 @@ use std::io;
 use test_records::Records;
 
 // How many answers were compared, how many differ, and how many bytes they take.
-#[derive(Drop)]
+#[derive(Default, Drop)]
 struct Tally {
     compared: u32,
     differ: u32,
@@ -37,11 +37,7 @@ fn record(records: &mut Records, t: &mut Tally) {
 }
 
 fn main(rt: HostRuntime) -> io::Result<()> {
-    let mut t = Tally {
-        compared: 0,
-        differ: 0,
-        read: 0,
-    };
+    let mut t = Tally::default();
     test_records::each(&rt, |records| Ok(record(records, &mut t)))?;
     println!(rt;
         "{} answers compared, {} differ, {} bytes read",

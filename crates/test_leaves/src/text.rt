@@ -1,10 +1,8 @@
 // utf8 against String::from_utf8_lossy and std::str::from_utf8.
-use test_records::Records;
+use test_records::{Records, UNTOUCHED};
 
-// What repairs are written into, and what stands in it before. A longer text counts as different.
+// What repairs are written into. A longer text counts as different.
 const ROOM: usize = 512;
-
-const UNTOUCHED: u8 = 7;
 
 // Whether the bytes are repaired to these behind the first place, and the bytes before and after are untouched.
 fn same_repair(bytes: &[u8], repaired: &[u8]) -> bool {

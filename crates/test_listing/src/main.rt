@@ -19,7 +19,8 @@ const OUT: usize = 65536;
 
 const UNTOUCHED: u8 = b'.';
 
-// The listing of a chunk, held words of its store held back: the refusal of reading it, or what list_function answers.
+// The listing of a chunk, held words of its store held back: the refusal of reading it, or what list_function answers. listchunk's list is apart:
+// it has its own name, holds no words back and has a contract, and a program of the library is not built on what the tests share.
 fn list(chunk: &[u8], name: &[u8], full: bool, held: usize, out: &mut [u8]) -> Written {
     let mut words = [0; ROOM];
     let mut text = [0; ROOM];

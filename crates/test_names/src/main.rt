@@ -17,8 +17,8 @@ use local_records::record::LocalRecord;
 use std::io;
 use std::io::Write;
 use test_output::{all_text, all_words, written};
-use test_records::Records;
 use test_records::store::Space;
+use test_records::{Records, UNTOUCHED};
 
 // The most words and text bytes of a store.
 const WORDS: usize = 65600;
@@ -27,9 +27,6 @@ const TEXT: usize = 4096;
 
 // The most output bytes.
 const OUT: usize = 256;
-
-// What stands in the output before.
-const UNTOUCHED: u8 = 7;
 
 // A record that no local has.
 const NO_LOCAL: LocalRecord = LocalRecord {

@@ -11,11 +11,14 @@ use std::{io, mem};
 // The most bytes of records that a program reads.
 pub const MOST: usize = 65536;
 
+// What stands in lent memory before a call.
+pub const UNTOUCHED: u8 = 7;
+
 // The first n of a list, as many as there are.
 pub fn first<T>(list: &[T], n: usize) -> &[T]
     ensures { result.now ≡ take n list.now }
 {
-    &list[..n.min(list.len())]
+    list.get(..n).unwrap_or(list)
 }
 
 // Another value at a place, where that is in range. Answers the one that stood there, which puts it back.

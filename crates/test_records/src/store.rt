@@ -1,5 +1,7 @@
 // Stores in records: 2 bytes n, n runs of words (2 bytes how many, 4 bytes the word), 2 bytes length, the text.
-use crate::{Records, first};
+ghost use Rattle.std.specs.Prelude.{◌≡◌, ◌≤◌, length, replicate};
+
+use crate::{Records, UNTOUCHED, first};
 
 // Space for W words and T text bytes, and how many of them are the store's.
 // Lengths beside arrays, not slices: the memory is fixed, and a case may ask about what stands behind the store.
@@ -20,6 +22,29 @@ impl<const W: usize, const T: usize> Space<W, T> {
             used_words: 0,
             used_text: 0,
         }
+    }
+
+    // Untouched space.
+    pub fn untouched() -> Self
+        ensures { (result.words ≡ replicate W 7) × (result.text ≡ replicate T 7) }
+    {
+        Space {
+            words: [u32::from(UNTOUCHED); W],
+            text: [UNTOUCHED; T],
+            used_words: 0,
+            used_text: 0,
+        }
+    }
+
+    // As many words and text bytes as a record lends: 2 bytes each, how many.
+    pub fn lend(&mut self, records: &mut Records) -> (&mut [u32], &mut [u8])
+        ensures { (length result.0.now ≤ W) × (length result.1.now ≤ T) }
+    {
+        let words = &mut self.words[..];
+        let text = &mut self.text[..];
+        let n = words.len().min(usize::from(records.half()));
+        let m = text.len().min(usize::from(records.half()));
+        (&mut words[..n], &mut text[..m])
     }
 
     // The store's words.

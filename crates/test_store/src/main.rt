@@ -8,15 +8,14 @@
 use lent::Writer;
 use std::io;
 use std::io::Write;
+use test_records::store::Space;
 use test_records::{Records, first};
 
 // The most bytes of a chunk: as many as a tree above the limits needs, whose bytes take three words or text bytes each.
 const MOST: usize = 5700000;
 
-// The most words and the most text bytes that are lent, and what stands in them before.
+// The most words and the most text bytes that are lent.
 const ROOM: usize = 4096;
-
-const UNTOUCHED: u8 = 7;
 
 // The chunk of a case's runs, as much of it as the space has room for.
 fn made<'a>(cases: &mut Records, space: &'a mut [u8]) -> &'a [u8] {
@@ -39,12 +38,8 @@ fn case(cases: &mut Records, space: &mut [u8], to: &mut impl Write) -> io::Resul
     let need_words = cases.long();
     let need_text = cases.long();
     let need_read = cases.long();
-    let n = ROOM.min(usize::from(cases.half()));
-    let m = ROOM.min(usize::from(cases.half()));
-    let mut words = [u32::from(UNTOUCHED); ROOM];
-    let mut text = [UNTOUCHED; ROOM];
-    let words = &mut words[0..n];
-    let text = &mut text[0..m];
+    let mut store = Space::<ROOM, ROOM>::untouched();
+    let (words, text) = store.lend(cases);
     let u = undump::store(chunk, name, need_words, need_text, need_read, words, text);
     test_output::undumped(u, words, text, to)
 }

@@ -7,11 +7,10 @@
 use std::io;
 use std::io::Write;
 use test_records::Records;
+use test_records::store::Space;
 
-// The most words and the most text bytes that are lent, and what stands in them before.
+// The most words and the most text bytes that are lent.
 const ROOM: usize = 4096;
-
-const UNTOUCHED: u8 = 7;
 
 // Measures a chunk and stores it in the space lent, and writes what was found.
 fn read(
@@ -32,11 +31,9 @@ fn read(
 fn case(cases: &mut Records, to: &mut impl Write) -> io::Result<()> {
     let chunk = cases.text();
     let name = cases.name();
-    let n = ROOM.min(usize::from(cases.half()));
-    let m = ROOM.min(usize::from(cases.half()));
-    let mut words = [u32::from(UNTOUCHED); ROOM];
-    let mut text = [UNTOUCHED; ROOM];
-    read(chunk, name, &mut words[0..n], &mut text[0..m], to)
+    let mut space = Space::<ROOM, ROOM>::untouched();
+    let (words, text) = space.lend(cases);
+    read(chunk, name, words, text, to)
 }
 
 fn main(rt: HostRuntime) -> io::Result<()> {

@@ -1,5 +1,6 @@
 -- The header: bytes that are there, or are not, or are others. Then a whole chunk, loaded; what measure answers at each of its returns,
 -- and what store answers and leaves at each of its.
+use Rattle.std.specs.Borrow.{Bor}
 use Rattle.std.specs.Prelude.{Result, Ok, Err}
 use Rattle.std.specs.Result.{IsErrAnd}
 use Rattle.std.proofs.lemmas.Result.{err_from_is_err_and}
@@ -8,7 +9,7 @@ use Rattle.std.proofs.lemmas.Slice.Eq.{bytes_eq-Decides}
 use Rattle.lent.proofs.Prelude.{ℕ, ◌+◌, ◌-◌, ◌≤◌, ◌<◌, min, ◌≡◌, refl, sym, ap, ◌∙◌, List, [], ◌++◌, append-nil, Bool, true, false, not, arith, length, take, drop, length-drop, drop_of_length-le, sets, sets-eq, length-take-le, le-leb, not-true, not-false}
 use Rattle.lent.specs.Memory.{far}
 use Rattle.format.specs.Tree.{Function}
-use Rattle.format.specs.Read.{Read, got, refused, ◌>>=◌, return, width_of, load_function, same, signature, format, load_exactly, load_format, load_header}
+use Rattle.format.specs.Read.{Read, got, refused, ◌>>=◌, return, width_of, load_function, same, format, load_exactly, load_format, load_header}
 use Rattle.format.specs.Dump.{name_refusal}
 use Rattle.format.specs.Refusal.{number}
 use Rattle.format.specs.Store.{function_piece, words_of, text_of}
@@ -18,8 +19,8 @@ use Rattle.format.specs.declared.Undumped.{Undumped}
 use Rattle.format.specs.declared.Refusal.{Refusal}
 use Rattle.format.specs.declared.Refusal.TheVariants.{BadFormat}
 use Rattle.load_state.specs.declared.cursor.Got.{Got}
-use Rattle.load_state.specs.ReadAt.{Ends, ReadsBy, ReadAt}
-use Rattle.load.specs.Loads.{Does}
+use Rattle.load_state.specs.ReadAt.{Ends, ReadsBy, ReadAt, BlockAt}
+use Rattle.load.specs.Loads.{Space, Does}
 use Rattle.load_function.specs.Repaired.{repaired_function}
 use Rattle.undump.specs.declared.LoadedChunk.{LoadedChunk}
 use Rattle.undump.specs.Undump.{beginning, unused, used, LoadsChunk, Measures, undump_left}
@@ -27,43 +28,33 @@ use Rattle.load.proofs.Steps.{reads_then, reads_refused}
 use Rattle.format.proofs.RoundTrip.{same_is}
 use Rattle.format.proofs.Refusals.{refusal_above, name_good, by_name}
 use Rattle.format.proofs.Measured.{measured_as, undumped_as, refused_whole, store_refused, store_other, store_as, few_words, few_text, enough}
-use Rattle.load_state.proofs.Bytes.{block_at}
 
 -- ---- the header
 
--- a test tells whether the n bytes at a place are these
-told : {t : Bool} (bs : List ℕ) (at n : ℕ) (bytes : List ℕ) → t ≡ bytes_eq (take (at + n - at) (drop at bs)) bytes → same (take n (drop at bs)) bytes ≡ t
-told bs at n bytes e =
-    let i : at + n - at ≡ n = omega arith in
-    let s : same (take (at + n - at) (drop at bs)) bytes ≡ bytes_eq (take (at + n - at) (drop at bs)) bytes = same_is _ _ bytes (bytes_eq-Decides _ bytes) in
-    rw i at (s ∙ sym e)
+-- a test tells whether bytes are these
+told : {t : Bool} (s bytes : List ℕ) → t ≡ bytes_eq s bytes → same s bytes ≡ t
+told s bytes e = same_is _ _ bytes (bytes_eq-Decides s bytes) ∙ sym e
 
-module _ (bs : List ℕ) (at : ℕ) (bytes : List ℕ) (x : Refusal) {t : Bool} (h : length bytes ≤ length bs - at) (e : t ≡ not (bytes_eq (take (at + length bytes - at) (drop at bs)) bytes)) where
-  pub exactly_others : t ≡ true → ReadsBy bs (load_exactly bytes (number x)) (λ v (n : ℕ). Unit {0}) (λ n. n) at (Err x)
-  exactly_others f = record { ends = rw (block_at (length bytes) bs at h, told bs at (length bytes) bytes (sym (not-true _ (sym e ∙ f)))) refl }
+-- the block that is compared
+module _ {bs : List ℕ} {at : ℕ} (bytes : List ℕ) (x : Refusal) where
+  module _ {g : Got (Bor (List ℕ))} {t : Bool} (h : BlockAt bs (length bytes) at (Ok g)) (e : t ≡ not (bytes_eq g.value.now bytes)) where
+    pub exactly_others : t ≡ true → ReadsBy bs (load_exactly bytes (number x)) (λ v (n : ℕ). Unit {0}) (λ n. n) at (Err x)
+    exactly_others f = reads_then _ h (λ s p. record { ends = rw (p, told g.value.now bytes (sym (not-true _ (sym e ∙ f)))) refl })
 
-  pub exactly_these : t ≡ false → ReadsBy bs (load_exactly bytes (number x)) (λ v (n : ℕ). Unit {0}) (λ n. n) at (Ok (at + length bytes))
-  exactly_these f = record { ends = rw (block_at (length bytes) bs at h, told bs at (length bytes) bytes (sym (not-false _ (sym e ∙ f)))) (refl, tt) }
+    pub exactly_these : t ≡ false → ReadsBy bs (load_exactly bytes (number x)) (λ v (n : ℕ). Unit {0}) (λ n. n) at (Ok g.next)
+    exactly_these f = reads_then _ h (λ s p. record { ends = rw (p, told g.value.now bytes (sym (not-false _ (sym e ∙ f)))) (refl, tt) })
 
 -- the two forms of the eight bytes
-module _ {bs : List ℕ} {at : ℕ} {t : Bool} (h : 8 ≤ length bs - at) (t₄ : t ≡ bytes_eq (take (at + 8 - at) (drop at bs)) (format true)) where
-  pub format_of_4 : t ≡ true → ReadAt bs load_format at (Ok (record { value = true; next = at + 8 }))
-  format_of_4 e = record { ends = rw (block_at 8 bs at h, told bs at 8 (format true) t₄, e) (refl, refl) }
+module _ {bs : List ℕ} {at : ℕ} {g : Got (Bor (List ℕ))} {t : Bool} (h : BlockAt bs 8 at (Ok g)) (t₄ : t ≡ bytes_eq g.value.now (format true)) where
+  pub format_of_4 : {a : Got Bool} → t ≡ true → a.value ≡ true → a.next ≡ g.next → ReadAt bs load_format at (Ok a)
+  format_of_4 e v n = reads_then _ h (λ s p. record { ends = rw (p, told g.value.now (format true) t₄, e) (rw n refl, sym v) })
 
-  module _ {u : Bool} (e : t ≡ false) (t₈ : u ≡ bytes_eq (take (at + 8 - at) (drop at bs)) (format false)) where
-    pub format_of_8 : u ≡ true → ReadAt bs load_format at (Ok (record { value = false; next = at + 8 }))
-    format_of_8 f = record { ends = rw (block_at 8 bs at h, told bs at 8 (format true) t₄, e, told bs at 8 (format false) t₈, f) (refl, refl) }
+  module _ {u : Bool} (e : t ≡ false) (t₈ : u ≡ bytes_eq g.value.now (format false)) where
+    pub format_of_8 : {a : Got Bool} → u ≡ true → a.value ≡ false → a.next ≡ g.next → ReadAt bs load_format at (Ok a)
+    format_of_8 f v n = reads_then _ h (λ s p. record { ends = rw (p, told g.value.now (format true) t₄, e, told g.value.now (format false) t₈, f) (rw n refl, sym v) })
 
     pub format_other : u ≡ false → ReadAt bs load_format at (Err BadFormat)
-    format_other f = record { ends = rw (block_at 8 bs at h, told bs at 8 (format true) t₄, e, told bs at 8 (format false) t₈, f) refl }
-
-pub header_loaded : {bs : List ℕ} {n : ℕ} {r : Result (Got Bool) Refusal} → ReadsBy bs (load_exactly signature 3) (λ v (n : ℕ). Unit {0}) (λ n. n) beginning (Ok n) → ReadAt bs load_format n r → ReadAt bs load_header beginning r
-unfolding load_header
-header_loaded h k = reads_then _ h (λ v e. k)
-
-pub signature_refused : {bs : List ℕ} {x : Refusal} {r : Result (Got Bool) Refusal} → IsErrAnd r (λ y. y ≡ x) → ReadsBy bs (load_exactly signature 3) (λ v (n : ℕ). Unit {0}) (λ n. n) beginning (Err x) → ReadAt bs load_header beginning r
-unfolding load_header
-signature_refused {r = r} i h = let p = err_from_is_err_and r i in rw (p.1, p.2) (reads_refused _ h)
+    format_other f = reads_then _ h (λ s p. record { ends = rw (p, told g.value.now (format true) t₄, e, told g.value.now (format false) t₈, f) refl })
 
 -- ---- a whole chunk
 
@@ -85,9 +76,9 @@ module _ {bs ws ts ws' ts' : List ℕ} where
       rw (p.1, p.2) (record { ends = (reads_refused {Q = Answered ws ts ws' ts'} {next' = λ c. c.next} (λ v. load_function v depth >>= λ f. return (record { size4 = v; root = repaired f })) h).ends })
 
   module _ {h : Got Bool} {n : ℕ} (k : ReadAt bs load_header beginning (Ok h)) where
-    pub function_refused : {P : Function → Unit {0} → Type 0} {x : Refusal} {r : Result LoadedChunk Refusal} → IsErrAnd r (λ y. y ≡ x)
-        → ReadsBy bs (load_function h.value depth) P (λ u. n) h.next (Err x) → LoadsChunk bs ws ts r ws' ts'
-    function_refused {r = r} i l = let p = err_from_is_err_and r i in rw (p.1, p.2) (header_then k (reads_refused _ l))
+    pub function_refused : {τ : Space} {x : Refusal} {r : Result LoadedChunk Refusal} → ReadsBy bs (load_function h.value depth) (λ f (u : Unit {0}). Does (repaired_function f) (unused ws ts) τ) (λ u. n) h.next (Err x)
+        → IsErrAnd r (λ y. y ≡ x) → LoadsChunk bs ws ts r ws' ts'
+    function_refused {r = r} l i = let p = err_from_is_err_and r i in rw (p.1, p.2) (header_then k (reads_refused _ l))
 
     pub chunk_loaded : {a b : ℕ} {u v : List ℕ} → u ≡ ws' → v ≡ ts' → ReadsBy bs (load_function h.value depth) (λ f (u : Unit {0}). Does (repaired_function f) (unused ws ts) (record { words_at = a; text_at = b; words = ws'; text = ts' })) (λ u. n) h.next (Ok tt)
         → LoadsChunk bs ws ts (Ok (record { size_4 = h.value; words = a; text = b; next = n })) u v
@@ -121,9 +112,9 @@ module _ (bs u v : List ℕ) where
   measured_by_law c (refused k) t ew en em er = absurd t
 
 -- a name that is refused
-pub name_refused : {bs : List ℕ} (name : List ℕ) (x : Refusal) {r : Result Undumped Refusal} → IsErrAnd r (λ y. y ≡ x) → number x ≡ name_refusal name → Measures bs name r
+pub name_refused : {bs : List ℕ} (name : List ℕ) (x : Refusal) {r : Result Undumped Refusal} → number x ≡ name_refusal name → IsErrAnd r (λ y. y ≡ x) → Measures bs name r
 unfolding measured
-name_refused name x {r} i e = let p = err_from_is_err_and r i in rw (p.1, p.2) (record { answers = by_name name refused_by _ (refusal_above x) e; accepted = tt })
+name_refused name x {r} e i = let p = err_from_is_err_and r i in rw (p.1, p.2) (record { answers = by_name name refused_by _ (refusal_above x) e; accepted = tt })
 
 module _ {bs : List ℕ} (name : List ℕ) {u v : List ℕ} (o : 0 ≡ name_refusal name) where
   pub measures_refused : {x : Refusal} {r : Result Undumped Refusal} → IsErrAnd r (λ y. y ≡ x) → LoadsChunk bs [] [] (Err x) u v → Measures bs name r
@@ -173,9 +164,10 @@ module _ (bs ws ts : List ℕ) (r : Result LoadedChunk Refusal) (ws' ts' : List 
   unfolding measured undumped
   left name d z en ek = stored_as (name_ok name) (load_chunk bs) r d.ends z en ek
 
-pub refused_as : (bs name ws ts : List ℕ) (need_words need_text need_read : ℕ) (x : Refusal) (r : Result Undumped Refusal) → IsErrAnd r (λ y. y ≡ x) → refused_by (number x) ≡ measured bs name
+pub refused_as : (bs name ws ts : List ℕ) (need_words need_text need_read : ℕ) (x : Refusal) (r : Result Undumped Refusal) → Measures bs name (Err x) → IsErrAnd r (λ y. y ≡ x)
     → undump_left (undumped_result r) ws ts ≡ stored bs name need_words need_text need_read ws ts
-refused_as bs name ws ts need_words need_text need_read x r i e =
+refused_as bs name ws ts need_words need_text need_read x r d i =
+    let e : refused_by (number x) ≡ measured bs name = d.answers in
     let p = err_from_is_err_and r i in
     let some : (measured bs name).refusal ≡ 0 → ⊥ = λ z. let j : number x ≡ (measured bs name).refusal = ap (λ (u : Undumped). u.refusal) e in omega (arith, refusal_above x) in
     rw (p.1, p.2, store_refused bs name ws ts need_words need_text need_read some, e) (ap (λ (a : Undumped). undump_left a ws ts) (refused_whole bs name some))

@@ -8,7 +8,7 @@ use Rattle.load_state.specs.ReadAt.{Ends}
 use Rattle.load.specs.Loads.{Space, Does}
 use Rattle.undump.specs.declared.LoadedChunk.{LoadedChunk}
 
--- the first byte of the chunk
+-- the place of the first byte of the chunk
 abbrev pub beginning : ℕ
 beginning = 0
 

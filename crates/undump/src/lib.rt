@@ -1,4 +1,5 @@
 // Reading a chunk into lent memory (lundump.c; in the Rust, undump.rs), in two calls: one learns the space, one stores the tree.
+// Words and text are apart in what serves the calls for C, as C lends them.
 #![tactic(auto)]
 
 pub mod header;
@@ -10,6 +11,7 @@ ghost use Rattle.undump.specs.Undump.{LoadsChunk, Measures, undump_left};
 use format::{DEPTH, MOST, Refusal, Undumped, check_name, width};
 use header::load_header;
 use load::Loader;
+use load::cursor::ChunkReader;
 use load_function::load_function;
 use load_state::LoadState;
 
@@ -25,18 +27,21 @@ pub struct LoadedChunk {
     pub next: usize,
 }
 
-// The header, then the root function, whose tree goes to the words and the text (luaU_undump).
+// The header, then the root function, whose tree goes to the words and the text (luaU_undump). They are lent to be written, where a Store is of what is read.
+#[tactic(auto, using(crate::proofs::Calls::header_refused, crate::proofs::Calls::chunk_loaded))]
 fn load_chunk(chunk: &[u8], words: &mut [u32], text: &mut [u8]) -> Result<LoadedChunk, Refusal>
     ensures { LoadsChunk chunk.now words.old text.old result words.new text.new }
 {
     let header = load_header(chunk)?;
-    let reader = LoadState {
-        chunk,
-        pos: header.next,
+    let reader = ChunkReader {
+        state: LoadState {
+            chunk,
+            pos: header.next,
+        },
+        size_4: header.value,
     };
     let mut s = Loader {
         reader,
-        size_4: header.value,
         words,
         words_at: 0,
         text,
@@ -47,11 +52,12 @@ fn load_chunk(chunk: &[u8], words: &mut [u32], text: &mut [u8]) -> Result<Loaded
         size_4: header.value,
         words: s.words_at,
         text: s.text_at,
-        next: s.reader.pos,
+        next: s.reader.state.pos,
     })
 }
 
 // The chunk is loaded with no space, which counts and finds what refuses it.
+#[tactic(auto, using(crate::proofs::Calls::measures_refused, crate::proofs::Calls::measure_whole))]
 fn load_measured(chunk: &[u8], name: &[u8]) -> Result<Undumped, Refusal>
     ensures { Measures chunk.now name.now result }
 {

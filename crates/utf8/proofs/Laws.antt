@@ -1,4 +1,4 @@
--- Laws of text: repair leaves it alone (repair-utf8), what repair gives is text (utf8-repair), and text is made of bytes (utf8-bytes).
+-- Laws of text: repair leaves it alone (repair_utf8), what repair gives is text (utf8_repair), and text is made of bytes (utf8_bytes).
 use Rattle.lent.proofs.Prelude.{ℕ, zero, suc, ◌≤◌, ◌<◌, min, ◌≡◌, refl, sym, ap, ◌∙◌, List, [], ◌∷◌, ◌++◌, append_assoc, append-nil, true, cond, ◌&&◌, false≢true, and-eq-true_iff, arith, le_refl, length, take, drop, length-drop, take-append-drop, length-take-le, drop_at, take_at, leb-zero, le-leb, eqb-true, eq-eqb}
 use Rattle.lent.specs.Memory.{Every, Byte, Bytes}
 use Rattle.lent.proofs.Lists.{every_append}

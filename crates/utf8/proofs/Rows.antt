@@ -2,10 +2,10 @@
 -- bytes at places against the ranges of a row; and a lead byte's row, by a test that is computed for each byte.
 use Rattle.lent.proofs.Prelude.{ℕ, zero, suc, ◌+◌, ◌-◌, ◌≤◌, ◌<◌, min, max, ◌≡◌, refl, sym, ◌∙◌, List, [], ◌∷◌, Bool, true, false, cond, ◌&&◌, false≢true, and-eq-true_iff, arith, length, drop, get_or, drop_of_length-le, leb, eqb, eqb-zero-suc, lt-leb, leb-true, eqb-true, ne_eqb, add_assoc, dec_le, drop-drop}
 use Rattle.utf8.specs.Utf8.{Step, Range, ◌‥◌, Row, table3_7, within, matched, whole, begun, first_step}
-use Rattle.utf8.specs.Rows.{row_of, second_low, second_high, second_range, ranges, begun_at, begins}
-use Rattle.lent.proofs.Lists.{drop_more}
+use Rattle.utf8.specs.Rows.{row_of, second_range, ranges, begun_at, begins}
+use Rattle.std.proofs.lemmas.List.{drop_more}
 
--- by a test: what holds of each result holds of the test's, where that result is known
+-- by a test: what holds of each result holds of the test's, where that result is known. std's cases_Bool gives the two results, and no P rewritten by them.
 pub by_test : (P : Bool → Type 0) (b : Bool) → (b ≡ true → P true) → (b ≡ false → P false) → P b
 by_test P true h k = h refl
 by_test P false h k = k refl
@@ -93,19 +93,13 @@ module _ (s : List ℕ) (at : ℕ) (r : Range) where
 
   pub begins_some : at < length s → begins r (drop at s) ≡ within (get_or s at 0) r
   unfolding begins
-  begins_some h = rw (drop_more s at h)
+  begins_some h = rw (drop_more s at 0 h)
 
   begins_within : begins r (drop at s) ≡ true → at < length s
   begins_within e = elim (dec_le (length s) at) [
     | yes h ↦ absurd (false≢true (sym (begins_none h) ∙ e))
     | no h ↦ omega arith
   ]
-
-  pub begins_byte : begins r (drop at s) ≡ true → (at < length s) × (r.low ≤ get_or s at 0) × (get_or s at 0 ≤ r.high)
-  begins_byte e =
-      let l = begins_within e in
-      let h = in_range (get_or s at 0) r (sym (begins_some l) ∙ e) in
-      (l, h.0, h.1)
 
 matched_begins : (r : Range) (row : Row) (bs : List ℕ) → matched (r ∷ row) bs ≡ cond (begins r bs) (suc (matched row (drop 1 bs))) 0
 unfolding begins matched
@@ -116,9 +110,6 @@ matched_begins r row (b ∷ bs) = refl
 pub record Begun (s : List ℕ) (at n k : ℕ) (r : Range) : Type 0 where
   pub within : at + k ≤ length s
   pub bytes : begun_at s at n ≡ k + matched (ranges (n - k) r) (drop (at + k) s)
-
-pub begun_start : (s : List ℕ) (at n : ℕ) {low high : ℕ} → at < length s → low ≡ second_low (get_or s at 0) → high ≡ second_high (get_or s at 0) → Begun s at n 1 (low ‥ high)
-begun_start s at n h e f = record { within = omega arith; bytes = rw (e, f) (omega arith) }
 
 module _ {s : List ℕ} {at n k : ℕ} {r : Range} where
   pub begun_more : {t : Bool} → k < n → t ≡ begins r (drop (at + k) s) → t ≡ true → Begun s at n k r → Begun s at n (k + 1) (0x80 ‥ 0xbf)
@@ -177,18 +168,6 @@ passes_at f from (suc n) b e h k =
 
 -- ---- the rows of table 3-7
 
--- the bytes of a range lead rows of n
-abbrev pub Led : ℕ → ℕ → ℕ → Type 0
-Led n low high = (b : ℕ) → low ≤ b → b ≤ high → n ≡ length (row_of table3_7 b)
-
--- computed for each of them
-pub rows_led : Led 1 0x00 0x7f × Led 0 0x80 0xc1 × Led 2 0xc2 0xdf × Led 3 0xe0 0xef × Led 4 0xf0 0xf4 × Led 0 0xf5 0xff
-unfolding passes row_of
-rows_led = (led 1 0x00 0x7f refl, led 0 0x80 0xc1 refl, led 2 0xc2 0xdf refl, led 3 0xe0 0xef refl, led 4 0xf0 0xf4 refl, led 0 0xf5 0xff refl)
-  where
-    led : (n low high : ℕ) → passes (λ b. eqb n (length (row_of table3_7 b))) low (suc high - low) ≡ true → Led n low high
-    led n low high e b h k = eqb-true n (length (row_of table3_7 b)) (passes_at (λ b. eqb n (length (row_of table3_7 b))) low (suc high - low) b e h (omega arith))
-
 -- behind the lead byte are the ranges that the code has
 lead_ranges : (b : ℕ) → b < 256 → ranges (length (row_of table3_7 b) - 1) (second_range b) ≡ drop 1 (row_of table3_7 b)
 unfolding same passes row_of
@@ -201,7 +180,7 @@ lead_ranges b h =
 -- m bytes begin the row, which has n
 pub step_led : (s : List ℕ) (at n m : ℕ) {t : Bool} → at < length s → get_or s at 0 < 256 → n ≡ length (row_of table3_7 (get_or s at 0)) → m ≡ begun_at s at n
     → t ≡ eqb m n → record { len = m; well_formed = t } ≡ first_step (drop at s)
-step_led s at n m h k e q w = rw (drop_more s at h, row_step_law, w, q, e, lead_ranges (get_or s at 0) k)
+step_led s at n m h k e q w = rw (drop_more s at 0 h, row_step_law, w, q, e, lead_ranges (get_or s at 0) k)
 
 pub step_none : (s : List ℕ) (at : ℕ) → length s ≤ at → record { len = 0; well_formed = false } ≡ first_step (drop at s)
 unfolding first_step whole begun matched

@@ -1,12 +1,12 @@
 -- Text within bytes: how it goes on, and what it says of the whole.
 use Rattle.lent.proofs.Prelude.{ℕ, ◌+◌, ◌-◌, ◌≤◌, ◌<◌, min, ◌≡◌, refl, sym, ap, ◌∙◌, List, [], ◌∷◌, ◌++◌, Bool, true, false, not, arith, ℕ_discrete, length, take, drop, get_or, take-append-drop, length-drop, drop_of_length-le, take-add, drop-drop, eqb, eq-eqb, ne_eqb, not-false}
-use Rattle.lent.proofs.Lists.{drop_more}
-use Rattle.utf8.specs.Utf8.{Step, Range, ◌‥◌, first_step, is_utf8, is_ascii, replacement, repair_up_to, repair}
+use Rattle.std.proofs.lemmas.List.{drop_more}
+use Rattle.utf8.specs.Utf8.{Step, table3_7, first_step, is_utf8, is_ascii, replacement, repair_up_to, repair}
 use Rattle.utf8.proofs.Laws.{step_bounds, utf8_nil, utf8_cons, repair_cons, ascii_sequence, front_sequence, sequence_text, utf8_append, utf8_both, repair_append, utf8_ascii}
-use Rattle.utf8.specs.Rows.{begins}
+use Rattle.utf8.specs.Rows.{row_of, begun_at}
 use Rattle.utf8.specs.Text.{Text, TextEnd}
 use Rattle.utf8.proofs.Ascii.{ascii_every}
-use Rattle.utf8.proofs.Rows.{Led, step_led, begins_byte, Begun, begun_done}
+use Rattle.utf8.proofs.Rows.{step_led}
 
 -- ---- text from a place on
 
@@ -46,10 +46,10 @@ step_most s at e = rw e (simp length-drop at (step_bounds (drop at s)).1)
 module _ (s : List ℕ) (at : ℕ) (h : at < length s) where
   -- what holds of a first byte and those behind it
   there : (P : List ℕ → Type 0) → ((b : ℕ) (bs : List ℕ) → P (b ∷ bs)) → P (drop at s)
-  there P f = rw (drop_more s at h) (f (get_or s at 0) (drop (at + 1) s))
+  there P f = rw (drop_more s at 0 h) (f (get_or s at 0) (drop (at + 1) s))
 
   pub text_byte : get_or s at 0 < 0x80 → Text s at (at + 1)
-  text_byte l = text_some s at 1 (omega arith) (rw (drop_more s at h) (sequence_text (get_or s at 0 ∷ []) (ascii_sequence (get_or s at 0) l)))
+  text_byte l = text_some s at 1 (omega arith) (rw (drop_more s at 0 h) (sequence_text (get_or s at 0 ∷ []) (ascii_sequence (get_or s at 0) l)))
 
   module _ {r : Step} (e : r ≡ first_step (drop at s)) where
     pub text_step : not r.well_formed ≡ false → Text s at (at + r.len)
@@ -69,12 +69,9 @@ pub repair_none : (s : List ℕ) (at : ℕ) → length s ≤ at → repair (drop
 unfolding repair_up_to
 repair_none s at h = rw (drop_of_length-le s h)
 
--- a sequence of n bytes, its lead byte in a range whose bytes all lead rows of n
-pub text_led : {s : List ℕ} {at : ℕ} {t : Bool} {r : Range} (n low high : ℕ) → Led n low high → high < 256
-    → t ≡ begins (low ‥ high) (drop at s) → t ≡ true → Begun s at n n r → Text s at (at + n)
-text_led {s} {at} {t} n low high led k e h l =
-    let b = begins_byte s at (low ‥ high) (sym e ∙ h) in
-    text_step s at b.0 (step_led s at n n b.0 (omega arith) (led (get_or s at 0) b.1 b.2) (begun_done (omega arith) l) (sym (eq-eqb n n refl))) refl
+-- a sequence of n bytes: the row of its lead byte has n, and n begin it
+pub text_led : {s : List ℕ} {at : ℕ} (n : ℕ) → at < length s → get_or s at 0 < 256 → length (row_of table3_7 (get_or s at 0)) ≡ n → begun_at s at n ≡ n → Text s at (at + n)
+text_led {s} {at} n h k e l = text_step s at h (step_led s at n n h k (sym e) (sym l) (sym (eq-eqb n n refl))) refl
 
 -- text that ends at the end of the bytes
 pub text_end : {s : List ℕ} {at to : ℕ} → length s ≤ to → Text s at to → TextEnd s at to

@@ -1,12 +1,13 @@
-// UTF-8: whether bytes are well-formed, and their repair. The functions go over bytes and a place: a cut slice would need the place back.
-// That the place lies within the bytes is asked for in each: a struct that held it would be built anew at each step, and the bound proved again.
+// UTF-8: whether bytes are well-formed, and their repair. The functions go over bytes and a place: over a slice that begins at the place, text_end takes
+// 0.60 and not 0.42 million instructions for 60,000 bytes of sequences of two, 0.86 and not 0.70 of three, 1.34 and not 1.17 of four, 0.99 and not 0.90 of
+// damaged text. That the place lies within the bytes is asked for in each: a struct that held it would be built anew at each step, and the bound proved again.
 #![tactic(auto)]
 
-ghost use Rattle.std.specs.Prelude.{◌+◌, ◌≤◌, ◌<◌, ◌≡◌, true, length, drop, get_or};
+ghost use Rattle.std.specs.Prelude.{◌+◌, ◌≤◌, ◌<◌, ◌≡◌, true, length, drop};
 ghost use Rattle.lent.specs.Memory.{Puts};
 ghost use Rattle.lent.specs.Writer.{Writes};
 ghost use Rattle.utf8.specs.Utf8.{◌‥◌, table3_7, first_step, is_utf8, is_ascii, repair as repaired};
-ghost use Rattle.utf8.specs.Rows.{row_of, step_of, second_low, second_high, second_range, begun_at, begins};
+ghost use Rattle.utf8.specs.Rows.{row_of, step_of, second_low, second_high, begun_at, begins};
 ghost use Rattle.utf8.specs.Text.{Text, TextEnd};
 
 use lent::Writer;
@@ -38,15 +39,6 @@ fn second_high(b: u8) -> u8
         0xf4 => 0x8f,
         _ => 0xbf,
     }
-}
-
-// Whether a second byte stands behind the lead byte at a place.
-fn second_fits(bytes: &[u8], at: usize) -> bool
-    requires { at < length bytes.now }
-    ensures { result ≡ begins (second_range (get_or bytes.now at 0)) (drop (at + 1) bytes.now) }
-{
-    let b = bytes[at];
-    in_range(bytes, at + 1, second_low(b), second_high(b))
 }
 
 // How many bytes the row of a lead byte has, 0 where it leads none, as the definition has it. An Option made 60,000 bytes of sequences of four slower
@@ -97,20 +89,12 @@ pub fn step_at(bytes: &[u8], at: usize) -> Result<usize, usize>
     if len == n { Ok(len) } else { Err(len) }
 }
 
-// Whether a well-formed sequence of two bytes stands at a place.
-fn two(bytes: &[u8], at: usize) -> bool
+// Whether a well-formed sequence of N bytes stands at a place.
+fn sequence<const N: usize>(bytes: &[u8], at: usize) -> bool
     requires { at < length bytes.now }
-    ensures { result ≡ true → Text bytes.now at (at + 2) }
+    ensures { result ≡ true → Text bytes.now at (at + N) }
 {
-    in_range(bytes, at, 0xc2, 0xdf) && second_fits(bytes, at)
-}
-
-// Whether a well-formed sequence of three bytes stands at a place.
-fn three(bytes: &[u8], at: usize) -> bool
-    requires { at < length bytes.now }
-    ensures { result ≡ true → Text bytes.now at (at + 3) }
-{
-    in_range(bytes, at, 0xe0, 0xef) && second_fits(bytes, at) && in_range(bytes, at + 2, 0x80, 0xbf)
+    row_len(bytes[at]) == N && begun_at(bytes, at, N) == N
 }
 
 // Whether bytes are ASCII.
@@ -135,13 +119,13 @@ fn ascii_blocks(bytes: &[u8], at: usize) -> usize
     i
 }
 
-// The end of the ASCII at a place.
+// The end of the ASCII at a place. By index: with position over the slice behind the blocks 60,000 bytes of ASCII took 24,568 and not 22,692 instructions,
+// and ASCII with some sequences of three 617,799 and not 581,671.
 #[tactic(auto, using(crate::proofs::Texts::text_byte, crate::proofs::Texts::text_join))]
 fn ascii_end(bytes: &[u8], at: usize) -> usize
     requires { at ≤ length bytes.now }
     ensures { Text bytes.now at result }
 {
-    // By index: position would answer a place in a cut slice, or None for the end.
     for i in ascii_blocks(bytes, at)..bytes.len() {
         if 0x80 <= bytes[i] {
             return i;
@@ -151,6 +135,7 @@ fn ascii_end(bytes: &[u8], at: usize) -> usize
 }
 
 // The end of the well-formed text at a place. ASCII and sequences of two and three bytes are tried first, since they are the most common.
+#[tactic(auto, using(crate::proofs::Texts::text_none, crate::proofs::Texts::text_byte, crate::proofs::Texts::text_join))]
 fn text_end(bytes: &[u8], at: usize) -> usize
     requires { at ≤ length bytes.now }
     ensures { TextEnd bytes.now at result }
@@ -160,9 +145,9 @@ fn text_end(bytes: &[u8], at: usize) -> usize
     while i < bytes.len() {
         if bytes[i] < 0x80 {
             i = ascii_end(bytes, i + 1);
-        } else if two(bytes, i) {
+        } else if sequence::<2>(bytes, i) {
             i += 2;
-        } else if three(bytes, i) {
+        } else if sequence::<3>(bytes, i) {
             i += 3;
         } else {
             match step_at(bytes, i) {
@@ -174,7 +159,8 @@ fn text_end(bytes: &[u8], at: usize) -> usize
     i
 }
 
-// Whether bytes are well-formed UTF-8.
+// Whether bytes are well-formed UTF-8. Tried: std's from_utf8. For 60,000 bytes of sequences of two it takes 0.81 and not 0.42 million instructions, 0.86 and
+// not 0.70 of three (0.68 and not 1.17 of four, 0.01 and not 0.02 of ASCII).
 #[tactic(auto, using(crate::proofs::Texts::text_whole))]
 pub fn is_utf8(bytes: &[u8]) -> bool
     ensures { result ≡ is_utf8 bytes.now }
@@ -182,7 +168,8 @@ pub fn is_utf8(bytes: &[u8]) -> bool
     text_end(bytes, 0) == bytes.len()
 }
 
-// Writes bytes, each maximal subpart of an ill-formed subsequence replaced by U+FFFD.
+// Writes bytes, each maximal subpart of an ill-formed subsequence replaced by U+FFFD. Not by std's utf8_chunks: it was slower for sequences of two and of three,
+// as from_utf8 is in is_utf8, and the step of repair is to be by the rows of the standard, a rule of the project.
 fn put_steps(w: &mut Writer, bytes: &[u8])
     ensures { Writes (repaired bytes.now) w.old w.new }
 {
@@ -213,7 +200,8 @@ pub fn put_repaired(w: &mut Writer, bytes: &[u8])
     }
 }
 
-// The same for callers that have bytes and a place, and no writer: here test_leaves alone (docs/CLAIMS.md cites it). Answers the next place.
+// The same for callers that have bytes and a place, and no writer: here test_leaves alone. It stays, as docs/CLAIMS.md says what it promises. Answers the
+// next place.
 pub fn repair(bytes: &[u8], out: &mut [u8], at: usize) -> usize
     ensures { Puts (repaired bytes.now) at out.old result out.new }
 {

@@ -1,18 +1,12 @@
 -- Not refused, the function stands at its place, and so do its constants.
-use Rattle.std.proofs.lemmas.Result.{err_from_is_err_and}
 use Rattle.lent.proofs.Prelude.{ap, ◌∙◌}
 use Rattle.format.specs.Tree.{parts_of}
 use Rattle.format.specs.Dump.{write_refused, written}
 use Rattle.proto.proofs.Items.{somewhere, constants_stand}
 use Rattle.debug_info.specs.Names.{kname}
 use Rattle.debug_info.specs.Calls.{knamed}
-use Rattle.debug_info.proofs.Calls.{place_refused, place_answered}
+use Rattle.debug_info.proofs.Calls.{place_answered}
 use Rattle.debug_info.proofs.write_kname.Goals as goal
-
-pub returns-in_err-has_function : goal.returns-in_err-has_function
-unfolding knamed
-returns-in_err-has_function c = let a = c.args in let out = a.out.now in let p = err_from_is_err_and c.from_residual.result c.from_residual.ensures.1 in
-    rw (p.1, p.2) (place_refused (λ n. write_refused n out) (λ f. written (kname (parts_of f).constants a.c) out) _ _ _ _ c.in_err-has_function.ensures)
 
 pub returns : goal.returns
 unfolding knamed

@@ -1,4 +1,4 @@
--- By the number of digits.
+-- By the number of digits. With width_decimal as the function's own law the search leaves these four goals open.
 use Rattle.lent.proofs.Prelude.{arith}
 use Rattle.digits.proofs.Rooms.{width_decimal}
 use Rattle.digits.proofs.store_decimal.Goals as goal

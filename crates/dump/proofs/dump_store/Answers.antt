@@ -1,26 +1,13 @@
 -- There is room for the chunk of any tree that the store holds, by has_room or as it was counted.
 use Rattle.lent.proofs.Prelude.{zero-le, ◌≤◌, length, ap, arith}
-use Rattle.std.proofs.lemmas.Result.{err_from_is_err_and}
 use Rattle.format.specs.Tree.{Function}
 use Rattle.format.specs.Valid.{Holds}
 use Rattle.format.specs.Write.{dump_chunk}
 use Rattle.format.specs.Dump.{dumped}
-use Rattle.proto.proofs.Calls.{refused_name, refused_store, refused_room, roomy_written}
+use Rattle.proto.proofs.Calls.{refused_room, roomy_written}
 use Rattle.dump.proofs.Bounds.{chunk_bound}
 use Rattle.dump.proofs.dump_store.Goals as goal
 use Rattle.dump.proofs.dump_store.Goals.{then-not-has_room+else-out-len, else-not-has_room}
-
-pub returns-in_err-check_name : goal.returns-in_err-check_name
-unfolding dumped
-returns-in_err-check_name c =
-    let p = err_from_is_err_and c.from_residual.result c.from_residual.ensures.1 in
-    rw (p.1, p.2) (refused_name (λ f. dump_chunk c.args.options.strip c.args.options.size_4 c.args.name.now f) _ _ _ _ _ c.in_err-check_name.ensures)
-
-pub returns-in_err-check_held : goal.returns-in_err-check_held
-unfolding dumped
-returns-in_err-check_held c =
-    let p = err_from_is_err_and c.from_residual-in_err-check_held.result c.from_residual-in_err-check_held.ensures.1 in
-    rw (p.1, p.2) (refused_store (λ f. dump_chunk c.args.options.strip c.args.options.size_4 c.args.name.now f) _ _ _ _ _ c.in_ok-check_name.ensures c.in_err-check_held.ensures)
 
 pub returns-then-out-len : goal.returns-then-out-len
 unfolding dumped

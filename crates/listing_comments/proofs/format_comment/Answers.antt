@@ -33,7 +33,7 @@ returns-in-6 c = λ p fs number l k.
 
 pub returns-in-36 : goal.returns-in-36
 unfolding format_comment is_jump
-returns-in-36 c = λ p fs number l k. rw c.in-36.is (closure_shown fs number _ c.args.i _ l.functions k c.in-36.is (rw c.bx-bx.ensures at c.comment_closure.ensures))
+returns-in-36 c = λ p fs number l k. rw c.in-36.is (closure_shown fs number _ c.args.i.0 _ l.functions k c.in-36.is (rw c.bx-bx.ensures at c.comment_closure.ensures))
 
 pub returns-in-34 : goal.returns-in-34
 unfolding format_comment is_jump
@@ -46,15 +46,15 @@ returns-in-37 c = λ p fs number l k. rw c.in-37.is c.comment_vararg.ensures
 pub returns-in_default : goal.returns-in_default
 unfolding format_comment Every
 returns-in_default c = λ p fs number l k.
-    let t = when (ISK (GETARG_B c.args.i) || ISK (GETARG_C c.args.i)) (comment (operand_constant p.constants (GETARG_B c.args.i) ++ ascii " " ++ operand_constant p.constants (GETARG_C c.args.i))) in
-    let e = of_each (λ op. format_comment op p fs number c.args.pc c.args.i ≡ t) c.args.op operand_ops (sym c.has_operands.ensures ∙ c.if-has_operands.true) (refl, (refl, (refl, (refl, (refl, (refl, (refl, (refl, (refl, (refl, tt)))))))))) in
+    let t = when (ISK (GETARG_B c.args.i.0) || ISK (GETARG_C c.args.i.0)) (comment (operand_constant p.constants (GETARG_B c.args.i.0) ++ ascii " " ++ operand_constant p.constants (GETARG_C c.args.i.0))) in
+    let e = of_each (λ op. format_comment op p fs number c.args.pc c.args.i.0 ≡ t) c.args.op operand_ops (sym c.has_operands.ensures ∙ c.if-has_operands.true) (refl, (refl, (refl, (refl, (refl, (refl, (refl, (refl, (refl, (refl, tt)))))))))) in
     rw (e, ← c.b-b.ensures, ← c.c-c.ensures) (c.comment_operands.ensures.shows p.constants l.constants)
 
 pub returns-in_default-2 : goal.returns-in_default-2
 unfolding format_comment is_jump Every
 returns-in_default-2 c = λ p fs number l k.
-    let t = comment (ascii "to " ++ jump_target c.args.pc c.args.i) in
-    let e = of_each (λ op. format_comment op p fs number c.args.pc c.args.i ≡ t) c.args.op jump_ops (sym c.is_jump.ensures ∙ c.if-is_jump.true) (refl, (refl, (refl, tt))) in
+    let t = comment (ascii "to " ++ jump_target c.args.pc c.args.i.0) in
+    let e = of_each (λ op. format_comment op p fs number c.args.pc c.args.i.0 ≡ t) c.args.op jump_ops (sym c.is_jump.ensures ∙ c.if-is_jump.true) (refl, (refl, (refl, tt))) in
     rw e c.comment_jump.ensures
 
 pub returns-in_default-3 : goal.returns-in_default-3

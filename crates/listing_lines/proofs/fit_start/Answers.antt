@@ -6,4 +6,4 @@ pub returns : goal.returns
 returns g c =
     let index = fits_then (fits_then c.fit_byte-a.ensures c.fit_decimal-b.ensures) c.fit_byte-c.ensures in
     let name = fits_then (fits_then (fits_then index c.fit_line-d.ensures) c.fit_byte-e.ensures) c.fit_name-f.ensures in
-    fits_then (fits_then name c.fit_byte-g.ensures) c.fit_operands.ensures
+    rw (← c.opcode-op.ensures) (fits_then (fits_then name c.fit_byte-g.ensures) c.fit_operands.ensures)

@@ -1,4 +1,5 @@
 -- Three lists, one after the other.
+-- By an attribute, search does not close what is answered here.
 use Rattle.load_function.proofs.Trees.{debug_loaded}
 use Rattle.load_function.proofs.load_debug.Goals as goal
 

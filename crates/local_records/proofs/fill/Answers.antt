@@ -1,4 +1,4 @@
--- The loop's invariant: so many records are filled.
+-- The records filled so far, one more by a turn. Named in an attribute, the same laws close neither goal.
 use Rattle.lent.proofs.Prelude.{length-set, rules}
 use Rattle.local_records.proofs.Records.{filling_more, filling_all}
 use Rattle.local_records.proofs.fill.Goals as goal

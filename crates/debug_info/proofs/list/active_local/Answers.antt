@@ -1,4 +1,5 @@
--- The loop's invariant: the locals from here on lead to what all of them do.
+-- By what a local tells: the search is over, or it is this one, or it goes on behind it.
+-- Tried by an attribute: all but the one that is found stay open, as the search gives up at a limit.
 use Rattle.debug_info.proofs.Lists.{ends_over, ends_nothing, ends_found, goes_on}
 use Rattle.debug_info.proofs.list.active_local.Goals as goal
 

@@ -1,4 +1,5 @@
--- Each call marks a register, so that fewer are left to search; that number is the measure, and bounds the definition's search.
+-- By the lines of the definition: searched before, a local, moved from another register, of which one more is then searched, or written.
+-- Tried by an attribute: all but the local stay open, as the search gives up at a limit.
 use Rattle.lent.proofs.Prelude.{arith, sym, ◌∙◌}
 use Rattle.debug_info.proofs.Searches.{marked, moves_below, search_again, search_local, search_moved, search_wrote}
 use Rattle.debug_info.proofs.object.+getobjname.Goals as goal
@@ -10,10 +11,10 @@ pub returns-then-is_some : goal.returns-then-is_some
 returns-then-is_some t c = search search_local
 
 pub getobjname-requires : goal.getobjname-requires
-getobjname-requires t c = (
-  omega (arith, marked c.args.before c.args.reg (omega (arith, c.requires)) c.if-before-n.false, c.decreases),
-  rw c.b.ensures (moves_below _ (sym c.moves_up.ensures ∙ c.if-moves_up.true)),
-)
+getobjname-requires t c = (omega (arith, marked c.args.before c.args.reg (omega (arith, c.ranges.reg)) c.if-before-n.false, c.decreases), tt)
+
+pub overflow_cast-b : goal.overflow_cast-b
+overflow_cast-b t c = record { fits = rw c.b.ensures (moves_below _ (sym c.moves_up.ensures ∙ c.if-moves_up.true)) }
 
 pub returns-then-moves_up : goal.returns-then-moves_up
 returns-then-moves_up t c = search search_moved

@@ -1,4 +1,5 @@
--- What is left to write is the bytes left: those that are written as themselves, then one that may not be.
+-- What is left to write is the bytes left: those that are written as themselves, then one that may not be. With these laws as the function's own
+-- the search proves neither end.
 use Rattle.lent.proofs.Prelude.{rules, arith}
 use Rattle.lent.proofs.Writers.{left_put, left_end}
 use Rattle.digits.proofs.Strings.{escaped_none, escaped_more}

@@ -4,4 +4,4 @@ use Rattle.format.specs.Write.{dump_int, each}
 use Rattle.dump.proofs.block.store_ints.Given as goal
 
 abbrev pub invariant-loop-i : goal.invariant-loop-i
-invariant-loop-i l = l.out ≡ sets l.initial.out l.at (each dump_int (take l.i l.l))
+invariant-loop-i l = l.to ≡ sets l.initial.to 0 (each dump_int (take l.i l.l))

@@ -1,4 +1,4 @@
--- What is left to write are the lines from pc on; the functions that are looked up are those in this one.
+-- A turn writes one line of what is left, and behind the last word nothing is left. By an attribute both stay open.
 use Rattle.lent.proofs.Prelude.{rules}
 use Rattle.listing.proofs.Codes.{codes_turn, codes_end}
 use Rattle.listing.proofs.code.format_code.Goals as goal

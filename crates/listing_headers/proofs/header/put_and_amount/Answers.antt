@@ -1,4 +1,4 @@
--- A comma and a space, then the amount.
+-- A comma and a space, then the amount. By an attribute it stays open: of a text that computes grind sees no ++.
 use Rattle.lent.proofs.Prelude.{rules}
 use Rattle.lent.proofs.Writers.{writes_then}
 use Rattle.listing_headers.proofs.header.put_and_amount.Goals as goal

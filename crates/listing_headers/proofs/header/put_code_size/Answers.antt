@@ -1,4 +1,4 @@
--- The parts one after the other.
+-- The parts one after the other. By an attribute it stays open, since of a text that computes grind sees no ++, and so it does by search (rules, writes_then).
 use Rattle.lent.proofs.Writers.{writes_then}
 use Rattle.listing_headers.proofs.header.put_code_size.Goals as goal
 

@@ -1,4 +1,5 @@
--- The parts one after the other, the source without its @.
+-- The parts one after the other, the source without its @. By an attribute it stays open, since of a text that computes grind sees no ++, and so it does by search
+-- (rules, writes_then).
 use Rattle.lent.proofs.Writers.{writes_then}
 use Rattle.listing_headers.proofs.header.put_source_lines.Goals as goal
 

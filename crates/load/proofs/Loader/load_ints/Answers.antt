@@ -1,10 +1,10 @@
 -- After the count one test tells whether all integers are there; then they are stored in a row.
-use Rattle.lent.proofs.Prelude.{arith, refl}
-use Rattle.load.proofs.Fours.{ints_short, ints_loaded}
+-- By an attribute, search does not close what is answered here.
+use Rattle.load.proofs.Fours.{ints_refused, ints_loaded}
 use Rattle.load.proofs.Loader.load_ints.Goals as goal
 
-pub returns-then-saturating_sub-n : goal.returns-then-saturating_sub-n
-returns-then-saturating_sub-n c = ints_short c.in_ok-n.ensures (omega arith)
+pub returns-in_err-load_block : goal.returns-in_err-load_block
+returns-in_err-load_block c = ints_refused c.in_ok-n.ensures c.in_err-load_block.ensures c.from_residual-in_err-load_block.ensures.1
 
 pub returns : goal.returns
-returns c = ints_loaded c.in_ok-n.ensures (omega arith) (record { chunk = refl; size_4 = refl; words = refl; text = refl }) refl c.put_ints-self.ensures refl refl
+returns c = ints_loaded c.in_ok-n.ensures c.in_ok-load_block.ensures c.advance-bytes.ensures.0 c.advance-bytes.ensures.1 c.put_ints.ensures

@@ -4,4 +4,4 @@ use Rattle.load.specs.Loads.{fours}
 use Rattle.load.proofs.ints.fill.Given as goal
 
 abbrev pub invariant-loop-i : goal.invariant-loop-i
-invariant-loop-i l = l.words ≡ sets l.initial.words l.at (fours l.chunk l.from l.i)
+invariant-loop-i l = l.words ≡ sets l.initial.words 0 (fours l.bytes 0 l.i)

@@ -1,4 +1,5 @@
 -- Reading the items that are left ends the whole list; a refusal ends it at once.
+-- By an attribute, search does not close what is answered here.
 use Rattle.lent.proofs.Prelude.{arith}
 use Rattle.load.proofs.Steps.{refused_with}
 use Rattle.load_function.proofs.Lists.{items, loading_start, loading_turn, loading_refused, loading_end}

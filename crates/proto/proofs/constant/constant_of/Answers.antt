@@ -1,4 +1,5 @@
 -- Past the count there is no constant, before it constant i stands there.
+-- Tried by an attribute: both returns stay open, as grind finds no instance of a law that ends in an equation without the places.
 use Rattle.format.specs.Store.{constant_piece}
 use Rattle.proto.proofs.Pieces.{constant_words_law}
 use Rattle.proto.proofs.Items.{nth_none, nth_some}

@@ -1,4 +1,5 @@
 -- Behind the source's three words stand three more, the last of which packs four bytes.
+-- Tried by an attribute: `returns` stays open, as grind finds no instance of a law that ends in an equation without the places.
 use Rattle.proto.proofs.Items.{head_here}
 use Rattle.proto.proofs.head.head_at.Goals as goal
 

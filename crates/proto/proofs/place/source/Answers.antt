@@ -1,4 +1,5 @@
 -- The source stands where the search says, in the text or in the chunk name.
+-- Tried by an attribute: the three goals stay open.
 use Rattle.std.specs.Prelude.{Ok, Err}
 use Rattle.lent.proofs.Prelude.{◌∙◌}
 use Rattle.proto.proofs.Sources.{source_part_law}

@@ -1,4 +1,5 @@
 -- The constants stand behind the code.
+-- Tried by an attribute: `returns` stays open, as grind takes no premise that is a promise for every tree, here of code_at.
 use Rattle.proto.proofs.Walks.{past_then, past_ints}
 use Rattle.proto.proofs.walk.constants_at.Goals as goal
 

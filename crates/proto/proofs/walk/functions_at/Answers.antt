@@ -1,4 +1,5 @@
 -- The functions stand behind the constants.
+-- Tried by an attribute: `returns` stays open, as grind takes no premise that is a promise for every tree, here of constants_at.
 use Rattle.format.specs.Store.{constant_piece}
 use Rattle.proto.proofs.Pieces.{constant_words_law}
 use Rattle.proto.proofs.Walks.{past_then, past_list}

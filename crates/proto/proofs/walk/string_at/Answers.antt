@@ -1,4 +1,5 @@
 -- The two words are the string's place and length.
+-- Tried by an attribute: `returns` stays open, as grind finds no instance of a law that ends in an equation without the places.
 use Rattle.proto.proofs.Items.{string_span}
 use Rattle.proto.proofs.walk.string_at.Goals as goal
 

@@ -4,9 +4,10 @@ use Rattle.format.specs.Tree.{Function, filled}
 use Rattle.format.specs.Store.{list, constant_piece, children_piece, function_piece}
 use Rattle.format.specs.Write.{dump_function}
 use Rattle.format.proofs.Loops.{loop_turn}
-use Rattle.proto.proofs.Walks.{none_deep}
+use Rattle.proto.proofs.Items.{source_stands}
+use Rattle.proto.proofs.Walks.{none_deep, valid_inside}
 use Rattle.dump.proofs.Lists.{all_more, list_dumped}
-use Rattle.dump.proofs.Functions.{constants_dumped, source_stands, valid_parts, dumps_seven}
+use Rattle.dump.proofs.Functions.{constants_dumped, valid_parts, dumps_seven}
 use Rattle.dump.proofs.list.Dumper.+dump_constants_dump_function.Goals as goal
 
 pub dump_constants-loop-preserved : goal.dump_constants-loop-preserved
@@ -23,9 +24,8 @@ unfolding function_piece dump_function
 dump_function-returns t c (Function.function p fs) v =
     record {
       dumps = λ to h.
-          let w = valid_parts p fs c.if-allowance-eq0.false v in
           let q : c.own_source-source.result.now ≡ filled c.args.outer.now p.source = c.own_source-source.ensures p.source to (source_stands p fs h) in
-          let constants = c.dump_constants-debug.ensures p.constants fs w.1 in
-          let all = dumps_seven (list constant_piece p.constants) (children_piece fs) (c.dump_source-line_defined.ensures p.source q) (c.dump_word-last_line_defined.ensures p.line_defined) (c.dump_word-packed.ensures p.last_line_defined) (c.dump_packed-code.ensures p w.0) (c.dump_code-constants.ensures p.code) constants (c.dump_debug.ensures p.debug) in
+          let constants = c.dump_constants-debug.ensures p.constants fs (valid_inside c.if-allowance-eq0.false p fs v) in
+          let all = dumps_seven (list constant_piece p.constants) (children_piece fs) (c.dump_source-line_defined.ensures p.source q) (c.dump_word-last_line_defined.ensures p.line_defined) (c.dump_word-packed.ensures p.last_line_defined) (c.dump_packed-code.ensures p (valid_parts _ p fs v)) (c.dump_code-constants.ensures p.code) constants (c.dump_debug.ensures p.debug) in
           (rw q at all).dumps to h;
     }

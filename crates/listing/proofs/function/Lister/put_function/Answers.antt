@@ -1,4 +1,4 @@
--- The lists of the function stand where lists_on_way says.
+-- The lists of the function stand where Way says.
 use Rattle.lent.proofs.Writers.{writes_then}
 use Rattle.proto.proofs.ListPlaces.{lists_stand}
 use Rattle.listing.proofs.function.Lister.put_function.Goals as goal
@@ -6,5 +6,5 @@ use Rattle.listing.proofs.function.Lister.put_function.Goals as goal
 pub returns-clause-lists : goal.returns-clause-lists
 returns-clause-lists c =
     λ p fs vp v s small.
-    let l = lists_stand p fs c.lists_on_way-lists.ensures.store s (c.lists_on_way-lists.ensures.lists p fs v) in
-    writes_then (writes_then (c.put.ensures p fs (record { head = c.head_at-head.ensures p fs c.args.self.store.text.now vp s; lists = l })) (c.format_code.ensures p fs l v small)) (c.put_lists.ensures p fs l)
+    let l = lists_stand p fs c.lists-lists.ensures.store s (c.lists-lists.ensures.lists p fs v) in
+    writes_then (writes_then (c.put.ensures p fs (record { head = c.head_at-head.ensures p fs c.args.self.now.way.store.text.now vp s; lists = l })) (c.format_code.ensures p fs l v small)) (c.put_lists.ensures p fs l)

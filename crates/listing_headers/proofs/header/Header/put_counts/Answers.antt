@@ -1,4 +1,4 @@
--- Six counts, three of the head and three that stand before lists, then a newline.
+-- Six counts, three of the head and three that stand before lists, then a newline. By an attribute with these laws it stays open.
 use Rattle.lent.proofs.Prelude.{ap, ◌∙◌}
 use Rattle.lent.proofs.Writers.{writes_then}
 use Rattle.format.specs.Tree.{count}

@@ -1,4 +1,5 @@
 -- A name and two integers, as the definition reads a local.
+-- By an attribute, search does not close what is answered here.
 use Rattle.load_function.proofs.Trees.{local_loaded}
 use Rattle.load_function.proofs.list.LocalsItem.load.Goals as goal
 

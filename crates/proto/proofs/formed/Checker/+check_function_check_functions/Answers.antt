@@ -1,5 +1,6 @@
 -- A function is its parts, one behind the other. The loop's invariant: whatever checks the other functions from here checks all of them from the start.
 -- The measure is twice the allowance, and one more for check_functions, which calls check_function at the same allowance.
+-- Tried by an attribute, as check_local and check_debug have: each goal of check_function stays open, and of check_functions the last return and the one in the loop.
 use Rattle.format.specs.Store.{function_piece}
 use Rattle.proto.proofs.Checks.{check_then, check_stop, items_turn, items_end, count_wrong, item_wrong}
 use Rattle.proto.proofs.Stores.{children_checked, function_checked, function_deep}

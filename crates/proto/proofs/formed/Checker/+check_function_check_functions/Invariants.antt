@@ -14,4 +14,4 @@ abbrev pub decreases-check_functions : goal.decreases-check_functions
 decreases-check_functions l = l.allowance + l.allowance + 1
 
 abbrev pub invariant-check_functions-loop : goal.invariant-check_functions-loop
-invariant-check_functions-loop l = Loop (CheckAll l.self.words.now l.self.text.now (λ f. Valid f l.allowance) function_piece) l.n l.initial.p l.counter l.p
+invariant-check_functions-loop l = Loop (CheckAll l.self.store.words.now l.self.store.text.now (λ f. Valid f l.allowance) function_piece) l.n l.initial.p l.counter l.p

@@ -1,4 +1,5 @@
 -- The two words are the place reached and a length that the text has from there on, or no string stands there.
+-- Tried by an attribute: both goals stay open, as the room is known where is_within answers true.
 use Rattle.lent.proofs.Prelude.{arith}
 use Rattle.proto.proofs.Checks.{string_good, string_bad}
 use Rattle.proto.proofs.formed.Checker.check_string.Goals as goal

@@ -1,4 +1,5 @@
 -- A function's source stands where it begins.
+-- Tried by an attribute: `returns` stays open, as grind does not go from the function that stands there to its source.
 use Rattle.proto.proofs.Items.{source_stands}
 use Rattle.proto.proofs.store.Store.source_of.Goals as goal
 

@@ -1,4 +1,5 @@
 -- There it stands in the text.
+-- Tried by an attribute: `returns` stays open, as grind finds no instance of a law that ends in an equation without the places.
 use Rattle.proto.proofs.Items.{string_here}
 use Rattle.proto.proofs.store.Store.string_at.Goals as goal
 
