@@ -1,4 +1,5 @@
 // The library's face: the calls that the static library chunk_c exports for C, each with the contract of the call that it passes on.
+// Functions and no `pub use` of the calls below: so the contracts of all ten stand on one page, under the names that C has.
 #![tactic(auto)]
 
 ghost use Rattle.std.specs.Prelude.{◌≡◌};

@@ -1,14 +1,8 @@
 -- The calls: on the function at a place, and on a pc and a register of it.
-use Rattle.std.specs.Prelude.{Ok}
 use Rattle.lent.proofs.Prelude.{ℕ, ◌≤◌, ◌<◌, ◌≡◌, refl, sym, subst, ◌∙◌, List, [], Bool, true, false, cond, arith, length, get_or, leb, le-leb, lt-leb, leb-true}
-use Rattle.lent.specs.Memory.{far, Puts}
-use Rattle.lent.specs.Writer.{Writes}
-use Rattle.lent.specs.declared.Writer.{Writer}
 use Rattle.format.specs.Tree.{Parts, Function, Functions, parts_of}
 use Rattle.format.specs.Store.{function_piece}
-use Rattle.format.specs.Dump.{written, written_left}
 use Rattle.format.specs.Valid.{depth, Valid, ValidAll, ValidParts}
-use Rattle.format.proofs.Writing.{written_all}
 use Rattle.format.proofs.Refusals.{refusal_above}
 use Rattle.format.specs.Refusal.{number}
 use Rattle.format.specs.declared.Refusal.{Refusal}
@@ -130,11 +124,3 @@ module _ {A : Type 0} (refuse : ℕ → A) (answer : Function → A) {s : Store}
 
   pub register_listed : (pc reg : ℕ) → 0 ≡ register_refusal s.words.now s.text.now place pc reg → r ≡ on_register refuse answer s.words.now s.text.now place pc reg
   register_listed pc reg z = register_answered refuse answer s.words.now s.text.now place pc reg z by_lists
-
--- ---- an answer with a name
-
--- a name that fits, written from the start; what then stands there is what the writer left
-module _ {bytes last : List ℕ} {n : ℕ} {w w' : Writer} {out' : List ℕ} where
-  pub name_written : Puts bytes 0 [] n last → length w.out.now < far → n ≤ length w.out.now → w.at ≡ 0 → Writes bytes w w' → (w.out.ghost_name ≡ w'.out.ghost_name → out' ≡ w'.out.now)
-      → written_left (Ok n) out' ≡ written bytes w.out.now
-  name_written counts fits h z p back = rw (back (sym p.same)) (written_all _ counts fits h (rw z at p.puts))

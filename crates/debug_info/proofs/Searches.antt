@@ -53,31 +53,37 @@ unknown_then : (text : List ℕ) (x : Option Known) (o : Object) → is_some x �
 unknown_then text None o e = refl
 unknown_then text (Some k) o e = absurd (true≢false e)
 
-module _ {s : Lists} (pc reg : ℕ) (before : List Bool) where
+-- n is the register's number among those searched
+module _ {s : Lists} (pc reg : ℕ) (before : List Bool) {n : ℕ} (q : n ≡ reg) where
   -- it was searched before
-  pub search_again : get_or before reg false ≡ true → Gives s pc reg before None
+  pub search_again : get_or before n false ≡ true → Gives s pc reg before None
   unfolding searched
   search_again e p fs h v = by (unsearched before)
     where
-      by : (n : ℕ) → object_of s.store.text.now None ≡ searched (Function.function p fs) pc n reg before
+      by : (k : ℕ) → object_of s.store.text.now None ≡ searched (Function.function p fs) pc k reg before
       by zero = refl
-      by (suc n) = rw e
+      by (suc k) = rw (rw q at e)
 
-  module _ (small : pc < 2 ^ 32) (within : reg < 256) (all : length before ≡ 256) (new : get_or before reg false ≡ false) (x : Option Known)
-      (active : (text : List ℕ) (l : List Local) → StandsAt s.store.words.now text s.locals (list local_piece l) → object_of text x ≡ active_local l (reg + 1) pc) where
+  module _ (small : pc < 2 ^ 32) (within : reg < 256) (all : length before ≡ 256) (new : get_or before n false ≡ false) (x : Option Known)
+      (active : (text : List ℕ) (l : List Local) → StandsAt s.store.words.now text s.locals (list local_piece l) → object_of text x ≡ active_local l (n + 1) pc) where
     opened : (p : Parts) (fs : Functions) → ListsAt s p fs → (i : ℕ) → i ≡ symbexec (Function.function p fs) pc reg → searched (Function.function p fs) pc (unsearched before) reg before
-        ≡ or_else (object_of s.store.text.now x) (cond (moves_up i) (searched (Function.function p fs) pc (unsearched (set before reg true)) (GETARG_B i) (set before reg true)) (wrote p i))
+        ≡ or_else (object_of s.store.text.now x) (cond (moves_up i) (searched (Function.function p fs) pc (unsearched (set before n true)) (GETARG_B i) (set before n true)) (wrote p i))
     unfolding searched get_local_name
-    opened p fs h i e = let m : pc % 2 ^ 32 ≡ pc = omega arith in rw (marked before reg (omega arith) new, new, m, e, ← active s.store.text.now p.debug.locals h.locals)
+    opened p fs h i e = let m : pc % 2 ^ 32 ≡ pc = omega arith in let e : i ≡ symbexec (Function.function p fs) pc n = rw (← q) at e in
+        rw (← q) (rw (marked before n (omega arith) new, new, m, e, ← active s.store.text.now p.debug.locals h.locals))
 
     -- it is a local
     pub search_local : {b : Bool} → b ≡ is_some x → b ≡ true → Gives s pc reg before x
     search_local d k p fs h v = sym (opened p fs h _ refl ∙ known_first _ x _ (sym d ∙ k))
 
-    module _ {b : Bool} (d : b ≡ is_some x) (k : b ≡ false) {i : ℕ} (last : (p : Parts) (fs : Functions) → ListsAt s p fs → ValidAll fs depth → i ≡ symbexec (Function.function p fs) pc reg) {m : Bool} (up : m ≡ moves_up i) where
+    module _ {b : Bool} (d : b ≡ is_some x) (k : b ≡ false) {r i : ℕ} (g : r ≡ reg) (last : (p : Parts) (fs : Functions) → ListsAt s p fs → ValidAll fs depth → i ≡ symbexec (Function.function p fs) pc r) {m : Bool} (up : m ≡ moves_up i) where
+      found : (p : Parts) (fs : Functions) → ListsAt s p fs → ValidAll fs depth → searched (Function.function p fs) pc (unsearched before) reg before
+          ≡ cond m (searched (Function.function p fs) pc (unsearched (set before n true)) (GETARG_B i) (set before n true)) (wrote p i)
+      found p fs h v = opened p fs h i (rw g at (last p fs h v)) ∙ unknown_then _ x _ (sym d ∙ k) ∙ rw up
+
       -- it was moved there
-      pub search_moved : (r : Option Known) {from : ℕ} → m ≡ true → from ≡ GETARG_B i → Gives s pc from (set before reg true) r → Gives s pc reg before r
-      search_moved r t g f p fs h v = f p fs h v ∙ rw g (sym (opened p fs h i (last p fs h v) ∙ unknown_then _ x _ (sym d ∙ k) ∙ rw (sym up ∙ t)))
+      pub search_moved : (r : Option Known) {from : ℕ} → m ≡ true → from ≡ GETARG_B i → Gives s pc from (set before n true) r → Gives s pc reg before r
+      search_moved r t e f p fs h v = f p fs h v ∙ rw e (sym (found p fs h v ∙ rw t))
 
       pub search_wrote : (r : Option Known) → m ≡ false → ((p : Parts) (fs : Functions) → ListsAt s p fs → object_of s.store.text.now r ≡ wrote p i) → Gives s pc reg before r
-      search_wrote r t f p fs h v = f p fs h ∙ sym (opened p fs h i (last p fs h v) ∙ unknown_then _ x _ (sym d ∙ k) ∙ rw (sym up ∙ t))
+      search_wrote r t f p fs h v = f p fs h ∙ sym (found p fs h v ∙ rw t)

@@ -1,6 +1,6 @@
 pub mod Names
 pub mod Kind
 pub mod Known
-pub mod Seen
+pub mod Look
 pub mod Searched
 pub mod Calls

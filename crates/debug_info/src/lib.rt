@@ -21,6 +21,8 @@ use proto::walk::{code_at, constants_at, word_at};
 use symbexec::symbexec_at;
 
 // The pc and the register, where the function at a place is there, has the pc and may have the register: refused by 10, 12, 13, 14.
+// Store and place are told apart, here and in those below: as one struct with methods, tried, this file had 180 lines and not 150, since each step then reads
+// self.store.words and self.place.
 #[tactic(auto, using(std::proofs::lemmas::Result::err_from_is_err_and, crate::proofs::Calls::register_place))]
 fn check_register(store: Store, place: usize, pc: usize, reg: u32) -> Result<(u32, u8), Refusal>
     ensures refused { RefusedBy (register_refusal store.entry.words.now store.entry.text.now place pc reg) result }
@@ -31,11 +33,10 @@ fn check_register(store: Store, place: usize, pc: usize, reg: u32) -> Result<(u3
     if code < pc {
         return Err(Refusal::BadPc);
     }
-    if reg <= 255 {
-        Ok((pc as u32, reg as u8))
-    } else {
-        Err(Refusal::BadRegister)
-    }
+    let Ok(reg) = u8::try_from(reg) else {
+        return Err(Refusal::BadRegister);
+    };
+    Ok((low(pc), reg))
 }
 
 // Writes the name of what is known from the start of out, and answers its kind and its length, nothing where nothing is known. Refused by 11.
@@ -60,7 +61,7 @@ fn find_write(store: Store, place: usize, lastpc: usize, reg: u32) -> Result<u32
     ensures { symbexec_result result ≡ symbexec_answer store.entry.words.now store.entry.text.now place lastpc reg }
 {
     let (lastpc, reg) = check_register(store, place, lastpc, reg)?;
-    Ok(symbexec_at(store.lists_at(place), lastpc, reg as u32))
+    Ok(symbexec_at(store.lists_at(place), lastpc, u32::from(reg)))
 }
 
 // The last instruction before lastpc that wrote a register. Refused by 10, 12, 13, 14.

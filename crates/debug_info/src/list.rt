@@ -6,57 +6,56 @@ ghost use Rattle.format.specs.Tree.{Constant as Value, Local};
 ghost use Rattle.proto.specs.Walk.{item, StandsAt};
 ghost use Rattle.debug_info.specs.Names.{active_local, kname, upvalue_name};
 ghost use Rattle.debug_info.specs.Known.{name_of, object_of};
-ghost use Rattle.debug_info.specs.Seen.{look};
+ghost use Rattle.debug_info.specs.Look.{look};
 
 use crate::name::{Kind, Known, Name, constant_name};
+use format::Locals;
 use instructions::{index_k, is_k};
 use proto::constant::constant_of;
 use proto::debug::{local_at, upvalue_of};
 use proto::walk::{item_at, word_at};
+use std::ops::ControlFlow;
 
-// What a local tells of the search for number remaining, from it on, of those active at pc: there is none, or this is the one, or so many are
-// still to be counted.
-#[derive(Clone, Copy)]
-pub enum Seen {
-    Nothing,
-    Found,
-    Left(usize),
-}
-
-// What one that is active from start on and before end tells.
-pub fn look(start: u32, end: u32, remaining: usize, pc: u32) -> Seen
-    ensures { result ≡ look start end remaining pc }
+// What a local of which this is known, active from start on and before end, tells of the search for number remaining, from it on, of those active at pc.
+// Breaks with what the search gives, nothing where it starts beyond pc, or goes on with how many are still to be counted.
+pub fn look(
+    known: Known,
+    start: u32,
+    end: u32,
+    remaining: usize,
+    pc: u32,
+) -> ControlFlow<Option<Known>, usize>
+    ensures { result ≡ look known start end remaining pc }
 {
     if pc < start {
-        return Seen::Nothing;
+        return ControlFlow::Break(None);
     }
     if end <= pc {
-        return Seen::Left(remaining);
+        return ControlFlow::Continue(remaining);
     }
     if remaining == 1 {
-        return Seen::Found;
+        return ControlFlow::Break(Some(known));
     }
-    Seen::Left(remaining.saturating_sub(1))
+    ControlFlow::Continue(remaining.saturating_sub(1))
 }
 
 // The local that is number n of those active at pc, in the list at a place; nothing behind the first that starts beyond pc.
-// The loop of local_records' find is over records, this one over words: what they share is look.
+// The loop of local_records' find is over records, this one over words: what they share is look. n and pc are told apart: as one struct with look as its method,
+// tried, each caller makes it of the two, and the loop's invariant has to say that pc stays.
 pub fn active_local(words: &[u32], locals: usize, n: usize, pc: u32) -> Option<Known>
     ensures { (text : List ℕ) (l : List Local) → StandsAt words.now text locals (list local_piece l) → object_of text result ≡ active_local l n pc }
 {
     let count = word_at(words, locals);
     let mut remaining = n;
     for i in 0..count {
-        let v = local_at(words, item_at(words, locals, 4, i));
-        match look(v.start, v.end, remaining, pc) {
-            Seen::Nothing => return None,
-            Seen::Found => {
-                return Some(Known {
-                    kind: Kind::Local,
-                    name: Name::Text(v.name),
-                });
-            }
-            Seen::Left(left) => remaining = left,
+        let v = local_at(words, item_at::<Locals>(words, locals, i));
+        let known = Known {
+            kind: Kind::Local,
+            name: Name::Text(v.name),
+        };
+        match look(known, v.start, v.end, remaining, pc) {
+            ControlFlow::Break(found) => return found,
+            ControlFlow::Continue(left) => remaining = left,
         }
     }
     None

@@ -10,10 +10,11 @@ ghost use Rattle.debug_info.specs.Kind.{number};
 ghost use Rattle.debug_info.specs.Known.{name_of, object_of};
 
 use format::{Constant, Refusal, Span};
-use lent::Writer;
+use lent::{Writer, write_whole};
 use utf8::put_repaired;
 
-// A name: ?, or where it stands in the text; a constant's is repaired as it is written.
+// A name: ?, or where it stands in the text; a constant's is repaired as it is written. It does not hold the text: what is known of a record is made where
+// there is none.
 #[derive(Clone, Copy)]
 pub enum Name {
     Unknown,
@@ -81,27 +82,25 @@ fn put_name(w: &mut Writer, text: &[u8], name: Name)
     }
 }
 
+// A name from the start of out. Answers how many bytes it has.
+fn put_from_start(text: &[u8], name: Name, out: &mut [u8]) -> usize
+    ensures { Puts (name_of text.now name) 0 out.old result out.new }
+{
+    let mut w = Writer { out, at: 0 };
+    put_name(&mut w, text, name);
+    w.at
+}
+
 // How many bytes a name has: those that are written where there is no space.
 pub fn name_len(text: &[u8], name: Name) -> usize
     ensures { Puts (name_of text.now name) 0 [] result [] }
 {
-    let mut w = Writer {
-        out: &mut [],
-        at: 0,
-    };
-    put_name(&mut w, text, name);
-    w.at
+    put_from_start(text, name, &mut [])
 }
 
 // Writes a name from the start of out where it fits, and answers its length. Refused by 11.
 pub fn write_name(text: &[u8], name: Name, out: &mut [u8]) -> Result<usize, Refusal>
     ensures { written_left result out.new ≡ written (name_of text.now name) out.old }
 {
-    let n = name_len(text, name);
-    if out.len() < n {
-        return Err(Refusal::TooLittleOutput);
-    }
-    let mut w = Writer { out, at: 0 };
-    put_name(&mut w, text, name);
-    Ok(n)
+    write_whole(out, |o| put_from_start(text, name, o)).ok_or(Refusal::TooLittleOutput)
 }

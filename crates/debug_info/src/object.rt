@@ -43,7 +43,7 @@ fn moves_up(i: Instruction) -> bool
 pub fn getobjname(s: Lists, pc: u32, reg: u8, mut before: [bool; 256]) -> Option<Known>
     ensures { (p : Parts) (fs : Functions) → ListsAt s.entry p fs → ValidAll fs depth → object_of s.entry.store.text.now result ≡ searched (Function.function p fs) pc (unsearched before) reg before }
 {
-    let n = reg as usize;
+    let n = usize::from(reg);
     if before[n] {
         return None;
     }
@@ -51,7 +51,7 @@ pub fn getobjname(s: Lists, pc: u32, reg: u8, mut before: [bool; 256]) -> Option
     if v.is_some() {
         return v;
     }
-    let i = Instruction(symbexec_at(s, pc, reg as u32));
+    let i = Instruction(symbexec_at(s, pc, u32::from(reg)));
     if moves_up(i) {
         before[n] = true;
         return getobjname(s, pc, i.b() as u8, before);

@@ -1,9 +1,10 @@
 -- Laws of quoted strings: bytes that are written as themselves, one after the other.
-use Rattle.lent.proofs.Prelude.{ℕ, zero, suc, Bool, cond, ltb, ◌+◌, ◌-◌, ◌≤◌, ◌<◌, ◌≡◌, refl, ◌∙◌, true, false, and-eq-true_iff, List, [], ◌∷◌, ◌++◌, append_assoc, arith, length, take, drop, get_or, length-drop, drop_of_length-le, take-suc, take_all, get_or-drop, leb, leb-true, ne_eqb}
+use Rattle.lent.proofs.Prelude.{not, not-false, length-append, ap, ◌&&◌, not-true, eqb, eqb-false, min, get_or-append, ℕ, suc, Bool, cond, ltb, ◌+◌, ◌≤◌, ◌<◌, ◌≡◌, refl, ◌∙◌, true, false, and-eq-true_iff, List, [], ◌∷◌, ◌++◌, append_assoc, arith, length, get_or, leb, leb-true, ne_eqb}
 use Rattle.std.specs.Prelude.{Some, None}
+use Rattle.std.specs.List.{IsFirstMatchOrLen}
 use Rattle.lent.specs.Memory.{Every}
-use Rattle.std.proofs.lemmas.List.{drop_more}
-use Rattle.digits.specs.Digits.{digits, letters, letter_in, letter, is_print, escape, escaped, Plain}
+use Rattle.std.proofs.lemmas.List.{nil_from_length}
+use Rattle.digits.specs.Digits.{digits, letters, letter_in, letter, is_print, is_plain, escape, escaped}
 
 -- ---- one byte
 
@@ -38,49 +39,33 @@ module _ (b : ℕ) (none : letter b ≡ None) where
   escape_digits h = escape_other b none ∙ rw h
 
 -- a byte that has no letter because it is no quote, no backslash and no control byte
-pub escape_plain : (b : ℕ) → (b ≡ 34 → ⊥) → (b ≡ 92 → ⊥) → is_print b ≡ true → escape b ≡ b ∷ []
+escape_plain : (b : ℕ) → is_plain b ≡ true → escape b ≡ b ∷ []
 unfolding Every
-escape_plain b quote backslash h =
-    let l : 32 ≤ b = leb-true 32 b ((and-eq-true_iff (leb 32 b) (leb b 126)).0 h).0 in
-    escape_print b (rw (letter_none letters b (omega arith))) h
+escape_plain b h =
+    let p = (and-eq-true_iff (not (eqb b 34) && not (eqb b 92)) (is_print b)).0 h in
+    let q = (and-eq-true_iff (not (eqb b 34)) (not (eqb b 92))).0 p.0 in
+    let l : 32 ≤ b = leb-true 32 b ((and-eq-true_iff (leb 32 b) (leb b 126)).0 p.1).0 in
+    let m : b ≡ 34 → ⊥ = eqb-false b 34 (not-true _ q.0) in
+    let n : b ≡ 92 → ⊥ = eqb-false b 92 (not-true _ q.1) in
+    escape_print b (rw (letter_none letters b (omega arith))) p.1
 
 -- ---- bytes one after the other
 
--- the byte at a place, then those behind it
-pub escaped_more : (s : List ℕ) (i : ℕ) → i < length s → escaped (drop i s) ≡ escape (get_or s i 0) ++ escaped (drop (i + 1) s)
+-- bytes that are written as themselves, then others
+pub escaped_plain : (s more : List ℕ) → ((k : ℕ) → k < length s → is_plain (get_or s k 0) ≡ true) → escaped (s ++ more) ≡ s ++ escaped more
 unfolding escaped
-escaped_more s i h = rw (drop_more s i 0 h)
+escaped_plain [] more h = refl
+escaped_plain (b ∷ s) more h = rw (escape_plain b (h 0 (omega arith)), escaped_plain s more (λ k l. h (suc k) (omega arith)))
 
-pub escaped_none : (s : List ℕ) (i : ℕ) → length s ≤ i → escaped (drop i s) ≡ []
+pub escaped_none : (s : List ℕ) → length s ≡ 0 → escaped s ≡ []
 unfolding escaped
-escaped_none s i h = rw (drop_of_length-le s h)
+escaped_none s h = rw (nil_from_length s h)
 
--- one byte more
-pub plain_more : (s : List ℕ) (at i : ℕ) → Plain s at i → i < length s → escape (get_or s i 0) ≡ get_or s i 0 ∷ [] → Plain s at (i + 1)
-plain_more s at i p h e =
-    let f : at ≤ i = p.from in
-    let n : i + 1 - at ≡ suc (i - at) = omega arith in
-    let j : i - at < length (drop at s) = rw length-drop (omega arith) in
-    let k : at + (i - at) ≡ i = omega arith in
-    let t : take (suc (i - at)) (drop at s) ≡ take (i - at) (drop at s) ++ (get_or s i 0 ∷ []) =
-    take-suc (drop at s) (i - at) 0 j ∙ rw (get_or-drop at s (i - at) 0, k) in
-    record {
-      from = omega arith;
-      within = omega arith;
-      same = p.same ∙ rw (n, t, append_assoc, escaped_more s i h, e);
-    }
-
-run : {s : List ℕ} {at : ℕ} (n : ℕ) → at ≤ length s → n ≤ length (drop at s) → ((k : ℕ) → k < n → escape (get_or (drop at s) k 0) ≡ get_or (drop at s) k 0 ∷ []) → Plain s at (at + n)
-run {s} {at} zero h k p = let z : at + 0 ≡ at = omega arith in let d : at - at ≡ 0 = omega arith in
-    rw z (record { from = omega arith; within = h; same = rw d refl })
-run {s} {at} (suc n) h k p =
-    let l : at + n < length s = omega (arith, length-drop at s) in
-    let e : at + suc n ≡ (at + n) + 1 = omega arith in
-    rw e (plain_more s at (at + n) (run n h (omega arith) (λ j i. p j (omega arith))) l (rw get_or-drop at (p n (omega arith))))
-
--- n bytes, the first of those from a place on
-pub plain_run : {s : List ℕ} {at : ℕ} (n : ℕ) → at ≤ length s → n ≤ length (take (length s - at) (drop at s))
-    → ((k : ℕ) → k < n → escape (get_or (take (length s - at) (drop at s)) k 0) ≡ get_or (take (length s - at) (drop at s)) k 0 ∷ []) → Plain s at (at + n)
-plain_run {s} {at} n h k p =
-    let e : take (length s - at) (drop at s) ≡ drop at s = take_all (length s - at) (drop at s) (omega (arith, length-drop at s)) in
-    run n h (rw e at k) (λ j i. rw e at (p j i))
+-- a run of such bytes, and the byte behind it
+pub escaped_run : (s rest plain : List ℕ) {run : List ℕ} (last i : ℕ) → s ≡ run ++ rest → run ≡ plain ++ (last ∷ []) → length run ≡ min (i + 1) (length s)
+    → IsFirstMatchOrLen (λ b. not (is_plain b)) s i → escaped s ≡ plain ++ (escape last ++ escaped rest)
+unfolding escaped
+escaped_run s rest plain last i e r n f =
+    let w : s ≡ plain ++ (last ∷ rest) = e ∙ rw (r, append_assoc) in
+    let l : length plain ≤ i = omega (arith, n, ap length r, length-append plain (last ∷ [])) in
+    rw w (escaped_plain plain (last ∷ rest) (λ k h. not-false _ (rw (w, get_or-append plain (last ∷ rest) 0 k h) at (f.0 k 0 (omega arith) (omega arith)))))

@@ -1,5 +1,5 @@
 -- Numbers and strings as text: Rust's {n}, {n:016x} and {n:03}, and listing.rs's format_string.
-use Rattle.std.specs.Prelude.{ℕ, zero, suc, ◌+◌, ◌-◌, ◌*◌, ◌/◌, ◌%◌, ◌^◌, ◌≤◌, ◌≡◌, Bool, cond, ◌&&◌, List, [], ◌∷◌, ◌++◌, length, take, drop, leb, ltb, eqb, Option, Some, None}
+use Rattle.std.specs.Prelude.{ℕ, zero, suc, ◌+◌, ◌*◌, ◌/◌, ◌%◌, ◌^◌, Bool, cond, ◌&&◌, not, List, [], ◌∷◌, ◌++◌, leb, ltb, eqb, Option, Some, None}
 
 -- ==== numbers
 
@@ -33,9 +33,13 @@ negative n = 45 ∷ decimal n
 abbrev pub hexadecimal : ℕ → ℕ → List ℕ
 hexadecimal k n = digits 16 k n
 
--- the bits of a number constant, of which high and low are the halves: 0x and 16 digits
+-- the bits of a number constant: 0x and 16 digits
+abbrev pub number_bits : ℕ → List ℕ
+number_bits n = 48 ∷ 120 ∷ hexadecimal 16 n
+
+-- those of one of which high and low are the halves
 abbrev pub number : ℕ → ℕ → List ℕ
-number high low = 48 ∷ 120 ∷ hexadecimal 16 (high * 2 ^ 32 + low)
+number high low = number_bits (high * 2 ^ 32 + low)
 
 -- ==== strings
 
@@ -56,6 +60,10 @@ letter b = cond (ltb 0 (letter_in letters b)) (Some (letter_in letters b)) None
 abbrev pub is_print : ℕ → Bool
 is_print b = leb 32 b && leb b 126
 
+-- whether a byte is written as itself: graphic ASCII or a space, and no quote or backslash
+abbrev pub is_plain : ℕ → Bool
+is_plain b = not (eqb b 34) && not (eqb b 92) && is_print b
+
 -- what format_string writes of a byte: its letter, the byte itself, or three digits in base 10
 unfoldable pub escape : ℕ → List ℕ
 escape b = cond (ltb 0 (letter_in letters b)) (92 ∷ letter_in letters b ∷ []) (cond (is_print b) (b ∷ []) (92 ∷ digits 10 3 b))
@@ -68,9 +76,3 @@ escaped (b ∷ s) = escape b ++ escaped s
 -- format_string
 abbrev pub quoted : List ℕ → List ℕ
 quoted s = 34 ∷ escaped s ++ (34 ∷ [])
-
--- from a place to another, every byte of s is written as itself
-pub record Plain (s : List ℕ) (at end : ℕ) : Type 0 where
-  pub from : at ≤ end
-  pub within : end ≤ length s
-  pub same : escaped (drop at s) ≡ take (end - at) (drop at s) ++ escaped (drop end s)

@@ -1,5 +1,5 @@
 -- Steps of the writer: one behind the other, and a word, a string, a constant.
-use Rattle.lent.proofs.Prelude.{ℕ, ◌+◌, ◌*◌, ◌≡◌, refl, sym, ◌∙◌, List, [], ◌∷◌, ◌++◌, append_assoc, Bool, arith, add-zero, add_assoc, length, get_or, length-append}
+use Rattle.lent.proofs.Prelude.{ℕ, ◌+◌, ◌*◌, ◌≡◌, sym, ◌∙◌, List, [], ◌∷◌, ◌++◌, append_assoc, Bool, arith, add-zero, add_assoc, length, get_or, length-append}
 use Rattle.std.specs.Int.{to_be_bytes}
 use mir.Syntax.{w32}
 use Rattle.lent.specs.Memory.{Puts}
@@ -11,11 +11,13 @@ use Rattle.format.specs.Valid.{ValidParts}
 use Rattle.format.specs.Write.{dump_int, dump_text, dump_code, dump_constant, each}
 use Rattle.format.specs.Constants.{value_of}
 use Rattle.format.specs.declared.Constant.{Constant}
+use Rattle.format.specs.contracts.ConstantsStoredItem.TheImpl.{ghosts as Constants}
+use Rattle.format.specs.contracts.NamesStoredItem.TheImpl.{ghosts as Names}
 use Rattle.proto.specs.Constants.{ConstantAt}
 use Rattle.proto.specs.Walk.{Stands, Skips, Past}
 use Rattle.proto.proofs.Items.{packed_bytes}
 use Rattle.proto.proofs.Sublists.{here_get}
-use Rattle.proto.proofs.Pieces.{Same, same_refl, stands_same, stands_left, stands_right, constant_words_law}
+use Rattle.proto.proofs.Pieces.{Same, same_refl, stands_same, stands_left, stands_right}
 use Rattle.proto.proofs.Walks.{past_word, past_words, past_ints, skip_items}
 use Rattle.dump.specs.Step.{Progress, Dumps}
 use Rattle.dump.specs.declared.list.Dumper.{Dumper}
@@ -64,10 +66,10 @@ module _ {d : Dumper} where
         dumps_past (past_ints l (skip_items 1 e (rw one s))) (λ t h. rw (← f l _ t h) (put_then (rw (e ∙ here_get (length l) l h.in_words, ← f l _ t h) at p) q))
 
   module _ {at to len r : ℕ} {out out' : List ℕ} where
-    pub name_dumped : (size4 : Bool) {n : List ℕ} → ((s : List ℕ) (t : ℕ) → Stands d.store.words.now d.store.text.now at t (string s) → n ≡ s) → Puts (dump_text size4 n) len out r out' → Skips d.store.words.now 2 at to
+    pub name_dumped : (size4 : Bool) {n : List ℕ} → ((s : List ℕ) (t : ℕ) → Stands d.store.words.now d.store.text.now at t (string s) → n ≡ s) → Puts (dump_text size4 n) len out r out' → Skips d.store.words.now Names.WORDS at to
         → (s : List ℕ) → Dumps d (string s) (dump_text size4 s) (place at len out) (place to r out')
-    name_dumped size4 f p s n = dumps_past (past_words 2 (string n) (λ t. refl) s) (λ t h. rw (f n t h) at p)
+    name_dumped size4 f p s n = dumps_past (past_words Names.WORDS (string n) (Names.size n) s) (λ t h. rw (f n t h) at p)
 
-    pub constant_dumped : (size4 : Bool) {c : Constant} → ConstantAt d.store.words.now at c → Puts (dump_constant size4 (value_of d.store.text.now c)) len out r out' → Skips d.store.words.now 3 at to
+    pub constant_dumped : (size4 : Bool) {c : Constant} → ConstantAt d.store.words.now at c → Puts (dump_constant size4 (value_of d.store.text.now c)) len out r out' → Skips d.store.words.now Constants.WORDS at to
         → (k : Value) → Dumps d (constant_piece k) (dump_constant size4 k) (place at len out) (place to r out')
-    constant_dumped size4 f p s k = dumps_past (past_words 3 (constant_piece k) (constant_words_law k) s) (λ t h. rw (f.value k _ t h) at p)
+    constant_dumped size4 f p s k = dumps_past (past_words Constants.WORDS (constant_piece k) (Constants.size k) s) (λ t h. rw (f.value k _ t h) at p)

@@ -1,8 +1,10 @@
 -- What a step of the writer does: past a piece of the store, with its bytes written.
-use Rattle.std.specs.Prelude.{ℕ, ◌+◌, ◌≡◌, List, [], Bool, cond, length}
+use Rattle.std.specs.Prelude.{ℕ, ◌+◌, ◌≡◌, List, [], ◌∷◌, ◌++◌, Bool, Option, None, Some, length}
+use Rattle.std.specs.Borrow.{Bor}
 use Rattle.lent.specs.Memory.{Puts}
-use Rattle.format.specs.Tree.{Constant, Functions}
-use Rattle.format.specs.Store.{Piece, ◌⊕◌, list, constant_piece, children_piece}
+use Rattle.format.specs.Tree.{Constant, Source, Parts, Functions, count, kept}
+use Rattle.format.specs.Store.{Piece, word, ◌⊕◌, list, ints, constant_piece, children_piece, debug_piece, packed}
+use Rattle.format.specs.Write.{dump_int, dump_code, dump_constants, dump_functions, dump_debug}
 use Rattle.proto.specs.Walk.{Stands}
 use Rattle.dump.specs.declared.list.Reached.{Reached}
 use Rattle.dump.specs.declared.list.Dumper.{Dumper}
@@ -26,6 +28,30 @@ pub record Dumps (d : Dumper) (p : Piece) (bytes : List ℕ) (s r : Progress) : 
 abbrev pub constants_piece : List Constant → Functions → Piece
 constants_piece constants fs = list constant_piece constants ⊕ children_piece fs
 
--- the source around a function, which its own is compared with: none around the root
-abbrev pub around : Bool → List ℕ → List ℕ
-around root outer = cond root [] outer
+-- what stands behind the source of a function
+abbrev pub parts_piece : Parts → Functions → Piece
+parts_piece p fs =
+    word p.line_defined
+    ⊕ word p.last_line_defined
+    ⊕ word (packed p)
+    ⊕ ints p.code
+    ⊕ list constant_piece p.constants
+    ⊕ children_piece fs
+    ⊕ debug_piece p.debug
+
+-- ---- what is written of them
+
+-- a source, or none
+abbrev pub as_source : Option (Bor (List ℕ)) → Source
+as_source None = Source.inherited
+as_source (Some s) = Source.own s.now
+
+-- what stands behind the source: strip, the width of sizes, and the source
+abbrev pub dump_parts : Bool → Bool → List ℕ → Parts → Functions → List ℕ
+dump_parts strip size4 source p fs =
+    dump_int p.line_defined
+    ++ dump_int p.last_line_defined
+    ++ (p.num_upvalues ∷ p.num_params ∷ p.is_vararg ∷ p.max_stack_size ∷ [])
+    ++ dump_code p.code
+    ++ dump_constants size4 p.constants (count fs) (dump_functions fs strip size4 source)
+    ++ dump_debug size4 (kept strip p.debug)

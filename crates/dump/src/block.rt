@@ -1,4 +1,4 @@
-// The integers and strings of a chunk. Each call answers the place behind what it writes. Over the space and a place by value, as list.rt says.
+// The integers and strings of a chunk. What takes a place answers the one behind what it writes. Over the space and a place by value, as list.rt says.
 ghost use Rattle.std.specs.Prelude.{◌*◌, ◌≡◌, length};
 ghost use Rattle.lent.specs.Memory.{Puts};
 ghost use Rattle.format.specs.Write.{dump_int, dump_size, dump_text, each};

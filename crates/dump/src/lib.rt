@@ -14,8 +14,8 @@ ghost use Rattle.format.specs.Write.{dump_header, dump_chunk};
 ghost use Rattle.format.specs.Dump.{write_left, written_left, dumped};
 
 use block::Options;
-use format::{DEPTH, Refusal, Written, check_name, width};
-use lent::put_array;
+use format::{Refusal, Written, check_name, width};
+use lent::{put_array, write_whole};
 use list::{Dumper, Reached};
 use proto::store::Store;
 
@@ -38,7 +38,7 @@ fn dump_chunk<'a>(store: Store<'a>, name: &'a [u8], options: Options, out: &mut 
         len: options.dump_header(out),
     };
     let dumper = Dumper { store, options };
-    dumper.dump_function(out, start, name, true, DEPTH).len
+    dumper.dump_root(out, start, name).len
 }
 
 // Whether a space has room for 12 bytes, five for each of so many words, and those of the text and of the chunk name.
@@ -52,8 +52,8 @@ fn has_room(space: usize, words: usize, text: usize, name: usize) -> bool
         .is_some_and(|left| words <= left / 5)
 }
 
-// Writes the chunk of the tree that a store holds. No chunk is longer than has_room asks for; where there is less room, it is written with no
-// space first, to count. Refused by 1, 10, 11.
+// Writes the chunk of the tree that a store holds, where all of it fits. No chunk is longer than has_room asks for: only where there is less room is it
+// counted first. Refused by 1, 10, 11.
 #[tactic(auto, using(std::proofs::lemmas::Result::err_from_is_err_and, proto::proofs::Calls::refused_name, proto::proofs::Calls::refused_store), unfolding(format::specs::Dump::dumped))]
 fn dump_store<'a>(
     store: Store<'a>,
@@ -65,13 +65,10 @@ fn dump_store<'a>(
 {
     check_name(name)?;
     store.check_held()?;
-    if !has_room(out.len(), store.words.len(), store.text.len(), name.len()) {
-        let len = dump_chunk(store, name, options, &mut []);
-        if out.len() < len {
-            return Err(Refusal::TooLittleOutput);
-        }
+    if has_room(out.len(), store.words.len(), store.text.len(), name.len()) {
+        return Ok(dump_chunk(store, name, options, out));
     }
-    Ok(dump_chunk(store, name, options, out))
+    write_whole(out, |o| dump_chunk(store, name, options, o)).ok_or(Refusal::TooLittleOutput)
 }
 
 // Writes the chunk of a store to lent memory. Refused by 1, 10, 11. The call for C: words and text apart, and the two options.

@@ -12,7 +12,7 @@ ghost use Rattle.dump.specs.Step.{Dumps, progress};
 
 use crate::block::{Options, dump_int, dump_ints};
 use crate::item::Item;
-use format::{Constant, Locals, Names, joined};
+use format::{Constant, Constants, Locals, Names, StoredItem, Tag, joined};
 use lent::{put, put_array};
 use proto::constant::constant_at;
 use proto::store::Store;
@@ -25,9 +25,9 @@ pub struct Reached {
     pub len: usize,
 }
 
-// What is written, and how. Each step goes on from what is reached, past what it writes. Over the space and what is reached by value: a Writer's
-// place goes through memory at each item, and 65,535 numbers took 4.79 million instructions of the machine, not 2.69, with which dump just meets its
-// bar, 0.8 of the Rust's time.
+// What is written, and how. Each step goes on from what is reached, past what it writes. Over the space and what is reached by value: tried with a
+// Writer, whose place goes through memory at each item, dump of grouped1 took 7.08 and not 4.90 million instructions, of 65,535 numbers 4.79 and not
+// 3.02. By value it takes 0.59 of the Rust's time for grouped1, 0.66 stripped; half as much again would miss the bar of 0.8.
 #[derive(Clone, Copy)]
 pub struct Dumper<'a> {
     pub store: Store<'a>,
@@ -80,7 +80,7 @@ impl Dumper<'_> {
     {
         let name = self.store.string_at(s.at);
         Reached {
-            at: skip(self.store.words, s.at, 2),
+            at: skip(self.store.words, s.at, Names::WORDS as usize),
             len: self.options.dump_string(out, s.len, name),
         }
     }
@@ -102,32 +102,32 @@ impl Dumper<'_> {
         let Store { words, .. } = self.store;
         let k = constant_at(words, s.at);
         Reached {
-            at: skip(words, s.at, 3),
+            at: skip(words, s.at, Constants::WORDS as usize),
             len: self.put_constant(out, s.len, k),
         }
     }
 
-    // The bytes of a constant: its tag, then Bool's byte, Num's halves, or String. Answers the place behind them. The tags 0, 1, 3, 4 are the format's,
-    // by number: here they are bytes, in the store words that a pattern tests, so that a name would need a constant of each type.
+    // The bytes of a constant: its tag, then Bool's byte, Num's halves, or String. Answers the place behind them.
     #[tactic(auto, using(crate::proofs::Blocks::num_put, crate::proofs::Blocks::str_put))]
     fn put_constant(self, out: &mut [u8], at: usize, k: Constant) -> usize
         ensures { Puts (dump_constant self.entry.options.size_4 (value_of self.entry.store.text.now k)) at out.old result out.new }
     {
         match k {
-            Constant::Nil => put(out, at, 0),
-            Constant::Bool(b) => put_array(out, at, [1, u8::from(b)]),
+            Constant::Nil => put(out, at, Tag::Nil as u8),
+            Constant::Bool(b) => put_array(out, at, [Tag::Bool as u8, u8::from(b)]),
             Constant::Num(high, low) => {
-                let start = put(out, at, 3);
-                put_array(out, start, joined(low, high).to_le_bytes())
+                let start = put(out, at, Tag::Num as u8);
+                put_array(out, start, joined(high, low).to_le_bytes())
             }
             Constant::String(s) => {
-                let start = put(out, at, 4);
+                let start = put(out, at, Tag::String as u8);
                 self.options.dump_string(out, start, s.of(self.store.text))
             }
         }
     }
 
     // A list of items: how many, then each.
+    #[tactic(auto, using(crate::proofs::Lists::every_all, crate::proofs::Lists::list_dumped))]
     pub fn dump_list<T: Item>(self, out: &mut [u8], s: Reached) -> Reached
         ensures { (l : List T.Value) → Dumps self.entry (list T.piece l) (dump_list (T.bytes self.entry.options.size_4) l) (progress s out.old) (progress result out.new) }
     {
@@ -140,6 +140,7 @@ impl Dumper<'_> {
     }
 
     // The lines, the locals and the upvalues' names; strip leaves three counts of 0.
+    #[tactic(auto, using(crate::proofs::Steps::dumps_past), unfolding(format::specs::Write::each, format::specs::Write::dump_number))]
     pub fn dump_debug(self, out: &mut [u8], s: Reached) -> Reached
         ensures { (d : Debug) → Dumps self.entry (debug_piece d) (dump_debug self.entry.options.size_4 (kept self.entry.options.strip d)) (progress s out.old) (progress result out.new) }
     {

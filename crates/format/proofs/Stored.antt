@@ -7,6 +7,7 @@ use Rattle.format.specs.Store.{Piece, word as word_piece, ◌⊕◌, string, pie
 use Rattle.format.specs.Valid.{depth, ValidParts, Valid, ValidAll, Holds}
 use Rattle.format.specs.Stored.{part, Here, stored_source, stored_constant, stored_name, stored_local, stored_debug, stored_function, holds?, held_by, tree_of}
 use Rattle.format.specs.Constants.{meaning_of, value_of, constant_words, LiesIn}
+use Rattle.format.specs.Tag.{tag_number, tag_of}
 use Rattle.format.specs.declared.Constant.{Constant as Answer}
 use Rattle.format.specs.declared.Constant.TheVariants.{Nil, Bool as Truth, Num, String}
 use Rattle.format.proofs.RoundTrip.{Reads, pure, step, last, value_is, byte_law}
@@ -139,3 +140,10 @@ constant_numbered bytes Nil h = refl
 constant_numbered bytes (Truth b) h = refl
 constant_numbered bytes (Num high low) h = refl
 constant_numbered bytes (String s) h = let e : length (part bytes s.start s.len) ≡ s.len = simp (length-take, length-drop) (omega arith) in rw (e, add-zero s.start)
+
+-- its tag's number is its number
+pub tag_numbered : (k : Answer) → tag_number (tag_of k) ≡ (meaning_of k).number
+tag_numbered Nil = refl
+tag_numbered (Truth b) = refl
+tag_numbered (Num high low) = refl
+tag_numbered (String s) = refl

@@ -9,3 +9,4 @@ pub mod Undump
 pub mod Dump
 pub mod Constants
 pub mod Refusal
+pub mod Tag

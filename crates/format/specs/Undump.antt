@@ -6,6 +6,7 @@ use Rattle.format.specs.Read.{Read, Reader, ◌>>=◌, return, width_of, load_he
 use Rattle.format.specs.Store.{words_of, text_of}
 use Rattle.format.specs.Valid.{depth, most}
 use Rattle.format.specs.Refusal.{number}
+use Rattle.format.specs.declared.MeasuredChunk.{MeasuredChunk}
 use Rattle.format.specs.declared.Undumped.{Undumped}
 use Rattle.format.specs.declared.Refusal.{Refusal}
 
@@ -51,8 +52,8 @@ abbrev pub refused_by : ℕ → Undumped
 refused_by n = record { refusal = n; width = 0; words = 0; text = 0; read = 0 }
 
 -- what a call answers that measured a chunk, or is refused
-abbrev pub undumped_result : Result Undumped Refusal → Undumped
-undumped_result (Ok m) = m
+abbrev pub undumped_result : Result MeasuredChunk Refusal → Undumped
+undumped_result (Ok m) = record { refusal = 0; width = m.width; words = m.needs.words; text = m.needs.text; read = m.needs.read }
 undumped_result (Err e) = refused_by (number e)
 
 -- ---- measure: 1, then 2 to 7 as reading meets them

@@ -1,15 +1,19 @@
 // The answers of the calls that read and write chunks: the refusal, 0 where there is none, then numbers, all 0 on refusal,
 // as C reads them.
-// What the calls answer and leave in lent memory is defined in specs/. Beside the answers stands what the calls share: a part of a list, a constant, the kinds of items,
-// the limits, the width of sizes, the low half of a number and a number of its halves, and the test of a chunk name.
+// What the calls answer and leave in lent memory is defined in specs/. Beside the answers stands what the calls share: a part of a list, a constant, its tag, the kinds of
+// items and how many words each takes, the limits, the width of sizes, the halves of a number, and the test of a chunk name.
 #![tactic(auto)]
 
-ghost use Rattle.std.specs.Prelude.{◌+◌, ◌*◌, ◌≡◌, ◌≤◌, ◌^◌, ◌%◌, take, drop, List, ℕ};
+ghost use Rattle.std.specs.Prelude.{◌+◌, ◌*◌, ◌≡◌, ◌≤◌, ◌^◌, ◌/◌, ◌%◌, take, drop, length, List, ℕ, refl};
+ghost use Rattle.format.specs.Tree.{Local};
+ghost use Rattle.format.specs.Tree.{Constant as Value};
+ghost use Rattle.format.specs.Store.{Piece, word, string, constant_piece, local_piece};
 ghost use Rattle.format.specs.Read.{limit, width_of};
 ghost use Rattle.format.specs.Valid.{depth, most};
 ghost use Rattle.format.specs.Dump.{write_left, written_left, name_refusal};
 ghost use Rattle.format.specs.Refusal.{number, RefusedBy};
 ghost use Rattle.format.specs.Undump.{undumped_result};
+ghost use Rattle.format.specs.Tag.{TagOf};
 
 // Why a call is refused: by the number that callers see.
 #[derive(Clone, Copy, Debug, PartialEq, Eq)]
@@ -40,6 +44,32 @@ impl From<Refusal> for u32 {
     }
 }
 
+// The tag of a constant, a byte in a chunk and a word in a store: lua.h's LUA_TNIL, LUA_TBOOLEAN, LUA_TNUMBER, LUA_TSTRING.
+#[derive(Clone, Copy, PartialEq, Eq)]
+pub enum Tag {
+    Nil = 0,
+    Bool = 1,
+    Num = 3,
+    String = 4,
+}
+
+// Any other number is refused by 5.
+impl TryFrom<u32> for Tag {
+    type Error = Refusal;
+
+    ghost try_from_gives = { TagOf };
+
+    fn try_from(n: u32) -> Result<Tag, Refusal> {
+        match n {
+            0 => Ok(Tag::Nil),
+            1 => Ok(Tag::Bool),
+            3 => Ok(Tag::Num),
+            4 => Ok(Tag::String),
+            _ => Err(Refusal::BadTag),
+        }
+    }
+}
+
 // How many bytes the chunk's sizes take, 4 or 8, the words and the text bytes that a tree takes, and the bytes of the chunk that were read.
 #[repr(C)]
 #[derive(Clone, Copy)]
@@ -49,6 +79,21 @@ pub struct Undumped {
     pub words: usize,
     pub text: usize,
     pub read: usize,
+}
+
+// What a chunk needs to be stored: the words and the text bytes of its tree, and the bytes of it that are read.
+#[derive(Clone, Copy, PartialEq)]
+pub struct Needs {
+    pub words: usize,
+    pub text: usize,
+    pub read: usize,
+}
+
+// A chunk that was measured: how many bytes its sizes take, and what it needs.
+#[derive(Clone, Copy)]
+pub struct MeasuredChunk {
+    pub width: u32,
+    pub needs: Needs,
 }
 
 // The bytes that were written.
@@ -75,12 +120,18 @@ impl From<Result<usize, Refusal>> for Written {
 }
 
 // What a call that reads a chunk answers: what it measured, or why it is refused.
-impl From<Result<Undumped, Refusal>> for Undumped {
+impl From<Result<MeasuredChunk, Refusal>> for Undumped {
     ghost from_gives = { λ r u. u ≡ undumped_result r };
 
-    fn from(r: Result<Undumped, Refusal>) -> Undumped {
+    fn from(r: Result<MeasuredChunk, Refusal>) -> Undumped {
         match r {
-            Ok(m) => m,
+            Ok(m) => Undumped {
+                refusal: 0,
+                width: m.width,
+                words: m.needs.words,
+                text: m.needs.text,
+                read: m.needs.read,
+            },
             Err(e) => Undumped {
                 refusal: e.into(),
                 width: 0,
@@ -110,7 +161,7 @@ impl Span {
     }
 }
 
-// A constant: a number by its halves, a string by where it stands in the bytes that hold it. Its tags are no enum: in the store they are words, in the chunk bytes.
+// A constant: a number by its halves, a string by where it stands in the bytes that hold it.
 #[derive(Clone, Copy)]
 pub enum Constant {
     Nil,
@@ -127,6 +178,70 @@ pub struct Locals;
 
 // The upvalues' names.
 pub struct Names;
+
+// A fourth kind, the items of the code and of the lines. StoredItem alone is implemented for it: these lists are read, checked and written whole.
+pub struct Ints;
+
+// How an item of a list is stored: as a piece of WORDS words.
+pub trait StoredItem {
+    ghost Value: { Type 0 };
+
+    ghost piece: { Value → Piece };
+
+    ghost WORDS: { ℕ };
+
+    const WORDS: u32;
+
+    ghost size: { (v : Value) (to : ℕ) → length ((piece v).words to) ≡ WORDS };
+}
+
+impl StoredItem for Constants {
+    ghost Value = { Value };
+
+    ghost piece = { constant_piece };
+
+    ghost WORDS = { 3 };
+
+    const WORDS: u32 = 3;
+
+    ghost size = { elim [ Value.nil ↦ λ to. refl | Value.bool b ↦ λ to. refl | Value.num high low ↦ λ to. refl | Value.str s ↦ λ to. refl ] };
+}
+
+impl StoredItem for Locals {
+    ghost Value = { Local };
+
+    ghost piece = { local_piece };
+
+    ghost WORDS = { 4 };
+
+    const WORDS: u32 = 4;
+
+    ghost size = { λ v to. refl };
+}
+
+impl StoredItem for Names {
+    ghost Value = { List ℕ };
+
+    ghost piece = { string };
+
+    ghost WORDS = { 2 };
+
+    const WORDS: u32 = 2;
+
+    ghost size = { λ v to. refl };
+}
+
+impl StoredItem for Ints {
+    ghost Value = { ℕ };
+
+    ghost piece = { word };
+
+    ghost WORDS = { 1 };
+
+    const WORDS: u32 = 1;
+
+    ghost size = { λ v to. refl };
+}
 
 // The most functions nested, the root being 1.
 pub const DEPTH: u32 = 200;
@@ -156,8 +271,15 @@ pub fn low(n: usize) -> u32
     (n % 4294967296) as u32
 }
 
-// A number of 64 bits by its halves.
-pub fn joined(low: u32, high: u32) -> u64
+// The halves of a number of 64 bits, the high one first.
+pub fn halves(n: u64) -> (u32, u32)
+    ensures { (result.0 ≡ n / 2 ^ 32) × (result.1 ≡ n % 2 ^ 32) }
+{
+    ((n >> 32) as u32, low(n as usize))
+}
+
+// A number of 64 bits by its halves, the high one first.
+pub fn joined(high: u32, low: u32) -> u64
     ensures { result ≡ low + 4294967296 * high }
 {
     u64::from(low) + 4294967296 * u64::from(high)

@@ -5,7 +5,7 @@ use mathlib.Core.Bool.{Bool, true, false, cond}
 use Prim.Native.Nat.{ℕ, suc, ◌+◌, ◌-◌, ◌*◌, ◌/◌, ◌%◌, ◌^◌, ◌≤◌, ◌<◌}
 use native.Mathlib.Nat.{mod-lt, mod-eq_of_lt, one-mul, add_comm, add_right_comm}
 use native.Mathlib.Omega.{arith}
-use lib.Pow.{pow_pos, pow-lt, mod-pow-add, high, low}
+use lib.Pow.{pow_pos, shl_exact, pow-lt, mod-pow-add, high, low}
 use lib.IntN.{ℤ, pos, negsuc, neg_ℤ, ◌-ℤ◌}
 use lib.Dec.{ltb, leb→le}
 use lib.Signed.{◌≤ℤ◌}
@@ -19,8 +19,12 @@ use Rattle.instructions.specs.OpCodes.{NUM_OPCODES, or_move}
 -- ==== what an instruction is made of, it holds
 
 -- 1 << k
-pub one_shifted : (k : ℕ) → k < 32 → (1 * 2 ^ k) % 2 ^ 32 ≡ 2 ^ k
+one_shifted : (k : ℕ) → k < 32 → (1 * 2 ^ k) % 2 ^ 32 ≡ 2 ^ k
 one_shifted k h = rw one-mul (mod-eq_of_lt (pow-lt h))
+
+-- what is below 1 << size, shifted, stays below 2 ^ 32
+pub placed_is : (from size x : ℕ) → size < 32 → size + from ≤ 32 → x % ((1 * 2 ^ size) % 2 ^ 32) * 2 ^ from % 2 ^ 32 ≡ placed from size x
+placed_is from size x h k = rw (one_shifted size h) (shl_exact size from 32 (mod-lt x (pow_pos size)) k)
 
 -- a field is what stands there, whatever stands above and below
 read : (from size x above below : ℕ) {i : ℕ} → i ≡ (above * 2 ^ size + x % 2 ^ size) * 2 ^ from + below → below < 2 ^ from → field from size i ≡ x % 2 ^ size

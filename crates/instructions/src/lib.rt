@@ -7,47 +7,59 @@ ghost use Rattle.instructions.specs.Fields.{CREATE_ABC, CREATE_ABx, CREATE_AsBx,
 ghost use Rattle.instructions.specs.OpCodes.{op_numbers, Row, opcodes, opcode, or_move, op_modes, op_name, padded};
 ghost use Rattle.instructions.specs.OpCodes.{is_jump, next_is_c, modes_of_byte, mode_of, arg_of};
 
-// Size and position of opcode arguments. From the low bit: the opcode, A, C, B; Bx is C and B together.
-const SIZE_C: u32 = 9;
+// A field: its size in bits, and its position, from the low bit.
+#[derive(Clone, Copy)]
+struct Field {
+    pos: u32,
+    size: u32,
+    ghost fits: { (pos < 32) × (size < 32) × (size + pos ≤ 32) },
+}
 
-const SIZE_B: u32 = 9;
+impl Field {
+    // What i holds in the field.
+    fn of(self, i: u32) -> u32
+        ensures { result ≡ field self.pos self.size i }
+    {
+        (i >> self.pos) % (1 << self.size)
+    }
 
-const SIZE_BX: u32 = SIZE_C + SIZE_B;
+    // The low bits of x, as many as the field has, moved to its position.
+    #[tactic(auto, using(crate::proofs::Laws::placed_is))]
+    fn put(self, x: u32) -> u32
+        ensures { result ≡ placed self.pos self.size x }
+    {
+        x % (1 << self.size) << self.pos
+    }
+}
 
-const SIZE_A: u32 = 8;
+// Size and position of opcode arguments: POS_OP and SIZE_OP of lopcodes.h are OP.pos and OP.size. From the low bit: the opcode, A, C, B; Bx is C and B
+// together.
+const OP: Field = Field { pos: 0, size: 6 };
 
-const SIZE_OP: u32 = 6;
+const A: Field = Field {
+    pos: OP.pos + OP.size,
+    size: 8,
+};
 
-const POS_OP: u32 = 0;
+const C: Field = Field {
+    pos: A.pos + A.size,
+    size: 9,
+};
 
-const POS_A: u32 = POS_OP + SIZE_OP;
+const B: Field = Field {
+    pos: C.pos + C.size,
+    size: 9,
+};
 
-const POS_C: u32 = POS_A + SIZE_A;
-
-const POS_B: u32 = POS_C + SIZE_C;
-
-const POS_BX: u32 = POS_C;
+const BX: Field = Field {
+    pos: C.pos,
+    size: C.size + B.size,
+};
 
 // Limits for opcode arguments. sBx is Bx less MAXARG_SBX.
 pub const MAXARG_SBX: u32 = 131071;
 
 pub const MAXARG_A: u32 = 255;
-
-// The size bits of i that begin at bit from.
-fn field(i: u32, from: u32, size: u32) -> u32
-    requires { (from < 32) × (size < 32) }
-    ensures { result ≡ field from size i }
-{
-    (i >> from) % (1 << size)
-}
-
-// The size low bits of x, moved to bit from.
-fn placed(x: u32, from: u32, size: u32) -> u32
-    requires { (from < 32) × (size < 32) × (size + from ≤ 32) }
-    ensures { result ≡ placed from size x }
-{
-    x % (1 << size) << from
-}
 
 // An instruction word.
 #[derive(Clone, Copy)]
@@ -58,35 +70,35 @@ impl Instruction {
     pub fn opcode(self) -> u8
         ensures { result ≡ opcode self.0 }
     {
-        or_move(field(self.0, POS_OP, SIZE_OP) as u8)
+        or_move(OP.of(self.0) as u8)
     }
 
     // Field A.
     pub fn a(self) -> u32
         ensures { result ≡ GETARG_A self.0 }
     {
-        field(self.0, POS_A, SIZE_A)
+        A.of(self.0)
     }
 
     // Field B.
     pub fn b(self) -> u32
         ensures { result ≡ GETARG_B self.0 }
     {
-        field(self.0, POS_B, SIZE_B)
+        B.of(self.0)
     }
 
     // Field C.
     pub fn c(self) -> u32
         ensures { result ≡ GETARG_C self.0 }
     {
-        field(self.0, POS_C, SIZE_C)
+        C.of(self.0)
     }
 
     // Field Bx.
     pub fn bx(self) -> u32
         ensures { result ≡ GETARG_Bx self.0 }
     {
-        field(self.0, POS_BX, SIZE_BX)
+        BX.of(self.0)
     }
 
     // Field sBx.
@@ -107,23 +119,14 @@ impl Instruction {
     pub fn abc(op: u8, a: u32, b: u32, c: u32) -> Instruction
         ensures { result.0 ≡ CREATE_ABC op a b c }
     {
-        Instruction(
-            placed(u32::from(op), POS_OP, SIZE_OP)
-                + placed(a, POS_A, SIZE_A)
-                + placed(b, POS_B, SIZE_B)
-                + placed(c, POS_C, SIZE_C),
-        )
+        Instruction(OP.put(u32::from(op)) + A.put(a) + B.put(b) + C.put(c))
     }
 
     // The instruction of an opcode, A and Bx, each cut to its field's size.
     pub fn a_bx(op: u8, a: u32, bx: u32) -> Instruction
         ensures { result.0 ≡ CREATE_ABx op a bx }
     {
-        Instruction(
-            placed(u32::from(op), POS_OP, SIZE_OP)
-                + placed(a, POS_A, SIZE_A)
-                + placed(bx, POS_BX, SIZE_BX),
-        )
+        Instruction(OP.put(u32::from(op)) + A.put(a) + BX.put(bx))
     }
 
     // The instruction of an opcode, A and sBx. An sbx out of range wraps, as in a release build of the Rust; Bx takes the low bits of the sum, which
@@ -136,7 +139,7 @@ impl Instruction {
 }
 
 // The bit of an RK operand that marks a constant.
-pub const BITRK: u32 = 1 << (SIZE_B - 1);
+pub const BITRK: u32 = 1 << (B.size - 1);
 
 // The mark is tested, cleared and set by arithmetic, of which the compiler makes & and |: so written it is proved with no law of bits.
 
@@ -398,17 +401,17 @@ impl From<u8> for OpArgMask {
     }
 }
 
-// A row of the table taken apart. It is of 8 bits, and field takes 32.
+// A row of the table taken apart. It is of 8 bits, and a field is of 32.
 fn modes_of_byte(m: u8) -> OpModes
     ensures { result ≡ modes_of_byte m }
 {
     let bits = u32::from(m);
     OpModes {
-        mode: OpMode::from(field(bits, 0, 2) as u8),
-        b_mode: OpArgMask::from(field(bits, 4, 2) as u8),
-        c_mode: OpArgMask::from(field(bits, 2, 2) as u8),
-        is_test_mode: field(bits, 7, 1) == 1,
-        sets_register_a: field(bits, 6, 1) == 1,
+        mode: OpMode::from(Field { pos: 0, size: 2 }.of(bits) as u8),
+        b_mode: OpArgMask::from(Field { pos: 4, size: 2 }.of(bits) as u8),
+        c_mode: OpArgMask::from(Field { pos: 2, size: 2 }.of(bits) as u8),
+        is_test_mode: Field { pos: 7, size: 1 }.of(bits) == 1,
+        sets_register_a: Field { pos: 6, size: 1 }.of(bits) == 1,
     }
 }
 

@@ -1,18 +1,14 @@
 -- A writer's writes, one after the other and in a loop.
-use Rattle.lent.proofs.Prelude.{ℕ, ◌+◌, ◌-◌, ◌≤◌, ◌<◌, length, sets, ◌≡◌, refl, ◌∙◌, List, [], ◌∷◌, ◌++◌}
+use Rattle.lent.proofs.Prelude.{ℕ, ◌≡◌, refl, ◌∙◌, List, [], ◌∷◌, ◌++◌}
 use Rattle.lent.specs.Writer.{Writes}
 use Rattle.lent.specs.declared.Writer.{Writer}
-use Rattle.lent.proofs.Writes.{put_none, put_room, put_then}
+use Rattle.lent.proofs.Writes.{put_none, put_then}
 
 pub writes_none : {w : Writer} → Writes [] w w
 writes_none = record { same = refl; puts = put_none }
 
 pub writes_then : {a b : List ℕ} {w w' w'' : Writer} → Writes a w w' → Writes b w' w'' → Writes (a ++ b) w w''
 writes_then p q = record { same = q.same ∙ p.same; puts = put_then p.puts q.puts }
-
--- the items fit, so that no place stops
-pub writes_room : {items : List ℕ} {w w' : Writer} → w'.out.ghost_name ≡ w.out.ghost_name → w'.at ≡ w.at + length items → w.at < length w.out.now → length items ≤ length w.out.now - w.at → w'.out.now ≡ sets w.out.now w.at items → Writes items w w'
-writes_room n p h r q = record { same = n; puts = put_room p h r q }
 
 -- an item, then others
 pub writes_first : {x : ℕ} {b : List ℕ} {w w' w'' : Writer} → Writes (x ∷ []) w w' → Writes b w' w'' → Writes (x ∷ b) w w''

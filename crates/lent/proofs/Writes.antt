@@ -1,7 +1,9 @@
 -- Writing to lent memory: one write, and writes one after the other.
 use borrow.Rule.Slice.PartMut.{put_mid}
-use Rattle.lent.proofs.Prelude.{ℕ, suc, ◌+◌, ◌-◌, ◌≤◌, ◌<◌, min, ◌≡◌, refl, sym, ap, ◌∙◌, List, [], ◌∷◌, ◌++◌, arith, dec_le, add-zero, length, take, drop, set, length-append, take-append-drop, sets, length-sets, set_out, sets-eq, take_all, length-take-le, drop-drop, append_assoc}
+use Rattle.std.specs.Prelude.{Some}
+use Rattle.lent.proofs.Prelude.{ℕ, suc, ◌+◌, ◌-◌, ◌≤◌, ◌<◌, min, ◌≡◌, refl, sym, ap, ◌∙◌, List, [], ◌∷◌, ◌++◌, arith, dec_le, add-zero, zero-add, le-leb, length, take, drop, set, length-append, take-append-drop, sets, length-sets, set_out, sets-eq, take_all, length-take-le, drop-drop, append_assoc}
 use Rattle.lent.specs.Memory.{far, Puts}
+use Rattle.lent.specs.Whole.{PutsWhole}
 
 -- ---- items stored one after the other
 
@@ -69,9 +71,12 @@ module _ {A : Type 0} {items : List A} {at at' : ℕ} {out out' : List A} where
       let q = p.puts (omega arith) k in
       (omega arith, q.1 ∙ sets-eq items out at h)
 
--- the items fit, so that no place stops
-pub put_room : {A : Type 0} {items : List A} {at at' : ℕ} {out out' : List A} → at' ≡ at + length items → at < length out → length items ≤ length out - at → out' ≡ sets out at items → Puts items at out at' out'
-put_room p h r q = record { puts = λ i k. (omega arith, q) }
+-- bytes that fit are written whole
+pub whole_fits : {bytes out out' : List ℕ} {n : ℕ} → length out < far → length bytes ≤ length out → Puts bytes 0 out n out' → PutsWhole bytes out (Some n) out'
+whole_fits {bytes} {out} l h p =
+    let q = put_fits p (omega arith) (omega arith) in
+    let e = le-leb (length bytes) (length out) h in
+    record { counts = rw (e, q.0, zero-add); leaves = rw (e, q.1, zero-add) }
 
 -- ---- writes one after the other
 

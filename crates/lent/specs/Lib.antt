@@ -1,2 +1,3 @@
 pub mod Memory
 pub mod Writer
+pub mod Whole

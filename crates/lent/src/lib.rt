@@ -3,8 +3,9 @@
 // place would go through memory.
 #![tactic(auto)]
 
-ghost use Rattle.std.specs.Prelude.{◌+◌, ◌≤◌, ◌<◌, ◌≡◌, [], ◌∷◌, length};
+ghost use Rattle.std.specs.Prelude.{ℕ, ◌+◌, ◌≤◌, ◌<◌, ◌≡◌, List, [], ◌∷◌, length};
 ghost use Rattle.lent.specs.Memory.{Puts};
+ghost use Rattle.lent.specs.Whole.{PutsWhole};
 ghost use Rattle.lent.specs.Writer.{Writes};
 
 // Items over N others: they are read before one is written, so that they are moved at once.
@@ -85,6 +86,19 @@ fn put_cut<T: Copy, const N: usize>(out: &mut [T], at: usize, items: [T; N]) -> 
     ensures { Puts items at out.old result out.new }
 {
     put_all(out, at, &items)
+}
+
+// Bytes that f writes from the start, where all fit: f first with no space, to count. Answers how many they are, none where they do not fit.
+#[tactic(auto, using(crate::proofs::Writes::whole_fits))]
+pub fn write_whole<F: Fn(&mut [u8]) -> usize>(out: &mut [u8], f: F) -> Option<usize>
+    requires { F.IsAlwaysCallable f }
+    ensures { (bytes : List ℕ) → ((x : _) (r : _) (y : _) → F.post f x r y → Puts bytes 0 x.now r y.now) → PutsWhole bytes out.old result out.new }
+{
+    let n = f(&mut []);
+    if out.len() < n {
+        return None;
+    }
+    Some(f(out))
 }
 
 // Lent bytes, and the place in them where what is put next goes.

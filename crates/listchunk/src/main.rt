@@ -55,7 +55,8 @@ fn tell(r: Written, out: &[u8], rt: &impl Print) -> io::Result<()> {
     rt.write_all(first(out, r.len))
 }
 
-// Standard input, as many bytes as the space has room for. Answers how many they are.
+// Standard input, as many bytes as the space has room for. Answers how many they are. test_records reads its own so too: this program, which users
+// copy, stands on the library alone.
 fn read_full(rt: &impl Input, space: &mut [u8]) -> io::Result<usize>
     ensures { IfOk result (λ n. n ≤ length space.new) }
 {

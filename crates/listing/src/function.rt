@@ -20,7 +20,7 @@ use proto::walk::{Next, after_debug, first_in, functions_at, word_at};
 // How many places of lines are kept on the way: one for each number of functions nested.
 const KEPT: usize = DEPTH as usize;
 
-// A walk through a store to list, with the lists of a full listing or without.
+// A walk through a store to list, with the lists of a full listing or without. Its methods say that both stay, for the reason that proto's Way gives.
 #[derive(Drop)]
 pub struct Lister<'a> {
     pub way: Way<'a, KEPT>,

@@ -13,7 +13,7 @@ ghost use Rattle.listing.specs.Listing.{list_function, listed};
 
 use format::{DEPTH, Refusal, Written, check_name};
 use function::Lister;
-use lent::Writer;
+use lent::{Writer, write_whole};
 use proto::lists::Way;
 use proto::store::Store;
 use proto::walk::Next;
@@ -32,8 +32,8 @@ fn list_root<'a>(store: Store<'a>, name: &'a [u8], full: bool, out: &mut [u8]) -
     w.at
 }
 
-// Writes the listing of the tree that a store holds: once with no space, to count, then, where all fits, to write. Refused by 1, 10, 11.
-#[tactic(auto, using(proto::proofs::Calls::refused_name, proto::proofs::Calls::refused_store), unfolding(crate::specs::Listing::listed))]
+// Writes the listing of the tree that a store holds, where all of it fits. Refused by 1, 10, 11.
+#[tactic(auto, using(proto::proofs::Calls::refused_name, proto::proofs::Calls::refused_store, proto::proofs::Calls::all_written), unfolding(crate::specs::Listing::listed))]
 fn list_store<'a>(
     store: Store<'a>,
     name: &'a [u8],
@@ -44,12 +44,7 @@ fn list_store<'a>(
 {
     check_name(name)?;
     store.check_held()?;
-    let len = list_root(store, name, full, &mut []);
-    if out.len() < len {
-        return Err(Refusal::TooLittleOutput);
-    }
-    list_root(store, name, full, out);
-    Ok(len)
+    write_whole(out, |o| list_root(store, name, full, o)).ok_or(Refusal::TooLittleOutput)
 }
 
 // The call for C, which has words and text apart: writes the listing of a store to lent memory. Refused by 1, 10, 11.

@@ -1,15 +1,13 @@
--- Laws of comments: which opcodes have one, and the number of a child.
-use Rattle.lent.proofs.Prelude.{ℕ, ◌≡◌, refl, sym, Bool, true, false, ◌||◌, true≢false, List, [], ◌∷◌, eqb, ltb, get_or, eqb-true, ne_eqb, ltb-true}
+-- Laws of comments: their text, and the number of a child.
+use Rattle.lent.proofs.Prelude.{ℕ, ◌≡◌, refl, Bool, true, false, List, [], ltb, get_or, ltb-true}
 use Rattle.std.specs.Prelude.{Option as Answer}
-use Rattle.std.proofs.Common.{◌⊎◌, inl, inr}
-use Rattle.lent.specs.Memory.{Every}
 use Rattle.lent.specs.Writer.{Writes}
 use Rattle.lent.specs.declared.Writer.{Writer}
 use Rattle.lent.proofs.Writers.{writes_then}
 use Rattle.format.specs.Tree.{Functions, count}
 use Rattle.listing_comments.specs.Shown.{ChildIs, closure_text}
 use Rattle.instructions.specs.Fields.{GETARG_Bx}
-use Rattle.instructions.specs.OpCodes.{OP_CLOSURE, among}
+use Rattle.instructions.specs.OpCodes.{OP_CLOSURE}
 use Rattle.format.specs.Store.{children_piece}
 use Rattle.proto.specs.Walk.{StandsAt}
 use Rattle.proto.specs.Children.{child_number}
@@ -20,21 +18,6 @@ use Rattle.listing_comments.specs.Comment.{address, comment, when}
 
 pub comment_put : {t : List ℕ} {w w' w'' : Writer} → Writes (comment []) w w' → Writes t w' w'' → Writes (comment t) w w''
 comment_put p q = writes_then p q
-
--- ---- which opcodes
-
--- what holds of each opcode of a list holds of one that is among them
-pub of_each : (P : ℕ → Type 0) (op : ℕ) (l : List ℕ) → among op l ≡ true → Every P l → P op
-unfolding Every
-of_each P op [] e a = absurd (true≢false (sym e))
-of_each P op (k ∷ l) e a = by (eqb op k) refl e (λ g. of_each P op l g a.1) where
-  by : (b : Bool) → eqb op k ≡ b → (b || among op l) ≡ true → (among op l ≡ true → P op) → P op
-  by true f g rest = rw (eqb-true op k f) a.0
-  by false f g rest = rest g
-
--- an opcode that is neither of two is not among them
-pub not_either : (op a b : ℕ) → ((op ≡ a) ⊎ (op ≡ b) → ⊥) → among op (a ∷ b ∷ []) ≡ false
-not_either op a b n = rw (ne_eqb op a (λ e. n (inl e)), ne_eqb op b (λ e. n (inr e)))
 
 -- ---- the number of the function that a CLOSURE makes
 

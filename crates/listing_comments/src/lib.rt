@@ -166,6 +166,7 @@ fn has_operands(op: u8) -> bool
 
 // The comment of the instruction at pc. child is the number of the function that a CLOSURE makes, where there is one.
 // op stands beside i, as in the definitions and the Rust: the promise is of any opcode, and of i's alone it would be less.
+#[tactic(auto, unfolding(crate::specs::Comment::format_comment, instructions::specs::OpCodes::is_jump))]
 pub fn format_comment(
     w: &mut Writer,
     lists: Lists,

@@ -1,14 +1,13 @@
 // The lists of a full listing (listing.rs: format_constants, format_locals, format_upvalues).
-ghost use Rattle.std.specs.Prelude.{◌≡◌, ℕ, List, length, refl};
+ghost use Rattle.std.specs.Prelude.{◌≡◌, ℕ, List, length};
 ghost use Rattle.lent.specs.Writer.{Writes};
 ghost use Rattle.format.specs.Tree.{Constant, Local};
 ghost use Rattle.format.specs.Store.{Piece, list, string, constant_piece, local_piece};
-ghost use Rattle.proto.proofs.Pieces.{constant_words_law};
 ghost use Rattle.instructions.specs.OpCodes.{ascii};
 ghost use Rattle.listing_operands.specs.Shown.{Shows};
 ghost use Rattle.listing_headers.specs.Tables.{title, raised, tabbed, format_constant_at, format_local_at, format_upvalue_at, format_list};
 
-use format::{Constants, Locals, Names};
+use format::{Constants, Locals, Names, StoredItem};
 use lent::Writer;
 use listing_comments::{put_address, put_u32};
 use listing_lines::put_index;
@@ -18,9 +17,9 @@ use proto::debug::local_at;
 use proto::store::Store;
 use proto::walk::{item_at, word_at};
 
-// What a list of a full listing holds: items that stand as pieces of SIZE words, and a line for each. proto, load_function and dump have an Item of
-// their own, and no trait above one of proto's: a ghost member's type cannot name a member of a supertrait (only a law's can), and line is of Value.
-pub trait Item {
+// What a list of a full listing holds: a line for each item. proto, load_function and dump have an Item of their own, and Value and piece stand here beside
+// StoredItem's: a ghost member's type cannot name a member of a supertrait (only a law's can), and line is of Value.
+pub trait Item: StoredItem {
     ghost Value: { Type 0 };
 
     ghost piece: { Value → Piece };
@@ -29,11 +28,7 @@ pub trait Item {
 
     ghost noun: { List ℕ };
 
-    ghost SIZE: { ℕ };
-
-    const SIZE: u32;
-
-    // Their name. No const as SIZE is: a const is proved equal to the ghost of its name, and of a slice that would be its address too.
+    // Their name. No const as WORDS is: a const is proved equal to the ghost of its name, and of a slice that would be its address too.
     fn noun() -> &'static [u8]
         ensures { result.now ≡ noun };
 
@@ -41,7 +36,7 @@ pub trait Item {
     fn put_line(w: &mut Writer, store: Store, place: usize, i: u32)
         ensures { Shows store.entry place piece (line i) w.old w.new };
 
-    ghost size: { (v : Value) (to : ℕ) → length ((piece v).words to) ≡ SIZE };
+    ghost size: { (v : Value) (to : ℕ) → length ((piece v).words to) ≡ Self.WORDS };
 }
 
 // Constants, counted from 1.
@@ -54,10 +49,6 @@ impl Item for Constants {
 
     ghost noun = { ascii "constants" };
 
-    ghost SIZE = { 3 };
-
-    const SIZE: u32 = 3;
-
     fn noun() -> &'static [u8] {
         b"constants"
     }
@@ -68,7 +59,7 @@ impl Item for Constants {
         w.put_byte(b'\n');
     }
 
-    ghost size = { constant_words_law };
+    ghost size = { ⟦<Constants as StoredItem>⟧.size };
 }
 
 // Locals, counted from 0.
@@ -80,10 +71,6 @@ impl Item for Locals {
     ghost line = { format_local_at };
 
     ghost noun = { ascii "locals" };
-
-    ghost SIZE = { 4 };
-
-    const SIZE: u32 = 4;
 
     fn noun() -> &'static [u8] {
         b"locals"
@@ -98,7 +85,7 @@ impl Item for Locals {
         w.put_byte(b'\n');
     }
 
-    ghost size = { λ v to. refl };
+    ghost size = { ⟦<Locals as StoredItem>⟧.size };
 }
 
 // Names of upvalues, counted from 0.
@@ -111,10 +98,6 @@ impl Item for Names {
 
     ghost noun = { ascii "upvalues" };
 
-    ghost SIZE = { 2 };
-
-    const SIZE: u32 = 2;
-
     fn noun() -> &'static [u8] {
         b"upvalues"
     }
@@ -125,7 +108,7 @@ impl Item for Names {
         w.put_byte(b'\n');
     }
 
-    ghost size = { λ v to. refl };
+    ghost size = { ⟦<Names as StoredItem>⟧.size };
 }
 
 // What a list holds, how many, and whose it is.
@@ -150,12 +133,13 @@ fn put_raised(w: &mut Writer, pc: u32)
 }
 
 // A list: its title, and a line for each item.
+#[tactic(auto, using(crate::proofs::Enumerates::list_turn))]
 pub fn put_list<T: Item>(w: &mut Writer, store: Store, place: usize, number: usize)
-    ensures { Shows store.entry place (list T.piece) (λ l. format_list T.noun T.line l number) w.old w.new }
+    ensures { Shows store.entry place (list T.Item.piece) (λ l. format_list T.noun T.line l number) w.old w.new }
 {
     let n = word_at(store.words, place);
     put_title(w, T::noun(), n, number);
     for i in 0..n {
-        T::put_line(w, store, item_at(store.words, place, T::SIZE, i), i);
+        T::put_line(w, store, item_at::<T>(store.words, place, i), i);
     }
 }

@@ -8,7 +8,7 @@ ghost use Rattle.listing_operands.specs.Operands.{constant_text};
 ghost use Rattle.listing_operands.specs.Shown.{Shows};
 
 use digits::text::{put_number, put_quoted};
-use format::Constant;
+use format::{Constant, joined};
 use lent::Writer;
 use proto::constant::constant_of;
 use proto::lists::Lists;
@@ -22,7 +22,7 @@ pub fn put_constant<const RAW: bool>(w: &mut Writer, text: &[u8], k: Constant)
         Constant::Nil => w.put_bytes(b"nil"),
         Constant::Bool(true) => w.put_bytes(b"true"),
         Constant::Bool(false) => w.put_bytes(b"false"),
-        Constant::Num(high, low) => put_number(w, high, low),
+        Constant::Num(high, low) => put_number(w, joined(high, low)),
         Constant::String(s) if RAW => put_repaired(w, s.of(text)),
         Constant::String(s) => put_quoted(w, s.of(text)),
     }

@@ -1,7 +1,7 @@
 // Texts that fit are stored, or only counted where STORED is false: both answer the same place. They go over (out, at): they ask for room and
 // test none, with the places in registers, where a writer would test each byte. Tried and proved by a writer, with listing_lines' format_start:
 // the listing of grouped1 took 8.1 ms and 54.7 million instructions, and not 5.9 and 35.1, a full one 10.4 ms and 69.9, and not 8.6 and 50.3.
-// A listing is to take 0.4 of the Rust's time, and takes 0.32 to 0.40 of it. Over &mut out[at..] each step would cut the slice again.
+// A listing is to take 0.4 of the Rust's time, and that of grouped1 takes 0.32 to 0.40 of it.
 ghost use Rattle.std.specs.Prelude.{◌+◌, ◌≤◌, [], ◌∷◌};
 ghost use Rattle.digits.specs.Digits.{decimal, negative};
 ghost use Rattle.listing_operands.specs.Fit.{room, Fits};

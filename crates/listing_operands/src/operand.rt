@@ -1,5 +1,5 @@
-// The operands of an instruction. Those that fit go over (out, at), as fit.rt says. Each asks for its longest text, which Fits states too, so that the
-// numbers stand in each: 11 is - and ten digits.
+// The operands of an instruction. Those that fit go over (out, at), as fit.rt says. Each asks for its longest text, which Fits states too: no struct holds
+// the room, since it is another number for each operand and each step takes some of it. 11 is - and ten digits.
 ghost use Rattle.std.specs.Prelude.{◌+◌, ◌≤◌};
 ghost use Rattle.lent.specs.Writer.{Writes};
 ghost use Rattle.instructions.specs.Fields.{GETARG_Bx};

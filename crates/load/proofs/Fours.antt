@@ -13,7 +13,7 @@ use Rattle.std.specs.Int.{from_le_bytes, w32}
 use Rattle.std.specs.Simd.{first_chunks}
 use Rattle.format.specs.Read.{got, refused, load_int, many, load_count, load_list}
 use Rattle.format.specs.Store.{plain, word, ints}
-use Rattle.load_state.specs.ReadAt.{four_at, BlockAt}
+use Rattle.load_state.specs.ReadAt.{four_at, BlockAt, BlockFrom}
 use Rattle.load.specs.declared.Loader.{Loader}
 use Rattle.load.specs.Loads.{fours, space, Does, Moves, Stores, LoadsBy, Loads}
 use Rattle.load_state.proofs.Bytes.{int_got, number_none, block_at, block_short}
@@ -137,10 +137,10 @@ ints_short {bs} {at} n {x} h = elim (dec_le (4 * n) (length bs - at)) [
 -- ---- a list of integers, after its count
 
 module _ {σ m : Loader} {n : ℕ} (h : LoadsBy load_count (λ a b. (a ≡ b) × Does (word a) (space σ) (space m)) σ m (Ok n)) where
-  pub ints_refused : {x : Refusal} {r : Result (Unit {0}) Refusal} → BlockAt m.reader.state.chunk.now (4 * n) m.reader.state.pos (Err x) → IsErrAnd r (λ y. y ≡ x) → Loads (load_list load_int) ints σ m r
+  pub ints_refused : {x : Refusal} {r : Result (Unit {0}) Refusal} → BlockFrom (4 * n) m.reader.state (Err x) → IsErrAnd r (λ y. y ≡ x) → Loads (load_list load_int) ints σ m r
   ints_refused k i = refused_with i (loads_then (many load_int) h (λ a e. record { same = same_self; reads = record { ends = rw (e.0, ints_short n k) refl } }))
 
-  pub ints_loaded : {g : Got (Bor (List ℕ))} {v : Bor (List ℕ)} {a σ' : Loader} → BlockAt m.reader.state.chunk.now (4 * n) m.reader.state.pos (Ok g) → v ≡ g.value → Moves g.next m a → Stores (plain (fours v.now 0 (length v.now / 4))) a σ'
+  pub ints_loaded : {g : Got (Bor (List ℕ))} {v : Bor (List ℕ)} {a σ' : Loader} → BlockFrom (4 * n) m.reader.state (Ok g) → v ≡ g.value → Moves g.next m a → Stores (plain (fours v.now 0 (length v.now / 4))) a σ'
       → Loads (load_list load_int) ints σ σ' (Ok tt)
   ints_loaded {g} k e f s =
       let t = ints_read n k in

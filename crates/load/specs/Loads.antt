@@ -1,5 +1,5 @@
 -- What a step of the reader does, against what reading gives (Read) and what a store holds (Store).
-use Rattle.std.specs.Prelude.{ℕ, zero, suc, ◌+◌, ◌≤◌, min, ◌≡◌, Bool, List, [], ◌∷◌, length, get_or, Option, Some, None, Result, IfOk}
+use Rattle.std.specs.Prelude.{ℕ, zero, suc, ◌+◌, ◌≤◌, min, ◌≡◌, List, [], ◌∷◌, length, get_or, Option, Some, None, Result, IfOk}
 use Rattle.lent.specs.Memory.{far, Puts}
 use Rattle.utf8.specs.Utf8.{repair}
 use Rattle.format.specs.Tree.{Source}
@@ -12,8 +12,9 @@ use Rattle.format.specs.Constants.{meaning_of, value_of, LiesIn}
 use Rattle.format.specs.declared.Constant.{Constant}
 use Rattle.format.specs.declared.Refusal.{Refusal}
 use Rattle.load_state.specs.declared.cursor.Got.{Got}
-use Rattle.load_state.specs.ReadAt.{ReadsBy, four_at}
+use Rattle.load_state.specs.ReadAt.{ReadsByFrom, four_at}
 use Rattle.format.specs.declared.Span.{Span}
+use Rattle.load.specs.declared.cursor.ChunkReader.{ChunkReader}
 use Rattle.load.specs.declared.Loader.{Loader}
 
 -- ---- reading
@@ -37,21 +38,21 @@ abbrev pub Lies : List ℕ → Option Span → Type 0
 Lies bs None = Unit {0}
 Lies bs (Some z) = z.start + z.len ≤ length bs
 
--- a string, its size of this width: the span lies in the chunk
-pub record Strings (bs : List ℕ) (size4 : Bool) (at : ℕ) (r : Result (Got (Option Span)) Refusal) : Type 0 where
-  pub reads : ReadsBy bs (load_string size4) (λ v g. v ≡ spanned bs g.value) (λ g. g.next) at r
-  pub within : IfOk r (λ g. Lies bs g.value)
+-- a string, its size of the width of s: the span lies in the chunk
+pub record Strings (s : ChunkReader) (r : Result (Got (Option Span)) Refusal) : Type 0 where
+  pub reads : ReadsByFrom (load_string s.size_4) (λ v g. v ≡ spanned s.state.chunk.now g.value) (λ g. g.next) s.state r
+  pub within : IfOk r (λ g. Lies s.state.chunk.now g.value)
 
 -- a name or a string constant, which is empty where there is no string
-pub record Texts (bs : List ℕ) (size4 : Bool) (at : ℕ) (r : Result (Got Span) Refusal) : Type 0 where
-  pub reads : ReadsBy bs (load_text size4) (λ s g. s ≡ bytes_of bs g.value) (λ g. g.next) at r
-  pub within : IfOk r (λ g. g.value.start + g.value.len ≤ length bs)
+pub record Texts (s : ChunkReader) (r : Result (Got Span) Refusal) : Type 0 where
+  pub reads : ReadsByFrom (load_text s.size_4) (λ v g. v ≡ bytes_of s.state.chunk.now g.value) (λ g. g.next) s.state r
+  pub within : IfOk r (λ g. g.value.start + g.value.len ≤ length s.state.chunk.now)
 
 -- a constant: what is answered stands for it, its string lies in the chunk, and its tag is the answer's number
-pub record ReadsConstant (bs : List ℕ) (size4 : Bool) (at : ℕ) (r : Result (Got Constant) Refusal) : Type 0 where
-  pub reads : ReadsBy bs (load_constant size4) (λ a z. a ≡ value_of bs z.value) (λ z. z.next) at r
-  pub lies : IfOk r (λ z. LiesIn bs z.value)
-  pub numbered : IfOk r (λ z. get_or bs at 0 ≡ (meaning_of z.value).number)
+pub record ReadsConstant (s : ChunkReader) (r : Result (Got Constant) Refusal) : Type 0 where
+  pub reads : ReadsByFrom (load_constant s.size_4) (λ a z. a ≡ value_of s.state.chunk.now z.value) (λ z. z.next) s.state r
+  pub lies : IfOk r (λ z. LiesIn s.state.chunk.now z.value)
+  pub numbered : IfOk r (λ z. get_or s.state.chunk.now s.state.pos 0 ≡ (meaning_of z.value).number)
 
 -- ---- storing
 
@@ -107,7 +108,7 @@ pub record Stores (p : Piece) (σ σ' : Loader) : Type 0 where
 -- from σ to σ' by the reader R, with P of what it gives and r's value, or with r's refusal
 pub record LoadsBy {A B : Type 0} (R : Reader A) (P : A → B → Type 0) (σ σ' : Loader) (r : Result B Refusal) : Type 0 where
   pub same : Same σ σ'
-  pub reads : ReadsBy σ.reader.state.chunk.now R P (λ b. σ'.reader.state.pos) σ.reader.state.pos r
+  pub reads : ReadsByFrom R P (λ b. σ'.reader.state.pos) σ.reader.state r
 
 -- what it gives being stored as a piece
 abbrev pub Loads : {A : Type 0} → Reader A → (A → Piece) → Loader → Loader → Result (Unit {0}) Refusal → Type 0

@@ -8,18 +8,20 @@ ghost use Rattle.load.specs.Loads.{fours, Loads, Stores};
 use crate::Loader;
 use format::Refusal;
 
-// As many integers as there are words, four bytes each. The words by index: of the items of an iter_mut nothing is known behind the loop.
+// As many integers as there are words, four bytes each.
 #[tactic(auto, using(crate::proofs::Fours::filled), unfolding(crate::specs::Loads::fours))]
 fn fill(bytes: &[u8], words: &mut [u32])
     requires { length bytes.now ≡ 4 * length words.old }
     ensures { words.new ≡ fours bytes.now 0 (length words.old) }
 {
-    for (i, four) in bytes.as_chunks::<4>().0.iter().enumerate() {
-        words[i] = u32::from_le_bytes(*four);
+    let (chunks, _) = bytes.as_chunks::<4>();
+    for (i, w) in words.iter_mut().enumerate() {
+        *w = u32::from_le_bytes(chunks[i]);
     }
 }
 
-// Integers, four bytes each, go to the words, as many as there is room for. Answers the next place.
+// Integers, four bytes each, go to the words, as many as there is room for. Answers the next place. lent's put_all but for what fills the part: one function
+// of both would take a closure, and its contract would say what that leaves in a part of any length, where here four lines are the same.
 #[tactic(auto, using(crate::proofs::Fours::ints_stored, crate::proofs::Fours::ints_lost))]
 fn put_fours(bytes: &[u8], words: &mut [u32], at: usize) -> usize
     ensures { Puts (fours bytes.now 0 (length bytes.now / 4)) at words.old result words.new }

@@ -29,7 +29,7 @@ pub fn load_debug(s: &mut Loader) -> Result<(), Refusal>
     load_list::<Names>(s)
 }
 
-// The four bytes behind the lines, in one word.
+// The four bytes behind the lines, read one by one as in lundump.c's LoadFunction, in one word.
 fn load_limits(s: &mut Loader) -> Result<(), Refusal>
     ensures { Loads load_limits limits_piece s.old s.new result }
 {

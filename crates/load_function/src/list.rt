@@ -10,7 +10,7 @@ ghost use Rattle.format.specs.Constants.{value_of};
 ghost use Rattle.load.specs.Loads.{Stores, Loads, repaired_name};
 ghost use Rattle.load_function.specs.Repaired.{repaired_local_piece};
 
-use format::{Constant, Constants, Locals, Names, Refusal};
+use format::{Constant, Constants, Locals, Names, Refusal, Tag};
 use load::Loader;
 
 // What the items of a list are. proto, dump and listing_headers have such a trait each, as proto's says.
@@ -36,14 +36,14 @@ pub fn load_list<T: Item>(s: &mut Loader) -> Result<(), Refusal>
     Ok(())
 }
 
-// A constant that was read goes to the store, its tag one of the format's numbers.
+// A constant that was read goes to the store.
 fn put_constant(s: &mut Loader, k: Constant)
     ensures { Stores (constant_piece (value_of s.old.reader.state.chunk.now k)) s.old s.new }
 {
     match k {
-        Constant::Nil => s.put_words([0, 0, 0]),
-        Constant::Bool(b) => s.put_words([1, u32::from(b), 0]),
-        Constant::Num(high, low) => s.put_words([3, high, low]),
+        Constant::Nil => s.put_words([Tag::Nil as u32, 0, 0]),
+        Constant::Bool(b) => s.put_words([Tag::Bool as u32, u32::from(b), 0]),
+        Constant::Num(high, low) => s.put_words([Tag::Num as u32, high, low]),
         Constant::String(z) => s.put_str(z.of(s.reader.state.chunk)),
     }
 }

@@ -2,7 +2,7 @@
 use Rattle.std.specs.Prelude.{Result, Ok, Err}
 use Rattle.std.specs.Result.{IsErrAnd}
 use Rattle.std.proofs.lemmas.Result.{err_from_is_err_and}
-use Rattle.lent.proofs.Prelude.{refl, ℕ, ◌+◌, ◌*◌, ◌-◌, ◌/◌, ◌%◌, ◌≤◌, ◌<◌, ◌≡◌, ◌∙◌, List, ◌∷◌, arith, add-zero, dec_le, length, take, drop, get_or, length-drop, drop-drop, take_all, le-leb, lt-leb}
+use Rattle.lent.proofs.Prelude.{refl, ℕ, ◌+◌, ◌*◌, ◌-◌, ◌/◌, ◌%◌, ◌^◌, ◌≤◌, ◌<◌, ◌≡◌, ◌∙◌, List, ◌∷◌, arith, add-zero, dec_le, length, take, drop, get_or, length-drop, drop-drop, take_all, le-leb, lt-leb}
 use Rattle.std.proofs.lemmas.List.{drop_more}
 use Rattle.format.specs.Read.{got, refused, load_byte, load_block, load_number, load_int, load_num, little_endian, Read, and_then, return}
 use Rattle.format.specs.Refusal.{number}
@@ -89,14 +89,14 @@ four_fits bs at h = omega (arith, h at, h (at + 1), h (at + 2), h (at + 3))
 
 module _ {bs : List ℕ} {at : ℕ} (fits : (i : ℕ) → get_or bs i 0 < 256) where
   -- the halves of a number of eight bytes
-  pub halves_taken : {b : Got ℕ} {g : Got (ℕ × ℕ)} → ReadAt bs (load_number 8) at (Ok b) → g.value.0 ≡ b.value % 4294967296 → g.value.1 ≡ b.value / 4294967296 → g.next ≡ b.next → HalvesAt bs at (Ok g)
-  halves_taken {b} {g} h l u f = elim (dec_le 8 (length bs - at)) [
+  pub halves_taken : {b : Got ℕ} {g : Got (ℕ × ℕ)} → ReadAt bs (load_number 8) at (Ok b) → g.value.0 ≡ b.value / 2 ^ 32 → g.value.1 ≡ b.value % 2 ^ 32 → g.next ≡ b.next → HalvesAt bs at (Ok g)
+  halves_taken {b} {g} h u l f = elim (dec_le 8 (length bs - at)) [
     | yes k ↦
         let n : at + 4 + 4 ≡ at + 8 = omega arith in
         let t : (drop (at + 8) bs ≡ drop b.next bs) × (little_endian (take 8 (drop at bs)) ≡ b.value) = rw (number_got 8 bs at k) at h.ends in
         let e : four_at bs at + 4294967296 * four_at bs (at + 4) ≡ b.value = eight_is bs at k ∙ t.1 in
-        let low : four_at bs at ≡ g.value.0 = omega (arith, four_fits bs at fits) in
-        let high : four_at bs (at + 4) ≡ g.value.1 = omega (arith, four_fits bs at fits) in
+        let low : four_at bs at ≡ g.value.1 = omega (arith, four_fits bs at fits) in
+        let high : four_at bs (at + 4) ≡ g.value.0 = omega (arith, four_fits bs at fits) in
         record { ends = rw (int_got bs at (omega arith), int_got bs (at + 4) (omega arith), n, f, t.0, low, high) (refl, refl) }
     | no k ↦ absurd (rw (number_none 8 bs at (omega arith)) at h.ends)
   ]

@@ -5,6 +5,7 @@ use Rattle.format.specs.Tree.{Constant}
 use Rattle.format.specs.Read.{Read, Reader, got, refused, load_block, load_num}
 use Rattle.format.specs.Refusal.{number}
 use Rattle.format.specs.declared.Refusal.{Refusal}
+use Rattle.load_state.specs.declared.LoadState.{LoadState}
 use Rattle.load_state.specs.declared.cursor.Got.{Got}
 
 -- the reading x ends as the answer r says: with P of its value, the bytes left and r's value, or with its refusal
@@ -26,10 +27,24 @@ ReadAt bs R at r = ReadsBy bs R (λ a g. a ≡ g.value) (λ g. g.next) at r
 abbrev pub BlockAt : List ℕ → ℕ → ℕ → Result (Got (Bor (List ℕ))) Refusal → Type 0
 BlockAt bs n at r = ReadsBy bs (load_block n) (λ s g. s ≡ g.value.now) (λ g. g.next) at r
 
--- a lua_Number by its halves, the low one first
+-- a lua_Number by its halves, the high one first, as a constant has them
 abbrev pub HalvesAt : List ℕ → ℕ → Result (Got (ℕ × ℕ)) Refusal → Type 0
-HalvesAt bs at r = ReadsBy bs load_num (λ k g. k ≡ Constant.num g.value.1 g.value.0) (λ g. g.next) at r
+HalvesAt bs at r = ReadsBy bs load_num (λ k g. k ≡ Constant.num g.value.0 g.value.1) (λ g. g.next) at r
 
 -- the number that four bytes from a place on stand for, low byte first
 abbrev pub four_at : List ℕ → ℕ → ℕ
 four_at bs at = get_or bs at 0 + 256 * (get_or bs (at + 1) 0 + 256 * (get_or bs (at + 2) 0 + 256 * get_or bs (at + 3) 0))
+
+-- ---- the same from the place of a LoadState s on
+
+abbrev pub ReadsByFrom : {A B : Type 0} → Reader A → (A → B → Type 0) → (B → ℕ) → LoadState → Result B Refusal → Type 0
+ReadsByFrom R P next s r = ReadsBy s.chunk.now R P next s.pos r
+
+abbrev pub ReadFrom : {A : Type 0} → Reader A → LoadState → Result (Got A) Refusal → Type 0
+ReadFrom R s r = ReadAt s.chunk.now R s.pos r
+
+abbrev pub BlockFrom : ℕ → LoadState → Result (Got (Bor (List ℕ))) Refusal → Type 0
+BlockFrom n s r = BlockAt s.chunk.now n s.pos r
+
+abbrev pub HalvesFrom : LoadState → Result (Got (ℕ × ℕ)) Refusal → Type 0
+HalvesFrom s r = HalvesAt s.chunk.now s.pos r

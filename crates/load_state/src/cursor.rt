@@ -4,7 +4,7 @@ ghost use Rattle.std.specs.Prelude.{◌≡◌};
 ghost use Rattle.format.specs.Read.{load_block, load_byte, load_number, load_int};
 ghost use Rattle.load_state.specs.ReadAt.{ReadAt, BlockAt, HalvesAt};
 
-use format::{Refusal, Span};
+use format::{Refusal, Span, halves};
 
 // What was read, and the next place.
 #[derive(Clone, Copy)]
@@ -76,11 +76,12 @@ pub fn size_at(chunk: &[u8], at: usize) -> Result<Got<u64>, Refusal>
     Ok(b.with(u64::from_le_bytes(b.value)))
 }
 
-// The number at a place, of eight bytes: its low half, then its high half. One size is split, and not two integers read: so one test serves both halves.
+// The number at a place, of eight bytes: its high half and its low half, as a constant has them. One size is split, and not two integers read: so one test
+// serves both halves.
 #[tactic(auto, using(crate::proofs::Bytes::halves_taken, crate::proofs::Bytes::halves_short))]
 pub fn number_at(chunk: &[u8], at: usize) -> Result<Got<(u32, u32)>, Refusal>
     ensures { HalvesAt chunk.now at result }
 {
     let n = size_at(chunk, at)?;
-    Ok(n.with(((n.value % 4294967296) as u32, (n.value / 4294967296) as u32)))
+    Ok(n.with(halves(n.value)))
 }

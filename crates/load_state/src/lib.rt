@@ -5,7 +5,7 @@
 pub mod cursor;
 
 ghost use Rattle.format.specs.Read.{load_byte, load_number, load_int};
-ghost use Rattle.load_state.specs.ReadAt.{ReadAt, BlockAt, HalvesAt};
+ghost use Rattle.load_state.specs.ReadAt.{ReadFrom, BlockFrom, HalvesFrom};
 
 use cursor::{Got, block_at, byte_at, int_at, number_at, size_at};
 use format::Refusal;
@@ -19,31 +19,31 @@ pub struct LoadState<'a> {
 
 impl<'a> LoadState<'a> {
     pub fn load_block(self, n: usize) -> Result<Got<&'a [u8]>, Refusal>
-        ensures { BlockAt self.entry.chunk.now n self.entry.pos result }
+        ensures { BlockFrom n self.entry result }
     {
         block_at(self.chunk, self.pos, n)
     }
 
     pub fn load_byte(self) -> Result<Got<u8>, Refusal>
-        ensures { ReadAt self.entry.chunk.now load_byte self.entry.pos result }
+        ensures { ReadFrom load_byte self.entry result }
     {
         byte_at(self.chunk, self.pos)
     }
 
     pub fn load_int(self) -> Result<Got<u32>, Refusal>
-        ensures { ReadAt self.entry.chunk.now load_int self.entry.pos result }
+        ensures { ReadFrom load_int self.entry result }
     {
         int_at(self.chunk, self.pos)
     }
 
     pub fn load_size(self) -> Result<Got<u64>, Refusal>
-        ensures { ReadAt self.entry.chunk.now (load_number 8) self.entry.pos result }
+        ensures { ReadFrom (load_number 8) self.entry result }
     {
         size_at(self.chunk, self.pos)
     }
 
     pub fn load_number(self) -> Result<Got<(u32, u32)>, Refusal>
-        ensures { HalvesAt self.entry.chunk.now self.entry.pos result }
+        ensures { HalvesFrom self.entry result }
     {
         number_at(self.chunk, self.pos)
     }

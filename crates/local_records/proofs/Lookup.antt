@@ -1,5 +1,7 @@
 -- The lookup: where the locals stand, what their records lead to, and what the call leaves.
 use Rattle.std.specs.Prelude.{Option, Result, Ok, Err}
+use Rattle.std.specs.declared.ops.ControlFlow.{ControlFlow}
+use Rattle.std.specs.declared.ops.ControlFlow.TheVariants.{Continue, Break}
 use Rattle.std.specs.Simd.{first_chunks}
 use Rattle.lent.proofs.Prelude.{ℕ, ◌+◌, ◌*◌, ◌/◌, ◌≤◌, ◌<◌, ◌%◌, ◌^◌, min, ◌≡◌, refl, sym, ap, ◌∙◌, List, [], ◌∷◌, ◌++◌, Bool, true, false, cond, arith, length, take, drop, length-take-le, length-drop, get_or, leb, eq-eqb, ne_eqb, le-leb, lt-leb, leb-true}
 use Rattle.lent.specs.Memory.{far, Puts}
@@ -24,16 +26,14 @@ use Rattle.proto.proofs.Items.{somewhere, list_count, locals_stand}
 use Rattle.proto.proofs.Sources.{On, place_on, on_answer, on_related}
 use Rattle.debug_info.specs.declared.answer.Named.{Named}
 use Rattle.debug_info.specs.declared.name.Known.{Known}
-use Rattle.debug_info.specs.Names.{Object, nothing, local, active_local, get_local_name}
+use Rattle.debug_info.specs.Names.{Object, active_local, get_local_name}
 use Rattle.debug_info.specs.Known.{object_of}
 use Rattle.debug_info.specs.Calls.{NameLeft, name_left, name_refused, named_by, named, local_named}
 use Rattle.debug_info.proofs.Calls.{of_function, place_refused}
 use Rattle.local_records.specs.declared.record.LocalRecord.{LocalRecord}
-use Rattle.debug_info.specs.declared.list.Seen.{Seen}
-use Rattle.debug_info.specs.declared.list.Seen.TheVariants.{Nothing, Found, Left}
-use Rattle.debug_info.specs.Seen.{look, after}
+use Rattle.debug_info.specs.Look.{look, after}
 use Rattle.debug_info.proofs.Lists.{active_step}
-use Rattle.local_records.specs.Records.{record_at, records_at, records_of, records_filled, look_at, unnamed, text_named, active_in}
+use Rattle.local_records.specs.Records.{record_at, records_at, records_of, records_filled, look_at, text_named, active_in}
 use Rattle.local_records.proofs.Records.{records_fours}
 use Rattle.local_records.specs.Lookup.{locals_of, locals_at, LookupLeft, lookup_left, with_records, local_named_in, no_locals, locals_for}
 
@@ -52,15 +52,14 @@ module _ {words text : List ℕ} where
       let s = stands_left (local_piece v) (pieces local_piece l) h in
       let t = stands_right (local_piece v) (pieces local_piece l) h in
       let e : part text to (length v.name) ≡ v.name = here_part v.name (stands_left (string v.name) (word v.start ⊕ word v.end) s).in_text in
-      ap (λ (r : LocalRecord). object_of text (after (look_at r n pc) unnamed (text_named r.place r.len) (λ m. active_in (records_at words (at + 4) (length l)) m pc))) (record_is v s)
-      ∙ by e (λ m. records_lead l m pc t) (look v.start v.end n pc)
-      ∙ active_step v l n pc
+      ap (λ (r : LocalRecord). object_of text (after (look_at r n pc) (λ found. found) (λ m. active_in (records_at words (at + 4) (length l)) m pc))) (record_is v s)
+      ∙ by (λ m. records_lead l m pc t) (look (text_named to (length v.name)) v.start v.end n pc)
+      ∙ active_step text (text_named to (length v.name)) v (rw e) l n pc
     where
-      by : part text to (length v.name) ≡ v.name → ((m : ℕ) → object_of text (active_in (records_at words (at + 4) (length l)) m pc) ≡ active_local l m pc) → (a : Seen)
-          → object_of text (after a unnamed (text_named to (length v.name)) (λ m. active_in (records_at words (at + 4) (length l)) m pc)) ≡ after a nothing (local v.name) (λ m. active_local l m pc)
-      by e more Nothing = refl
-      by e more Found = rw e
-      by e more (Left m) = more m
+      by : ((m : ℕ) → object_of text (active_in (records_at words (at + 4) (length l)) m pc) ≡ active_local l m pc) → (a : ControlFlow (Option Known) ℕ)
+          → object_of text (after a (λ found. found) (λ m. active_in (records_at words (at + 4) (length l)) m pc)) ≡ after a (object_of text) (λ m. active_local l m pc)
+      by more (Break found) = refl
+      by more (Continue m) = more m
 
 -- ---- where the locals stand
 

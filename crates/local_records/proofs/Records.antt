@@ -5,9 +5,9 @@ use Rattle.lent.proofs.Prelude.{ℕ, zero, suc, ◌+◌, ◌*◌, ◌≤◌, ◌
 use Rattle.std.proofs.lemmas.List.{drop-take}
 use Rattle.local_records.specs.declared.record.LocalRecord.{LocalRecord}
 use Rattle.debug_info.specs.declared.name.Known.{Known}
-use Rattle.debug_info.specs.declared.list.Seen.{Seen}
-use Rattle.debug_info.specs.declared.list.Seen.TheVariants.{Nothing, Found, Left}
-use Rattle.debug_info.specs.Seen.{after}
+use Rattle.std.specs.declared.ops.ControlFlow.{ControlFlow}
+use Rattle.std.specs.declared.ops.ControlFlow.TheVariants.{Continue, Break}
+use Rattle.debug_info.specs.Look.{look, after}
 use Rattle.local_records.specs.Records.{record_at, records_at, records_of, look_at, active_in, unnamed, text_named}
 
 abbrev blank : LocalRecord
@@ -69,22 +69,18 @@ abbrev pub Searching : List LocalRecord → ℕ → ℕ → ℕ → ℕ → Type
 Searching records pc number i remaining = active_in (drop i records) remaining pc ≡ active_in records number pc
 
 module _ (records : List LocalRecord) (pc number i remaining : ℕ) (s : Searching records pc number i remaining) where
-  -- by what is seen at i
-  searching_seen : (a : Seen) → i < length records → a ≡ look_at (get_or records i blank) remaining pc
-      → after a unnamed (text_named (get_or records i blank).place (get_or records i blank).len) (λ m. active_in (drop (i + 1) records) m pc) ≡ active_in records number pc
+  -- by what the record at i tells
+  search_on : (a : ControlFlow (Option Known) ℕ) → i < length records → a ≡ look_at (get_or records i blank) remaining pc → after a (λ found. found) (λ m. active_in (drop (i + 1) records) m pc) ≡ active_in records number pc
   unfolding active_in
-  searching_seen a k e = let d : drop i records ≡ get_or records i blank ∷ drop (i + 1) records = rw (add-one i) (drop-cons records i blank k) in sym (rw (d, ← e) at (sym s))
+  search_on a k e = let d : drop i records ≡ get_or records i blank ∷ drop (i + 1) records = rw (add-one i) (drop-cons records i blank k) in sym (rw (d, ← e) at (sym s))
 
-  module _ (k : i < length records) where
-    pub seen_nothing : Nothing ≡ look_at (get_or records i blank) remaining pc → unnamed ≡ active_in records number pc
-    seen_nothing e = searching_seen Nothing k e
+  module _ (k : i < length records) {known : Known} (q : known ≡ text_named (get_or records i blank).place (get_or records i blank).len) where
+    pub search_found : {r : Option Known} → Break r ≡ look known (get_or records i blank).start (get_or records i blank).end remaining pc → r ≡ active_in records number pc
+    search_found {r} e = search_on (Break r) k (rw q at e)
 
-    pub seen_found : {r : Option Known} → Found ≡ look_at (get_or records i blank) remaining pc → r ≡ text_named (get_or records i blank).place (get_or records i blank).len → r ≡ active_in records number pc
-    seen_found e q = q ∙ searching_seen Found k e
+    pub search_left : {m : ℕ} → Continue m ≡ look known (get_or records i blank).start (get_or records i blank).end remaining pc → Searching records pc number (i + 1) m
+    search_left {m} e = search_on (Continue m) k (rw q at e)
 
-    pub seen_left : {m : ℕ} → Left m ≡ look_at (get_or records i blank) remaining pc → Searching records pc number (i + 1) m
-    seen_left e = searching_seen _ k e
-
-  pub searching_over : length records ≤ i → unnamed ≡ active_in records number pc
+  pub search_over : length records ≤ i → unnamed ≡ active_in records number pc
   unfolding active_in
-  searching_over k = rw (drop_of_length-le records {i = i} k) at s
+  search_over k = rw (drop_of_length-le records {i = i} k) at s

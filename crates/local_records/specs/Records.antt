@@ -1,10 +1,10 @@
 -- Records of locals: filled from the words of a store, and searched.
-use Rattle.std.specs.Prelude.{ℕ, zero, suc, ◌+◌, List, [], ◌∷◌, ◌++◌, get_or, drop, Option, Some, None}
+use Rattle.std.specs.Prelude.{ℕ, zero, suc, ◌+◌, List, [], ◌∷◌, ◌++◌, get_or, drop, Option, None}
+use Rattle.std.specs.declared.ops.ControlFlow.{ControlFlow}
 use Rattle.debug_info.specs.declared.name.Name.TheVariants.{Text}
 use Rattle.debug_info.specs.declared.name.Kind.TheVariants.{Local}
 use Rattle.debug_info.specs.declared.name.Known.{Known}
-use Rattle.debug_info.specs.declared.list.Seen.{Seen}
-use Rattle.debug_info.specs.Seen.{look, after}
+use Rattle.debug_info.specs.Look.{look, after}
 use Rattle.local_records.specs.declared.record.LocalRecord.{LocalRecord}
 
 -- the record of the local whose four words stand at a place
@@ -30,13 +30,13 @@ records_filled records words at n = records_at words at n ++ drop n records
 abbrev pub unnamed : Option Known
 unnamed = None
 
-abbrev pub text_named : ℕ → ℕ → Option Known
-text_named place n = Some (record { kind = Local; name = Text (record { start = place; len = n }) })
+abbrev pub text_named : ℕ → ℕ → Known
+text_named place n = record { kind = Local; name = Text (record { start = place; len = n }) }
 
 -- what a record tells of the search for number n, from it on, of those active at pc
-abbrev pub look_at : LocalRecord → ℕ → ℕ → Seen
-look_at r n pc = look r.start r.end n pc
+abbrev pub look_at : LocalRecord → ℕ → ℕ → ControlFlow (Option Known) ℕ
+look_at r n pc = look (text_named r.place r.len) r.start r.end n pc
 
 unfoldable pub active_in : List LocalRecord → ℕ → ℕ → Option Known
 active_in [] n pc = unnamed
-active_in (r ∷ l) n pc = after (look_at r n pc) unnamed (text_named r.place r.len) (λ m. active_in l m pc)
+active_in (r ∷ l) n pc = after (look_at r n pc) (λ found. found) (λ m. active_in l m pc)

@@ -12,13 +12,14 @@ ghost use Rattle.local_records.specs.Records.{records_of, active_in};
 ghost use Rattle.local_records.specs.Lookup.{numbered, locals_for, lookup_left, local_named_in};
 
 use debug_info::answer::Named;
-use debug_info::list::{Seen, active_local, look};
+use debug_info::list::{active_local, look};
 use debug_info::name::{Kind, Known, name_len};
 use debug_info::write_known;
-use format::{Refusal, Span, low};
+use format::{Locals, Refusal, Span, StoredItem, low};
 use proto::store::Store;
 use proto::walk::{skip, word_at};
 use record::LocalRecord;
+use std::ops::ControlFlow;
 
 // How many bytes the name of what is known has, none where nothing is.
 fn known_len(text: &[u8], v: Option<Known>) -> usize
@@ -28,7 +29,7 @@ fn known_len(text: &[u8], v: Option<Known>) -> usize
 }
 
 // Where the words of the locals of the function at a place stand, four for each, for a lookup in records that writes to out: refused by 10, 12,
-// 8, 11.
+// 8, 11. The room for the name is tested here, before a record is filled, so that a refused call leaves them.
 #[tactic(auto, using(std::proofs::lemmas::Result::err_from_is_err_and, crate::proofs::Lookup::for_refused))]
 fn locals_for(
     store: Store,
@@ -52,7 +53,7 @@ fn locals_for(
     }
     Ok(Span {
         start: skip(store.words, locals, 1),
-        len: 4 * count,
+        len: Locals::WORDS as usize * count,
     })
 }
 
@@ -66,17 +67,17 @@ fn fill(records: &mut [LocalRecord], words: &[[u32; 4]])
     }
 }
 
-// The local that is number local_number of those active at pc, among the records.
-#[tactic(auto, using(crate::proofs::Records::seen_nothing, crate::proofs::Records::seen_found, crate::proofs::Records::seen_left, crate::proofs::Records::searching_over))]
+// The local that is number local_number of those active at pc, among the records. By try_fold the proof didn't close: that what it gives is active_in's
+// was left open.
+#[tactic(auto, using(crate::proofs::Records::search_found, crate::proofs::Records::search_left, crate::proofs::Records::search_over))]
 fn find(records: &[LocalRecord], local_number: usize, pc: u32) -> Option<Known>
     ensures { result ≡ active_in records.now local_number pc }
 {
     let mut remaining = local_number;
     for r in records {
-        match look(r.start, r.end, remaining, pc) {
-            Seen::Nothing => return None,
-            Seen::Found => return Some(r.known()),
-            Seen::Left(left) => remaining = left,
+        match look(r.known(), r.start, r.end, remaining, pc) {
+            ControlFlow::Break(found) => return found,
+            ControlFlow::Continue(left) => remaining = left,
         }
     }
     None

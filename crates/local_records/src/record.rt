@@ -16,9 +16,9 @@ pub struct LocalRecord {
 }
 
 impl LocalRecord {
-    // What is known of a register that holds it.
+    // What is known of a register that holds it. active_local makes the same of a place and a length as usize: a function of both would be longer.
     pub fn known(self) -> Known
-        ensures { Some result ≡ text_named self.place self.len }
+        ensures { result ≡ text_named self.place self.len }
     {
         Known {
             kind: Kind::Local,

@@ -1,7 +1,7 @@
 -- A call that writes what the tree of a store gives: what is refused, and what is written.
-use Rattle.std.specs.Prelude.{Err}
-use Rattle.lent.proofs.Prelude.{ℕ, ◌≤◌, ◌<◌, ◌≡◌, List, [], length}
-use Rattle.lent.specs.Memory.{far, Puts}
+use Rattle.std.specs.Prelude.{Option, Err, ok_or}
+use Rattle.lent.proofs.Prelude.{ℕ, ◌≡◌, List}
+use Rattle.lent.specs.Whole.{PutsWhole}
 use Rattle.format.specs.Tree.{Function}
 use Rattle.format.specs.Store.{words_of, text_of, function_piece}
 use Rattle.format.specs.Refusal.{number}
@@ -9,7 +9,7 @@ use Rattle.format.specs.declared.Refusal.{Refusal}
 use Rattle.format.specs.Valid.{Holds}
 use Rattle.format.specs.Dump.{write_refused, written, written_left, on_tree, name_refusal, store_refusal, on_store}
 use Rattle.format.proofs.Refusals.{refusal_above, name_good, by_name}
-use Rattle.format.proofs.Writing.{written_short, written_all, written_fits}
+use Rattle.format.proofs.Writing.{written_whole}
 use Rattle.proto.specs.Walk.{Stands}
 use Rattle.proto.proofs.Sublists.{whole_here}
 use Rattle.proto.proofs.Stores.{held_tree, no_tree}
@@ -27,21 +27,10 @@ module _ (bytes : Function → List ℕ) (words text name out : List ℕ) where
       rw (name_good name n)
       (no_tree words text (λ x. write_refused (number e) out ≡ on_tree (λ n. write_refused n out) (λ f. written (bytes f) out) x) (refusal_above e) h (λ k. rw k))
 
-  -- there is room for what any tree of this store gives
-  pub roomy_written : {r : ℕ} {out' : List ℕ} → 0 ≡ name_refusal name → 0 ≡ store_refusal words text → length out < far → ((f : Function) → Holds words text f → length (bytes f) ≤ length out)
-      → ((f : Function) → Holds words text f → Puts (bytes f) 0 out r out') → record { answer = record { refusal = 0; len = r }; out = out' } ≡ on_store bytes words text name out
-  roomy_written {r} {out'} e h l k p =
+  -- written whole, or refused by 11
+  pub all_written : {n : Option ℕ} {out' : List ℕ} → 0 ≡ name_refusal name → 0 ≡ store_refusal words text → ((f : Function) → Holds words text f → PutsWhole (bytes f) out n out')
+      → written_left (ok_or n Refusal.TooLittleOutput) out' ≡ on_store bytes words text name out
+  all_written {n} {out'} e h w =
       rw (name_good name e)
-      (held_tree words text (λ x. record { answer = record { refusal = 0; len = r }; out = out' } ≡ on_tree (λ n. write_refused n out) (λ f. written (bytes f) out) x) h
-      (λ f t. written_fits out l (k f t) (p f t)))
-
-  module _ {n : ℕ} {last : List ℕ} (e : 0 ≡ name_refusal name) (h : 0 ≡ store_refusal words text) (counts : (f : Function) → Holds words text f → Puts (bytes f) 0 [] n last) (l : length out < far) where
-    pub refused_room : length out < n → write_refused 11 out ≡ on_store bytes words text name out
-    refused_room k = rw (name_good name e) (held_tree words text (λ x. write_refused 11 out ≡ on_tree (λ n. write_refused n out) (λ f. written (bytes f) out) x) h (λ f t. written_short out (counts f t) l k))
-
-    pub all_written : {r : ℕ} {out' : List ℕ} → n ≤ length out → ((f : Function) → Holds words text f → Puts (bytes f) 0 out r out')
-        → record { answer = record { refusal = 0; len = n }; out = out' } ≡ on_store bytes words text name out
-    all_written {out' = out'} k p =
-        rw (name_good name e)
-        (held_tree words text (λ x. record { answer = record { refusal = 0; len = n }; out = out' } ≡ on_tree (λ n. write_refused n out) (λ f. written (bytes f) out) x) h
-        (λ f t. written_all out (counts f t) l k (p f t)))
+      (held_tree words text (λ x. written_left (ok_or n Refusal.TooLittleOutput) out' ≡ on_tree (λ n. write_refused n out) (λ f. written (bytes f) out) x) h
+      (λ f t. written_whole (w f t)))

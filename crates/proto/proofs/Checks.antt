@@ -10,15 +10,15 @@ use Rattle.utf8.specs.Utf8.{is_utf8, is_ascii}
 use Rattle.utf8.proofs.Laws.{utf8_bytes, utf8_ascii}
 use Rattle.utf8.proofs.Ascii.{ascii_at}
 use Rattle.format.specs.Read.{limit}
-use Rattle.format.specs.Store.{Piece, word, ◌⊕◌, string, pieces, list, ints}
+use Rattle.format.specs.Store.{Piece, plain, word, ◌⊕◌, string, pieces, list, ints}
 use Rattle.format.specs.Stored.{part, Here}
 use Rattle.format.specs.Valid.{Name, ValidList}
-use Rattle.format.proofs.Stored.{here_left, here_part}
+use Rattle.format.proofs.Stored.{here_part}
 use Rattle.format.proofs.Loops.{Loop, loop_turn, loop_stop, loop_end}
 use Rattle.proto.specs.declared.formed.Places.{Places}
 use Rattle.proto.specs.Walk.{Stands}
-use Rattle.proto.specs.Formed.{Found, behind, Both, beside, Check, Within, three, Three}
-use Rattle.proto.proofs.Sublists.{here_length, here_item, here_get, here_none, here_one, here_two, here_three, here_join, here_take}
+use Rattle.proto.specs.Formed.{Found, behind, Both, beside, Check, Within, Many, Room, three, Three}
+use Rattle.proto.proofs.Sublists.{here_length, here_item, here_get, here_none, here_two, here_three, here_take}
 use Rattle.proto.proofs.Pieces.{Same, same_refl, stands_same, same_sym, stands_left, stands_right, stands_join}
 
 -- the piece is that of a valid value
@@ -103,13 +103,6 @@ module _ {words text : List ℕ} where
   check_stop ok' q c = check_wrong (λ v k t. no_answer (c.complete v.0 k.0 (stands_left _ (q v.1) t)))
 
   module _ {s : Places} {l : List ℕ} (h : Rest words s.at l) where
-    -- ---- two words, whatever they are
-
-    pub pair_good : ((i : ℕ) → get_or words i 0 < 2 ^ 32) → 2 ≤ length l → Check words text (Both Word Word) (beside word word) s (Some (record { at = s.at + 2; to = s.to }))
-    unfolding Both beside
-    pair_good w k =
-        check_good (get_or words s.at 0, get_or words (s.at + 1) 0) (w s.at, w (s.at + 1)) (record { in_words = here_two (omega arith); in_text = here_none }) (λ v k t. rw add-zero)
-
     -- ---- three words
 
     pub three_good : {kind x y : ℕ} → 3 ≤ length l → get_or l 0 0 ≡ kind → get_or l 1 0 ≤ x → get_or l 2 0 ≤ y → Check words text (Three kind x y) three s (Some (record { at = s.at + 3; to = s.to }))
@@ -119,9 +112,32 @@ module _ {words text : List ℕ} where
 
 -- ---- lists
 
+module _ {A : Type 0} {words text : List ℕ} {P : A → Type 0} where
+  -- a count, and as many items
+  counted : {q : List A → Piece} {n : ℕ} {s m : Places} {r : Answer Places} → n ≤ limit → Check words text (Within n n) word s (Some m) → Check words text (Many P n) q m r → Check words text (ValidList P) (λ l. word (length l) ⊕ q l) s r
+  unfolding Both beside
+  counted {q} {n} {s} z c d =
+      let w = check_then c d in
+      record {
+        sound = λ p e.
+            let x = w.sound p e in
+            let v = x.value in
+            let k = x.valid in
+            let g : v.0 ≡ length v.1 = omega (arith, k.0.above, k.0.below, k.1.0) in
+            let u : Stands words text s.at s.to (word (length v.1) ⊕ q v.1) = rw g at x.stands in
+            record { value = v.1; valid = record { items = k.1.1; short = rw k.1.0 z }; stands = u };
+        complete = λ l k t.
+            let x = found c in
+            let g : length l ≡ n = omega (arith, here_get (length l) _ t.in_words, here_get x.value _ x.stands.in_words, x.valid.above, x.valid.below) in
+            w.complete (length l, l) (record { above = omega arith; below = omega arith }, (g, k.items)) t;
+      }
+
+  count_none : (q : List A → Piece) {s : Places} → Check words text (Within 0 limit) word s None → Check words text (ValidList P) (λ l. word (length l) ⊕ q l) s None
+  count_none q c = check_wrong (λ l k t. no_answer (c.complete (length l) (record { above = zero-le; below = k.short }) (stands_left (word (length l)) (q l) t)))
+
 -- n items
 pub record CheckAll {A : Type 0} (words text : List ℕ) (P : A → Type 0) (piece : A → Piece) (n : ℕ) (s : Places) (r : Answer Places) : Type 0 where
-  pub all : Check words text (λ l. (length l ≡ n) × Every P l) (pieces piece) s r
+  pub all : Check words text (Many P n) (pieces piece) s r
 
 module _ {A : Type 0} {words text : List ℕ} {P : A → Type 0} {piece : A → Piece} where
   all_none : {s : Places} → CheckAll words text P piece 0 s (Some s)
@@ -135,7 +151,7 @@ module _ {A : Type 0} {words text : List ℕ} {P : A → Type 0} {piece : A → 
       }
 
   -- an item, and the others
-  more_of : {s : Places} {r : Answer Places} {n : ℕ} → Check words text (Both P (λ l. (length l ≡ n) × Every P l)) (beside piece (pieces piece)) s r → CheckAll words text P piece (suc n) s r
+  more_of : {s : Places} {r : Answer Places} {n : ℕ} → Check words text (Both P (Many P n)) (beside piece (pieces piece)) s r → CheckAll words text P piece (suc n) s r
   unfolding pieces Every Both beside
   more_of c =
       record {
@@ -150,36 +166,18 @@ module _ {A : Type 0} {words text : List ℕ} {P : A → Type 0} {piece : A → 
   all_stop : {s : Places} → Check words text P piece s None → (n : ℕ) → CheckAll words text P piece (suc n) s None
   all_stop c n = more_of (check_stop _ (pieces piece) c)
 
-  -- a count, and as many items
-  counted : {n : ℕ} {s m : Places} {r : Answer Places} → n ≡ get_or words s.at 0 → Check words text (Within 0 limit) word s (Some m) → CheckAll words text P piece n m r → Check words text (ValidList P) (list piece) s r
-  unfolding Both beside
-  counted {n} {s} {m} {r} e c d =
-      let w = check_then c d.all in
-      record {
-        sound = λ q h.
-            let x = w.sound q h in
-            let v = x.value in
-            let k = x.valid in
-            let g : v.0 ≡ length v.1 = sym (here_get v.0 _ x.stands.in_words) ∙ sym e ∙ sym k.1.0 in
-            let u : Stands words text s.at s.to (list piece v.1) = rw g at x.stands in
-            record { value = v.1; valid = record { items = k.1.1; short = rw g at k.0.below }; stands = u };
-        complete = λ l k t.
-            let g : length l ≡ n = sym (here_get (length l) _ t.in_words) ∙ sym e in
-            w.complete (length l, l) (record { above = zero-le; below = k.short }, (g, k.items)) t;
-      }
-
   pub items_turn : {n i : ℕ} {s m r : Places} → i < n → Loop (CheckAll words text P piece) n s i m → Check words text P piece m (Some r) → Loop (CheckAll words text P piece) n s (i + 1) r
   items_turn h l c = loop_turn h l (all_more c)
 
-  module _ {n i : ℕ} {s m r : Places} (e : n ≡ get_or words s.at 0) (c : Check words text (Within 0 limit) word s (Some m)) (l : Loop (CheckAll words text P piece) n m i r) where
+  module _ {n i : ℕ} {s m r : Places} (k : n ≤ limit) (c : Check words text (Within n n) word s (Some m)) (l : Loop (CheckAll words text P piece) n m i r) where
     pub items_end : n ≤ i → Check words text (ValidList P) (list piece) s (Some r)
-    items_end h = counted e c (loop_end h l all_none)
+    items_end h = counted k c (loop_end h l all_none).all
 
     pub item_wrong : i < n → Check words text P piece r None → Check words text (ValidList P) (list piece) s None
-    item_wrong h d = counted e c (loop_stop h l (all_stop d))
+    item_wrong h d = counted k c (loop_stop h l (all_stop d)).all
 
 pub count_wrong : {A : Type 0} {words text : List ℕ} {P : A → Type 0} (piece : A → Piece) {s : Places} → Check words text (Within 0 limit) word s None → Check words text (ValidList P) (list piece) s None
-count_wrong piece c = check_wrong (λ l k t. no_answer (c.complete (length l) (record { above = zero-le; below = k.short }) (stands_left (word (length l)) (pieces piece l) t)))
+count_wrong piece c = count_none (pieces piece) c
 
 -- ---- words and bytes as they stand
 
@@ -195,40 +193,23 @@ part_below b xs place n f = every_below b (part xs place n) (λ i. elim (dec_lt 
   | no h ↦ let e : length (part xs place n) ≤ i = rw length-take (omega arith) in rw (get_or-eq_default (part xs place n) 0 e) (omega (arith, f 0))
 ])
 
--- words after their count
-module _ {words text : List ℕ} {s m : Places} {n : ℕ} (e : n ≡ get_or words s.at 0) (c : Check words text (Within 0 limit) word s (Some m)) where
-  counted_at : (m.at ≡ s.at + 1) × (m.to ≡ s.to) × (s.at < length words) × (n ≤ limit)
-  counted_at =
-      let p = check_passed c in
-      let x = found c in
-      let g = here_get x.value [] x.stands.in_words in
-      (rw p refl, rw p (add-zero _), omega (arith, here_length (x.value ∷ []) x.stands.in_words), omega (arith, x.valid.below))
+module _ {words text : List ℕ} {s : Places} where
+  module _ {n : ℕ} where
+    pub words_good : {b : Bool} → ((i : ℕ) → get_or words i 0 < 2 ^ 32) → Room b (length words) s.at n → b ≡ true → Check words text (Many Word n) plain s (Some (record { at = s.at + n; to = s.to }))
+    words_good w room e =
+        let l = part words s.at n in
+        let g : length l ≡ n = length-take-le n (drop s.at words) (rw length-drop (room.is e)) in
+        check_good l (g, part_below (2 ^ 32) words s.at n w) (record { in_words = here_take n; in_text = here_none }) (λ x z t. rw (z.0, add-zero))
 
-  pub ints_within : m.at ≤ length words
-  ints_within = omega (arith, counted_at)
+    pub words_bad : {b : Bool} → Room b (length words) s.at n → b ≡ false → Check words text (Many Word n) plain s None
+    words_bad room e = check_wrong (λ x z t. room.not e (omega (arith, z.0, here_length x t.in_words)))
 
-  pub ints_good : ((i : ℕ) → get_or words i 0 < 2 ^ 32) → n ≤ length words - m.at → Check words text (ValidList Word) ints s (Some (record { at = m.at + n; to = m.to }))
-  ints_good w h =
-      let k = counted_at in
-      let l = part words (s.at + 1) n in
-      let g : length l ≡ n = length-take-le n (drop (s.at + 1) words) (rw length-drop (omega arith)) in
-      let u : Here words s.at (length l ∷ l) = rw g (rw (← e) at (here_join (get_or words s.at 0 ∷ []) l (here_one k.2) (here_take n))) in
-      check_good l (record { items = part_below (2 ^ 32) words (s.at + 1) n w; short = omega arith }) (record { in_words = u; in_text = here_none })
-      (λ x z t.
-      let q = here_get (length x) x t.in_words in
-      let a : m.at + n ≡ s.at + length (length x ∷ x) = omega arith in
-      let b : m.to ≡ s.to + 0 = omega arith in
-      rw (a, b))
+    -- words after their count
+    pub ints_checked : {m : Places} {r : Answer Places} → n ≤ limit → Check words text (Within n n) word s (Some m) → Check words text (Many Word n) plain m r → Check words text (ValidList Word) ints s r
+    ints_checked h c d = counted {q = plain} h c d
 
-  pub ints_bad : length words - m.at < n → Check words text (ValidList Word) ints s None
-  ints_bad h =
-      check_wrong
-      (λ l v t.
-      let q = here_get (length l) l t.in_words in
-      omega (arith, here_length (length l ∷ l) t.in_words, counted_at))
-
-pub ints_short : {words text : List ℕ} {s : Places} → Check words text (Within 0 limit) word s None → Check words text (ValidList Word) ints s None
-ints_short c = check_wrong (λ l v t. no_answer (c.complete (length l) (record { above = zero-le; below = v.short }) (record { in_words = here_left (length l ∷ []) l t.in_words; in_text = here_none })))
+  pub ints_short : Check words text (Within 0 limit) word s None → Check words text (ValidList Word) ints s None
+  ints_short c = count_none plain c
 
 -- ---- strings
 

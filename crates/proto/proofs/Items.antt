@@ -6,6 +6,7 @@ use Rattle.std.proofs.lemmas.Nat.{be_bytes_4}
 use mir.Syntax.{w32}
 use Rattle.format.specs.Tree.{Local, Source, Parts, Function, Functions}
 use Rattle.format.specs.Store.{Piece, word, ◌⊕◌, string, pieces, list, ints, source_piece, constant_piece, local_piece, debug_piece, packed, function_piece, children_piece}
+use Rattle.format.specs.declared.StoredItem.{Ghosts}
 use Rattle.format.specs.Stored.{part}
 use Rattle.format.specs.declared.Span.{Span}
 use Rattle.format.specs.Valid.{ValidParts}
@@ -142,16 +143,16 @@ module _ {words text : List ℕ} where
 -- ---- an item by its index, and a string
 
 -- item i of a list
-module _ {A : Type 0} {words text : List ℕ} {at i : ℕ} (k : ℕ) (piece : A → Piece) (l : List A) (h : StandsAt words text at (list piece l)) where
+module _ {Self : Type 0} {words text : List ℕ} {at i : ℕ} (T : Ghosts Self) (l : List T.Value) (h : StandsAt words text at (list T.piece l)) where
   -- there is none
-  pub nth_none : NthAt words at k i None → none ≡ item l i
-  nth_none n = sym (item_past l i (omega (arith, list_count piece l h.stands)))
+  pub nth_none : NthAt words at T.WORDS i None → none ≡ item l i
+  nth_none n = sym (item_past l i (omega (arith, list_count T.piece l h.stands)))
 
   -- it stands at r, where x is what is read of it
-  pub nth_some : ((a : A) (to : ℕ) → length ((piece a).words to) ≡ k) → {r : ℕ} {x : A} → NthAt words at k i (Some r) → ((a : A) → StandsAt words text r (piece a) → x ≡ a) → some x ≡ item l i
-  nth_some wide n f =
-      let y = item_there l i (omega (arith, n.0, list_count piece l h.stands)) in
-      ap some (f y.value (list_item piece k wide l i y.value y.is h.stands n.1)) ∙ sym y.is
+  pub nth_some : {r : ℕ} {x : T.Value} → NthAt words at T.WORDS i (Some r) → ((a : T.Value) → StandsAt words text r (T.piece a) → x ≡ a) → some x ≡ item l i
+  nth_some n f =
+      let y = item_there l i (omega (arith, n.0, list_count T.piece l h.stands)) in
+      ap some (f y.value (list_item T.piece T.WORDS T.size l i y.value y.is h.stands n.1)) ∙ sym y.is
 
 -- the place and the length of a string
 pub string_span : {words : List ℕ} {at a y z to : ℕ} (s t : List ℕ) → Stands words t at to (string s) → y ≡ get_or words at 0 → Skips words 1 at a → z ≡ get_or words a 0 → ◌≡◌ {A = Span} (record { start = y; len = z }) (record { start = to; len = length s })

@@ -1,10 +1,11 @@
 -- Where the lists of a function stand: each behind the one before it, the lines behind the functions; and what is kept of lines.
-use Rattle.lent.proofs.Prelude.{ℕ, suc, ◌-◌, ◌<◌, ◌≡◌, refl, sym, ◌∙◌, List, arith, ℕ_discrete, length, set, get_or-set_same, get_or-set_other}
+use Rattle.lent.proofs.Prelude.{ℕ, suc, ◌-◌, ◌<◌, ◌≡◌, sym, ◌∙◌, List, arith, ℕ_discrete, length, set, get_or-set_same, get_or-set_other}
 use Rattle.std.specs.Prelude.{Option, None, Some}
 use Rattle.std.proofs.lemmas.Option.{same_Some}
 use Rattle.format.specs.Tree.{Parts, Function, Functions, Debug, count}
 use Rattle.format.specs.Store.{list, ints, local_piece, debug_piece, function_piece}
 use Rattle.format.specs.Valid.{ValidAll}
+use Rattle.format.specs.contracts.LocalsStoredItem.TheImpl.{ghosts as Locals}
 use Rattle.proto.specs.declared.walk.Next.{Next}
 use Rattle.proto.specs.declared.lists.Lists.{Lists}
 use Rattle.proto.specs.declared.lists.Kept.{Kept}
@@ -17,7 +18,7 @@ use Rattle.proto.proofs.Items.{somewhere, code_stands, constants_stand, function
 -- ---- the lists of a function
 
 pub lists_found : {store : Store} {at code constants functions lines locals upvalues : ℕ} (allowance : ℕ)
-    → ((p : Parts) (fs : Functions) → ValidAll fs allowance → Past store.words.now (to_lines p fs) at lines) → SkipsItems store.words.now 1 lines locals → SkipsItems store.words.now 4 locals upvalues
+    → ((p : Parts) (fs : Functions) → ValidAll fs allowance → Past store.words.now (to_lines p fs) at lines) → SkipsItems store.words.now 1 lines locals → SkipsItems store.words.now Locals.WORDS locals upvalues
     → ((p : Parts) (fs : Functions) → Past store.words.now (to_code p fs) at code) → ((p : Parts) (fs : Functions) → Past store.words.now (to_constants p fs) at constants) → ((p : Parts) (fs : Functions) → Past store.words.now (to_functions p fs) at functions)
     → (p : Parts) (fs : Functions) → ValidAll fs allowance
     → ListsFound at p fs (record { store = store; code = code; constants = constants; functions = functions; lines = lines; locals = locals; upvalues = upvalues })
@@ -29,7 +30,7 @@ lists_found allowance li lo up co ks fu p fs v =
       functions = fu p fs;
       lines = li p fs v;
       locals = to-locals;
-      upvalues = past_then {p = to_locals p fs} {q = list local_piece p.debug.locals} to-locals (past_list local_piece 4 (λ a to. refl) p.debug.locals up);
+      upvalues = past_then {p = to_locals p fs} {q = list local_piece p.debug.locals} to-locals (past_list Locals p.debug.locals up);
     }
 
 -- where the function stands, so do its lists

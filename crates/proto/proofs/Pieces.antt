@@ -1,6 +1,6 @@
 -- Pieces that stand in a store one behind the other, and their lengths.
 use Rattle.lent.proofs.Prelude.{ℕ, ◌+◌, ◌*◌, ◌≡◌, refl, sym, ◌∙◌, List, [], ◌∷◌, append_assoc, arith, add_assoc, mul-zero, mul-suc, length, length-append}
-use Rattle.format.specs.Tree.{Constant, Source, Parts, Function, Functions}
+use Rattle.format.specs.Tree.{Source, Parts, Function, Functions}
 use Rattle.format.specs.Store.{Piece, word, ◌⊕◌, pieces, list, ints, source_piece, constant_piece, debug_piece, packed, function_piece, children_piece}
 pub use Rattle.format.proofs.Pieces.{Same, same_assoc}
 use Rattle.format.proofs.Stored.{here_left, here_right}
@@ -55,12 +55,6 @@ module _ {words text : List ℕ} {at to : ℕ} where
 pub source_words : (s : Source) (to : ℕ) → length ((source_piece s).words to) ≡ 3
 source_words Source.inherited to = refl
 source_words (Source.own s) to = refl
-
-pub constant_words_law : (k : Constant) (to : ℕ) → length ((constant_piece k).words to) ≡ 3
-constant_words_law Constant.nil to = refl
-constant_words_law (Constant.bool b) to = refl
-constant_words_law (Constant.num high low) to = refl
-constant_words_law (Constant.str s) to = refl
 
 pub pieces_words : {A : Type 0} (piece : A → Piece) (k : ℕ) → ((a : A) (to : ℕ) → length ((piece a).words to) ≡ k) → (l : List A) (to : ℕ) → length ((pieces piece l).words to) ≡ k * length l
 unfolding pieces

@@ -1,20 +1,20 @@
 -- What the check of each part of a function finds, and of a whole store: it holds where, and only where, the store holds a tree.
-use Rattle.lent.proofs.Prelude.{zero-add, ℕ, zero, suc, zero-le, ◌+◌, ◌-◌, ◌*◌, ◌/◌, ◌%◌, ◌≤◌, ◌<◌, ◌≡◌, refl, sym, ap, ◌∙◌, List, [], ◌∷◌, Bool, true, false, cond, Option, none, some, arith, ℕ_discrete, length, get_or, eqb, eq-eqb, ne_eqb}
+use Rattle.lent.proofs.Prelude.{add-zero, add_assoc, append_assoc, length-append, zero-add, ℕ, zero, suc, zero-le, ◌+◌, ◌-◌, ◌*◌, ◌/◌, ◌%◌, ◌≤◌, ◌<◌, ◌≡◌, refl, sym, ap, ◌∙◌, List, [], ◌∷◌, Bool, true, false, cond, Option, none, some, arith, ℕ_discrete, length, get_or, eqb, eq-eqb, ne_eqb}
 use Rattle.std.specs.Prelude.{Option as Answer, Some, None, ◌&&◌}
 use Rattle.std.specs.Option.{option_eq}
 use Rattle.std.proofs.lemmas.Option.{same_Some}
 use Rattle.lent.specs.Memory.{Every, Word, Bytes}
 use Rattle.format.specs.Tree.{Constant, Source, Debug, Parts, Function, Functions, count}
-use Rattle.format.specs.Store.{word, string, pieces, list, ints, source_piece, constant_piece, local_piece, debug_piece, packed, function_piece, function_pieces, words_of, text_of, children_piece}
+use Rattle.format.specs.Store.{Piece, ◌⊕◌, plain, word, string, pieces, list, ints, source_piece, constant_piece, local_piece, debug_piece, packed, function_piece, function_pieces, words_of, text_of, children_piece}
 use Rattle.format.specs.Stored.{tree_of}
 use Rattle.format.specs.Dump.{on_tree, store_refusal}
 use Rattle.format.specs.Valid.{depth, most, Name, ValidSource, ValidConstant, ValidLocal, ValidList, ValidDebug, ValidParts, Valid, ValidAll, Holds}
 use Rattle.format.proofs.Stored.{holds_tree, tree_holds}
 use Rattle.proto.specs.declared.formed.Places.{Places}
 use Rattle.proto.specs.Walk.{Stands, children}
-use Rattle.proto.specs.Formed.{behind, Both, beside, Check, Within, three, Three, ValidChildren}
+use Rattle.proto.specs.Formed.{behind, Both, beside, Check, Within, Many, three, Three, ValidChildren}
 use Rattle.proto.proofs.Sublists.{here_get, here_whole, whole_here}
-use Rattle.proto.proofs.Pieces.{same_refl, same_is}
+use Rattle.proto.proofs.Pieces.{Same, same_sym, same_refl, same_is}
 use Rattle.proto.proofs.Walks.{none_deep}
 use Rattle.proto.proofs.Checks.{no_answer, As, check_wrong, check_as, check_of, check_then, check_stop}
 
@@ -125,13 +125,15 @@ module _ {words text : List ℕ} where
 
   -- ---- locals
 
-  pub local_checked : {s : Places} {r : Answer Places} → Check words text (Both (λ n. Name n) (Both Word Word)) (beside string (beside word word)) s r → Check words text ValidLocal local_piece s r
-  unfolding Both beside
-  local_checked c =
-      check_as
-      (λ v k. record { value = record { name = v.0; start = v.1.0; end = v.1.1 }; valid = record { name = k.0; start = k.1.0; end = k.1.1 }; same = same_refl })
-      (λ v k h. record { value = (v.name, (v.start, v.end)); valid = (k.name, (k.start, k.end)); same = same_refl })
-      c
+  pub local_checked : {s : Places} {r : Answer Places} → Check words text (Both (λ n. Name n) (Many Word 2)) (beside string plain) s r → Check words text ValidLocal local_piece s r
+  unfolding Both beside Every
+  local_checked c = check_as (λ v k. to v.0 k.0 v.1 k.1) (λ v k h. record { value = (v.name, v.start ∷ v.end ∷ []); valid = (k.name, (refl, (k.start, (k.end, tt)))); same = same_refl }) c
+    where
+      to : (name : List ℕ) → Name name → (l : List ℕ) → Many Word 2 l → As ValidLocal local_piece (string name ⊕ plain l)
+      to name k (start ∷ end ∷ []) h = record { value = record { name = name; start = start; end = end }; valid = record { name = k; start = h.1.0; end = h.1.1.0 }; same = same_refl }
+      to name k [] h = absurd (omega (arith, h.0))
+      to name k (a ∷ []) h = absurd (omega (arith, h.0))
+      to name k (a ∷ b ∷ c ∷ l) h = absurd (omega (arith, h.0))
 
 -- ---- the functions in a function
 
@@ -194,9 +196,6 @@ module _ {words text : List ℕ} where
       (λ v k h. record { value = (v.lines, (v.locals, v.upvalues)); valid = (k.lines, (k.locals, k.upvalues)); same = same_refl })
       c
 
-abbrev pub AnyWord : ℕ → Type 0
-AnyWord = Within 0 4294967295
-
 -- a function, with the four bytes of its packed word
 abbrev parts_from : Source → ℕ → ℕ → ℕ → List ℕ → List Constant → Debug → Parts
 parts_from source first last w code constants debug =
@@ -216,8 +215,8 @@ parts_from source first last w code constants debug =
 packed_word : (w : ℕ) → Word w → ((w / 16777216 * 256 + w / 65536 % 256) * 256 + w / 256 % 256) * 256 + w % 256 ≡ w
 packed_word w h = omega arith
 
-any : {w : ℕ} → Word w → AnyWord w
-any h = record { above = zero-le; below = omega arith }
+same_grouped : (s : Piece) (a b c : ℕ) (code ks fs d : Piece) → Same (s ⊕ word a ⊕ word b ⊕ word c ⊕ code ⊕ ks ⊕ fs ⊕ d) ((s ⊕ plain (a ∷ b ∷ c ∷ []) ⊕ code ⊕ ks) ⊕ fs ⊕ d)
+same_grouped s a b c code ks fs d = record { words = λ to. simp (append_assoc, length-append, add_assoc, add-zero, zero-add); text = simp append_assoc }
 
 word_packed : (p : Parts) → ValidParts p → Word (packed p)
 word_packed p v = omega arith
@@ -226,46 +225,56 @@ module _ {words text : List ℕ} where
   -- its parts, one behind the other
   pub function_checked : {allowance : ℕ} {s : Places} {r : Answer Places} → (allowance ≡ 0 → ⊥)
       → Check words text
-      (Both ValidSource (Both AnyWord (Both AnyWord (Both AnyWord (Both (ValidList Word) (Both (ValidList ValidConstant) (Both (ValidChildren (allowance - 1)) ValidDebug)))))))
-      (beside source_piece (beside word (beside word (beside word (beside ints (beside (list constant_piece) (beside children_piece debug_piece)))))))
+      (Both (Both ValidSource (Both (Many Word 3) (Both (ValidList Word) (ValidList ValidConstant)))) (Both (ValidChildren (allowance - 1)) ValidDebug))
+      (beside (beside source_piece (beside plain (beside ints (list constant_piece)))) (beside children_piece debug_piece))
       s r
       → Check words text (λ k. Valid k allowance) function_piece s r
-  unfolding Valid function_piece Both beside
+  unfolding Valid function_piece Both beside Every
   function_checked {allowance} z c =
       let y : allowance ≡ suc (allowance - 1) = omega arith in
       rw y
       (check_of
       c
-      (λ v k. record {
-        value = Function.function (parts_from v.0 v.1.0 v.1.1.0 v.1.1.1.0 v.1.1.1.1.0 v.1.1.1.1.1.0 v.1.1.1.1.1.1.1) v.1.1.1.1.1.1.0;
-        valid = (
-          record {
-            source = k.0;
-            line_defined = omega (arith, k.1.0.below);
-            last_line_defined = omega (arith, k.1.1.0.below);
-            num_upvalues = omega (arith, k.1.1.1.0.below);
-            num_params = omega arith;
-            is_vararg = omega arith;
-            max_stack_size = omega arith;
-            code = k.1.1.1.1.0;
-            constants = k.1.1.1.1.1.0;
-            debug = k.1.1.1.1.1.1.1;
-          },
-          k.1.1.1.1.1.1.0.short,
-          k.1.1.1.1.1.1.0.all,
-        );
-        same = rw (packed_word v.1.1.1.0 (omega (arith, k.1.1.1.0.below))) same_refl;
-      })
+      (λ v k. to v.0.0 v.0.1.0 v.0.1.1.0 v.0.1.1.1 v.1.0 v.1.1 k)
       (elim [
         | Function.function p fs ↦ λ k h. record {
-          value = (p.source, (p.line_defined, (p.last_line_defined, (packed p, (p.code, (p.constants, (fs, p.debug)))))));
+          value = ((p.source, (p.line_defined ∷ p.last_line_defined ∷ packed p ∷ [], (p.code, p.constants))), (fs, p.debug));
           valid = (
-            k.0.source,
-            (any k.0.line_defined, (any k.0.last_line_defined, (any (word_packed p k.0), (k.0.code, (k.0.constants, (record { short = k.1; all = k.2 }, k.0.debug)))))),
+            (k.0.source, ((refl, (k.0.line_defined, (k.0.last_line_defined, (word_packed p k.0, tt)))), (k.0.code, k.0.constants))),
+            (record { short = k.1; all = k.2 }, k.0.debug),
           );
-          same = same_refl;
+          same = same_sym (same_grouped (source_piece p.source) p.line_defined p.last_line_defined (packed p) (ints p.code) (list constant_piece p.constants) (children_piece fs) (debug_piece p.debug));
         }
       ]))
+    where
+      to : (source : Source) (l : List ℕ) (code : List ℕ) (constants : List Constant) (fs : Functions) (debug : Debug)
+          → ((ValidSource source × (Many Word 3 l × (ValidList Word code × ValidList ValidConstant constants))) × (ValidChildren (allowance - 1) fs × ValidDebug debug))
+          → As (λ k. Valid k (suc (allowance - 1))) function_piece ((source_piece source ⊕ plain l ⊕ ints code ⊕ list constant_piece constants) ⊕ children_piece fs ⊕ debug_piece debug)
+      to source (first ∷ last ∷ w ∷ []) code constants fs debug k =
+          record {
+            value = Function.function (parts_from source first last w code constants debug) fs;
+            valid = (
+              record {
+                source = k.0.0;
+                line_defined = k.0.1.0.1.0;
+                last_line_defined = k.0.1.0.1.1.0;
+                num_upvalues = omega (arith, k.0.1.0.1.1.1.0);
+                num_params = omega arith;
+                is_vararg = omega arith;
+                max_stack_size = omega arith;
+                code = k.0.1.1.0;
+                constants = k.0.1.1.1;
+                debug = k.1.1;
+              },
+              k.1.0.short,
+              k.1.0.all,
+            );
+            same = rw (packed_word w k.0.1.0.1.1.1.0) (same_grouped (source_piece source) first last w (ints code) (list constant_piece constants) (children_piece fs) (debug_piece debug));
+          }
+      to source [] code constants fs debug k = absurd (omega (arith, k.0.1.0.0))
+      to source (a ∷ []) code constants fs debug k = absurd (omega (arith, k.0.1.0.0))
+      to source (a ∷ b ∷ []) code constants fs debug k = absurd (omega (arith, k.0.1.0.0))
+      to source (a ∷ b ∷ c ∷ d ∷ l) code constants fs debug k = absurd (omega (arith, k.0.1.0.0))
 
   pub function_deep : {n : ℕ} {s : Places} → n ≡ 0 → Check words text (λ f. Valid f n) function_piece s None
   function_deep e = check_wrong (λ f k t. none_deep e f k)

@@ -1,9 +1,12 @@
 -- Places behind pieces: one behind the other, lists, and the functions in a function.
-use Rattle.lent.proofs.Prelude.{ℕ, suc, ◌+◌, ◌-◌, ◌*◌, ◌≤◌, min, ◌≡◌, refl, sym, ◌∙◌, List, [], ◌∷◌, arith, add-zero, add_assoc, length, get_or, length-append}
+use Rattle.lent.proofs.Prelude.{ℕ, zero, suc, ◌+◌, ◌-◌, ◌*◌, ◌≤◌, min, ◌≡◌, refl, sym, ◌∙◌, List, [], ◌∷◌, arith, add-zero, add_assoc, length, get_or, length-append}
 use Rattle.lent.specs.Memory.{far}
 use Rattle.format.specs.Tree.{Debug, Parts, Function, Functions, count}
-use Rattle.format.specs.Store.{Piece, plain, word, ◌⊕◌, string, pieces, list, ints, local_piece, debug_piece, function_piece, function_pieces, children_piece}
-use Rattle.format.specs.Valid.{Valid, ValidAll}
+use Rattle.format.specs.Store.{Piece, plain, word, ◌⊕◌, pieces, list, ints, debug_piece, function_piece, function_pieces, children_piece}
+use Rattle.format.specs.Valid.{ValidParts, Valid, ValidAll}
+use Rattle.format.specs.declared.StoredItem.{Ghosts}
+use Rattle.format.specs.contracts.LocalsStoredItem.TheImpl.{ghosts as Locals}
+use Rattle.format.specs.contracts.NamesStoredItem.TheImpl.{ghosts as Names}
 use Rattle.format.specs.Stored.{Here}
 use Rattle.format.proofs.Stored.{here_left, here_right}
 use Rattle.proto.specs.Walk.{Stands, Skips, SkipsItems, Past, total, total_all, Passes, PassesAll, to_functions}
@@ -50,12 +53,13 @@ module _ {words : List ℕ} where
   pub past_ints : {at r : ℕ} (l : List ℕ) → SkipsItems words 1 at r → Past words (ints l) at r
   past_ints l s = record { past = λ to h. s.skips (length l) l (omega arith) h ∙ omega arith }
 
-  pub past_list : {A : Type 0} {at r : ℕ} (piece : A → Piece) (k : ℕ) → ((a : A) (to : ℕ) → length ((piece a).words to) ≡ k) → (l : List A) → SkipsItems words k at r → Past words (list piece l) at r
-  past_list piece k e l s =
+  -- of a kind of items, by what StoredItem says of it
+  pub past_list : {Self : Type 0} {at r : ℕ} (T : Ghosts Self) (l : List T.Value) → SkipsItems words T.WORDS at r → Past words (list T.piece l) at r
+  past_list T l s =
       record {
         past = λ to h.
-            let n : length ((pieces piece l).words (to + 0)) ≡ k * length l = pieces_words piece k e l (to + 0) in
-            s.skips (length l) ((pieces piece l).words (to + 0)) n h ∙ omega arith;
+            let n : length ((pieces T.piece l).words (to + 0)) ≡ T.WORDS * length l = pieces_words T.piece T.WORDS T.size l (to + 0) in
+            s.skips (length l) ((pieces T.piece l).words (to + 0)) n h ∙ omega arith;
       }
 
   -- ---- functions
@@ -101,8 +105,8 @@ module _ {words : List ℕ} where
             (passes_same {b = suc (total_all fs)} (same_assoc (to_functions p fs) (word (count fs)) (function_pieces fs)) (omega arith) (passes_then head (all.all fs v c))).passes to h;
       }
 
-  pub past_debug : {at a b r : ℕ} (d : Debug) → SkipsItems words 1 at a → SkipsItems words 4 a b → SkipsItems words 2 b r → Past words (debug_piece d) at r
-  past_debug d s t u = past_then (past_ints d.lines s) (past_then (past_list local_piece 4 (λ a to. refl) d.locals t) (past_list string 2 (λ a to. refl) d.upvalues u))
+  pub past_debug : {at a b r : ℕ} (d : Debug) → SkipsItems words 1 at a → SkipsItems words Locals.WORDS a b → SkipsItems words Names.WORDS b r → Past words (debug_piece d) at r
+  past_debug d s t u = past_then (past_ints d.lines s) (past_then (past_list Locals d.locals t) (past_list Names d.upvalues u))
 
   pub passes_function : (n : ℕ) {s m r : Next} → WalksToLines words n s m → ((d : Debug) → Past words (debug_piece d) m.at r.at) → r.number ≡ m.number
       → (f : Function) → Valid f (suc n) → Passes words (function_piece f) (total f) s r
@@ -114,6 +118,12 @@ module _ {words : List ℕ} where
 pub none_deep : {n : ℕ} → n ≡ 0 → (f : Function) → Valid f n → ⊥
 unfolding Valid
 none_deep e (Function.function p fs) v = rw e at v
+
+-- what is known of the parts of a function, and of the functions in it
+pub valid_parts : (n : ℕ) (p : Parts) (fs : Functions) → Valid (Function.function p fs) n → ValidParts p
+unfolding Valid
+valid_parts zero p fs v = absurd v
+valid_parts (suc n) p fs v = v.0
 
 pub valid_inside : {n : ℕ} → (n ≡ 0 → ⊥) → (p : Parts) (fs : Functions) → Valid (Function.function p fs) n → ValidAll fs (n - 1)
 unfolding Valid

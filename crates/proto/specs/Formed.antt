@@ -1,11 +1,13 @@
 -- Whether a store is well formed, and what a step of the check answers.
-use Rattle.std.specs.Prelude.{ℕ, ◌+◌, ◌-◌, ◌≤◌, ◌≡◌, List, [], ◌∷◌, Bool, true, false, Option as Answer, Some, length}
+use Rattle.std.specs.Prelude.{ℕ, ◌+◌, ◌-◌, ◌≤◌, ◌≡◌, List, [], ◌∷◌, Bool, true, false, Option as Answer, None, Some, length}
+use Rattle.lent.specs.Memory.{Every}
 use Rattle.format.specs.Tree.{Functions, count}
 use Rattle.format.specs.Read.{limit}
-use Rattle.format.specs.Store.{Piece, ◌⊕◌, plain}
+use Rattle.format.specs.Store.{Piece, ◌⊕◌, plain, word}
 use Rattle.format.specs.Valid.{ValidAll}
 use Rattle.proto.specs.Walk.{Stands}
 use Rattle.proto.specs.declared.formed.Places.{Places}
+use Rattle.proto.specs.declared.store.Store.{Store}
 
 -- ---- a step of the check
 
@@ -24,6 +26,10 @@ pub record Check {A : Type 0} (words text : List ℕ) (ok : A → Type 0) (piece
   pub sound : (q : Places) → r ≡ Some q → Found words text ok piece s
   pub complete : (a : A) → ok a → Stands words text s.at s.to (piece a) → r ≡ Some (behind (piece a) s)
 
+-- in a store
+abbrev pub Checks : {A : Type 0} → Store → (A → Type 0) → (A → Piece) → Places → Answer Places → Type 0
+Checks s ok piece p r = Check s.words.now s.text.now ok piece p r
+
 -- what a test of room says: n items from a place on are within so many, or they are not
 pub record Room (r : Bool) (len at n : ℕ) : Type 0 where
   pub is : r ≡ true → n ≤ len - at
@@ -31,9 +37,18 @@ pub record Room (r : Bool) (len at n : ℕ) : Type 0 where
 
 -- ---- what the steps look for
 
+-- n values
+abbrev pub Many : {A : Type 0} → (A → Type 0) → ℕ → List A → Type 0
+Many P n l = (length l ≡ n) × Every P l
+
 pub record Within (low high w : ℕ) : Type 0 where
   pub above : low ≤ w
   pub below : w ≤ high
+
+-- what reading a count answers: it, and the places behind it
+abbrev pub Counts : Store → Places → Answer (ℕ × Places) → Type 0
+Counts t s None = Checks t (Within 0 limit) word s None
+Counts t s (Some c) = (c.0 ≤ limit) × Checks t (Within c.0 c.0) word s (Some c.1)
 
 -- one value beside another
 unfoldable pub Both : {A B : Type 0} → (A → Type 0) → (B → Type 0) → A × B → Type 0

@@ -27,7 +27,9 @@ impl<'a> Children<'a> {
     }
 }
 
-// Those functions by index. The one found last is kept, so that those asked for in order cost one walk.
+// Those functions by index. The one found last is kept, so that those asked for in order cost one walk. No Model that has contracts see `of` alone: tried, the
+// clauses of four functions lose `.of`, and it takes the impl, a method for the first one, and one that answers `of`, as the field that symbexec reads is then not
+// what contracts see.
 #[derive(Clone, Copy)]
 pub struct ByIndex<'a> {
     pub of: Children<'a>,

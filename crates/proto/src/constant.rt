@@ -7,19 +7,19 @@ ghost use Rattle.proto.specs.Walk.{item, StandsAt};
 ghost use Rattle.proto.specs.Constants.{ConstantAt, read};
 
 use crate::walk::nth_at;
-use format::{Constant, Span};
+use format::{Constant, Constants, Span, Tag};
 
-// The constant at a place, a string by its place and length in the text. Its kind by number: 0, 1, 3, 4 are the format's tags.
+// The constant at a place, a string by its place and length in the text.
 pub fn constant_at(words: &[u32], at: usize) -> Constant
     ensures { ConstantAt words.now at result }
 {
     let Some([kind, a, b, ..]) = words.get(at..) else {
         return Constant::Nil;
     };
-    match *kind {
-        0 => Constant::Nil,
-        1 => Constant::Bool(*a != 0),
-        3 => Constant::Num(*a, *b),
+    match Tag::try_from(*kind) {
+        Ok(Tag::Nil) => Constant::Nil,
+        Ok(Tag::Bool) => Constant::Bool(*a != 0),
+        Ok(Tag::Num) => Constant::Num(*a, *b),
         _ => Constant::String(Span {
             start: *a as usize,
             len: *b as usize,
@@ -31,5 +31,5 @@ pub fn constant_at(words: &[u32], at: usize) -> Constant
 pub fn constant_of(words: &[u32], constants: usize, i: u32) -> Option<Constant>
     ensures { (t : List ℕ) (l : List Value) → StandsAt words.now t constants (list constant_piece l) → read (value_of t) result ≡ item l i }
 {
-    Some(constant_at(words, nth_at(words, constants, 3, i)?))
+    Some(constant_at(words, nth_at::<Constants>(words, constants, i)?))
 }

@@ -7,7 +7,7 @@ ghost use Rattle.proto.specs.Constants.{read};
 ghost use Rattle.proto.specs.Debug.{text_of, local_of};
 
 use crate::walk::{nth_at, skip, string_at, word_at};
-use format::Span;
+use format::{Names, Span};
 
 // A local: where its name stands in the text, and the pcs from which and before which it is active. Not local_records' LocalRecord, which is C's struct.
 #[derive(Clone, Copy)]
@@ -32,5 +32,5 @@ pub fn local_at(words: &[u32], at: usize) -> LocalVar
 pub fn upvalue_of(words: &[u32], upvalues: usize, i: u32) -> Option<Span>
     ensures { (t : List ℕ) (l : List (List ℕ)) → StandsAt words.now t upvalues (list string l) → read (text_of t) result ≡ item l i }
 {
-    Some(string_at(words, nth_at(words, upvalues, 2, i)?))
+    Some(string_at(words, nth_at::<Names>(words, upvalues, i)?))
 }

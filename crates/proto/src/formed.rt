@@ -1,14 +1,14 @@
 // Whether a store is well formed: one walk over its words, and over its text beside them.
-ghost use Rattle.std.specs.Prelude.{◌≡◌, true, List, ℕ, ◌<◌, ◌^◌, slice_index};
+ghost use Rattle.std.specs.Prelude.{◌≡◌, true, List, ℕ};
 ghost use Rattle.lent.specs.Memory.{Word, Bytes};
 ghost use Rattle.utf8.specs.Utf8.{is_ascii};
-ghost use Rattle.format.specs.Store.{Piece, string, list, ints, source_piece, constant_piece, local_piece, debug_piece, function_piece, children_piece};
+ghost use Rattle.format.specs.Store.{Piece, plain, string, list, ints, source_piece, constant_piece, local_piece, debug_piece, function_piece, children_piece};
 ghost use Rattle.format.specs.Store.{word as word_piece};
 ghost use Rattle.format.specs.Tree.{Constant as Value, Local};
 ghost use Rattle.format.specs.Valid.{Name, Valid, ValidSource, ValidConstant, ValidLocal, ValidList, ValidDebug};
 ghost use Rattle.format.specs.Dump.{store_refusal};
 ghost use Rattle.format.specs.Refusal.{RefusedBy};
-ghost use Rattle.proto.specs.Formed.{Check, Both, beside, Room, Within, Three, three, ValidChildren};
+ghost use Rattle.proto.specs.Formed.{Checks, Both, beside, Counts, Many, Room, Within, Three, three, ValidChildren};
 
 use crate::store::Store;
 use crate::walk::word_at;
@@ -24,19 +24,17 @@ pub struct Places {
     pub to: usize,
 }
 
-// A store that is checked, and whether all of its text is ASCII. Each step goes on from the places reached, past what it
-// checks, and answers None where that is not well formed. Check is of the words and the text, and not of a Store, as the definition of the store's refusal is.
+// A store that is checked, and whether all of its text is ASCII. Each step goes on from the places reached, past what it checks, and answers None where that
+// is not well formed.
 #[derive(Clone, Copy)]
 struct Checker<'a> {
     store: Store<'a>,
     ascii: bool,
-    ghost words_fit: { (i : ℕ) → slice_index store.words.now i < 2 ^ 32 },
-    ghost text_fits: { (i : ℕ) → slice_index store.text.now i < 256 },
     ghost ascii_holds: { ascii ≡ true → is_ascii store.text.now ≡ true },
 }
 
-// What a list holds: how an item is checked. load_function, dump and listing_headers have an Item of their own, and no trait above one of proto's: a ghost member's
-// type cannot name a member of a supertrait (only a law's can), and valid is of Value.
+// What a list holds: how an item is checked. load_function, dump and listing_headers have an Item of their own, and format's StoredItem is not above this one: a ghost
+// member's type cannot name a member of a supertrait (only a law's can), and valid is of Value.
 trait Item {
     ghost Value: { Type 0 };
 
@@ -45,7 +43,7 @@ trait Item {
     ghost piece: { Value → Piece };
 
     fn check(c: Checker, s: Places) -> Option<Places>
-        ensures { Check c.entry.store.words.now c.entry.store.text.now valid piece s result };
+        ensures { Checks c.entry.store valid piece s result };
 }
 
 impl Item for Constants {
@@ -85,20 +83,19 @@ impl Item for Names {
 }
 
 impl<'a> Checker<'a> {
-    // The one for the store of these words and this text. Not of a Store: that each word fits is known of a slice, and not of a slice in a struct.
-    fn new(words: &'a [u32], text: &'a [u8]) -> Self
-        ensures words { result.store.words.now ≡ words.now }
-        ensures text { result.store.text.now ≡ text.now }
+    // Of a store.
+    fn new(store: Store<'a>) -> Self
+        ensures { result.store ≡ store.entry }
     {
         Checker {
-            store: Store { words, text },
-            ascii: utf8::is_ascii(text),
+            store,
+            ascii: utf8::is_ascii(store.text),
         }
     }
 
     // A word within limits.
     fn check_word(self, s: Places, low: u32, high: u32) -> Option<Places>
-        ensures { Check self.entry.store.words.now self.entry.store.text.now (Within low high) word_piece s result }
+        ensures { Checks self.entry.store (Within low high) word_piece s result }
     {
         let w = *self.store.words.get(s.at)?;
         if !(low..=high).contains(&w) {
@@ -107,19 +104,32 @@ impl<'a> Checker<'a> {
         Some(Places { at: s.at + 1, ..s })
     }
 
-    // Two words, whatever they are.
-    #[tactic(auto, using(crate::proofs::Checks::pair_good), unfolding(crate::specs::Formed::Both, crate::specs::Formed::beside))]
-    fn check_pair(self, s: Places) -> Option<Places>
-        ensures { Check self.entry.store.words.now self.entry.store.text.now (Both Word Word) (beside word_piece word_piece) s result }
+    // n words, whatever they are.
+    #[tactic(auto, using(crate::proofs::Checks::words_good, crate::proofs::Checks::words_bad))]
+    fn check_words(self, s: Places, n: usize) -> Option<Places>
+        ensures { Checks self.entry.store (Many Word n) plain s result }
     {
-        self.store.words.get(s.at..)?.first_chunk::<2>()?;
-        Some(Places { at: s.at + 2, ..s })
+        if !is_within(self.store.words.len(), s.at, n) {
+            return None;
+        }
+        Some(Places { at: s.at + n, ..s })
+    }
+
+    // The count of a list, and the places behind it.
+    fn check_count(self, s: Places) -> Option<(u32, Places)>
+        ensures { Counts self.entry.store s result }
+    {
+        let n = *self.store.words.get(s.at)?;
+        if LIMIT < n {
+            return None;
+        }
+        Some((n, Places { at: s.at + 1, ..s }))
     }
 
     // Three words: a kind, and two with their greatest values.
     #[tactic(auto, using(crate::proofs::Checks::three_good))]
     fn check_three(self, s: Places, kind: u32, a: u32, b: u32) -> Option<Places>
-        ensures { Check self.entry.store.words.now self.entry.store.text.now (Three kind a b) three s result }
+        ensures { Checks self.entry.store (Three kind a b) three s result }
     {
         let [k, x, y, ..] = self.store.words.get(s.at..)? else {
             return None;
@@ -132,7 +142,7 @@ impl<'a> Checker<'a> {
 
     // The place and the length of a string, which stands next in the text.
     fn check_string(self, s: Places) -> Option<Places>
-        ensures { Check self.entry.store.words.now self.entry.store.text.now Bytes string s result }
+        ensures { Checks self.entry.store Bytes string s result }
     {
         let [place, n, ..] = self.store.words.get(s.at..)? else {
             return None;
@@ -149,7 +159,7 @@ impl<'a> Checker<'a> {
 
     // A string that is UTF-8, as each is where the whole text is ASCII.
     fn check_name(self, s: Places) -> Option<Places>
-        ensures { Check self.entry.store.words.now self.entry.store.text.now Name string s result }
+        ensures { Checks self.entry.store Name string s result }
     {
         let r = self.check_string(s)?;
         let name = Span {
@@ -166,7 +176,7 @@ impl<'a> Checker<'a> {
     // The source of a function: inherited, or its own.
     #[tactic(auto, using(crate::proofs::Stores::inherited_checked, crate::proofs::Stores::own_then, crate::proofs::Stores::own_stop))]
     fn check_source(self, s: Places) -> Option<Places>
-        ensures { Check self.entry.store.words.now self.entry.store.text.now ValidSource source_piece s result }
+        ensures { Checks self.entry.store ValidSource source_piece s result }
     {
         if word_at(self.store.words, s.at) == 0 {
             return self.check_three(s, 0, 0, 0);
@@ -174,11 +184,11 @@ impl<'a> Checker<'a> {
         self.check_name(self.check_word(s, 1, 1)?)
     }
 
-    // A constant, by the format's numbers: Nil or Bool, whose second word is no more than the first, Num or String. No enum of the kinds: they are words in a
-    // store and bytes in a chunk, and any other number is refused here.
+    // A constant, by its tag: Nil or Bool, whose second word is no more than the first, Num or String. The tags by number: by Tag::try_from, proved, dump of
+    // 60,000 numbers took 3.05 and not 2.87 million instructions, over the bar of steps (docs/PERFORMANCE.md).
     #[tactic(auto, using(crate::proofs::Stores::constant_plain, crate::proofs::Stores::num_checked, crate::proofs::Stores::str_then, crate::proofs::Stores::str_stop))]
     fn check_constant(self, s: Places) -> Option<Places>
-        ensures { Check self.entry.store.words.now self.entry.store.text.now ValidConstant constant_piece s result }
+        ensures { Checks self.entry.store ValidConstant constant_piece s result }
     {
         let kind = word_at(self.store.words, s.at);
         match kind {
@@ -191,31 +201,26 @@ impl<'a> Checker<'a> {
     // A local: its name, start and end.
     #[tactic(auto, using(crate::proofs::Checks::check_then, crate::proofs::Checks::check_stop, crate::proofs::Stores::local_checked))]
     fn check_local(self, s: Places) -> Option<Places>
-        ensures { Check self.entry.store.words.now self.entry.store.text.now ValidLocal local_piece s result }
+        ensures { Checks self.entry.store ValidLocal local_piece s result }
     {
-        self.check_pair(self.check_name(s)?)
+        self.check_words(self.check_name(s)?, 2)
     }
 
     // A list of words.
-    #[tactic(auto, using(crate::proofs::Checks::ints_within, crate::proofs::Checks::ints_good, crate::proofs::Checks::ints_bad, crate::proofs::Checks::ints_short))]
+    #[tactic(auto, using(crate::proofs::Checks::ints_checked, crate::proofs::Checks::ints_short))]
     fn check_ints(self, s: Places) -> Option<Places>
-        ensures { Check self.entry.store.words.now self.entry.store.text.now (ValidList Word) ints s result }
+        ensures { Checks self.entry.store (ValidList Word) ints s result }
     {
-        let n = word_at(self.store.words, s.at) as usize;
-        let p = self.check_word(s, 0, LIMIT)?;
-        if self.store.words.len() - p.at < n {
-            return None;
-        }
-        Some(Places { at: p.at + n, ..p })
+        let (n, p) = self.check_count(s)?;
+        self.check_words(p, n as usize)
     }
 
     // A list of other items.
     #[tactic(auto, using(crate::proofs::Checks::items_turn, crate::proofs::Checks::items_end, crate::proofs::Checks::count_wrong, crate::proofs::Checks::item_wrong))]
     fn check_list<T: Item>(self, s: Places) -> Option<Places>
-        ensures { Check self.entry.store.words.now self.entry.store.text.now (ValidList T.valid) (list T.piece) s result }
+        ensures { Checks self.entry.store (ValidList T.valid) (list T.piece) s result }
     {
-        let n = word_at(self.store.words, s.at);
-        let mut p = self.check_word(s, 0, LIMIT)?;
+        let (n, mut p) = self.check_count(s)?;
         for _ in 0..n {
             p = T::check(self, p)?;
         }
@@ -225,20 +230,31 @@ impl<'a> Checker<'a> {
     // The lists that strip leaves out: the lines, the locals and the upvalues' names.
     #[tactic(auto, using(crate::proofs::Checks::check_then, crate::proofs::Checks::check_stop, crate::proofs::Stores::debug_checked))]
     fn check_debug(self, s: Places) -> Option<Places>
-        ensures { Check self.entry.store.words.now self.entry.store.text.now ValidDebug debug_piece s result }
+        ensures { Checks self.entry.store ValidDebug debug_piece s result }
     {
         let lines = self.check_ints(s)?;
         let locals = self.check_list::<Locals>(lines)?;
         self.check_list::<Names>(locals)
     }
 
+    // A function up to those in it: its source, three words of numbers, its code and its constants.
+    #[tactic(auto, using(crate::proofs::Checks::check_then, crate::proofs::Checks::check_stop))]
+    fn check_to_functions(self, s: Places) -> Option<Places>
+        ensures { Checks self.entry.store (Both ValidSource (Both (Many Word 3) (Both (ValidList Word) (ValidList ValidConstant)))) (beside source_piece (beside plain (beside ints (list constant_piece)))) s result }
+    {
+        let source = self.check_source(s)?;
+        let numbers = self.check_words(source, 3)?;
+        let code = self.check_ints(numbers)?;
+        self.check_list::<Constants>(code)
+    }
+
     // The functions in a function, each with so many nested at most. No Item, as the check gives no proof of one whose check leads back to it.
     #[cycle(check_function_check_functions)]
+    #[tactic(auto, using(crate::proofs::Stores::children_checked, crate::proofs::Checks::count_wrong, crate::proofs::Checks::items_turn))]
     fn check_functions(self, s: Places, allowance: u32) -> Option<Places>
-        ensures { Check self.entry.store.words.now self.entry.store.text.now (ValidChildren allowance) children_piece s result }
+        ensures { Checks self.entry.store (ValidChildren allowance) children_piece s result }
     {
-        let n = word_at(self.store.words, s.at);
-        let mut p = self.check_word(s, 0, LIMIT)?;
+        let (n, mut p) = self.check_count(s)?;
         for _ in 0..n {
             p = self.check_function(p, allowance)?;
         }
@@ -248,18 +264,13 @@ impl<'a> Checker<'a> {
     // A function.
     #[cycle(check_function_check_functions)]
     fn check_function(self, s: Places, allowance: u32) -> Option<Places>
-        ensures { Check self.entry.store.words.now self.entry.store.text.now (λ f. Valid f allowance) function_piece s result }
+        ensures { Checks self.entry.store (λ f. Valid f allowance) function_piece s result }
     {
         if allowance == 0 {
             return None;
         }
-        let source = self.check_source(s)?;
-        let first = self.check_word(source, 0, ANY)?;
-        let last = self.check_word(first, 0, ANY)?;
-        let packed = self.check_word(last, 0, ANY)?;
-        let code = self.check_ints(packed)?;
-        let constants = self.check_list::<Constants>(code)?;
-        let functions = self.check_functions(constants, allowance - 1)?;
+        let start = self.check_to_functions(s)?;
+        let functions = self.check_functions(start, allowance - 1)?;
         self.check_debug(functions)
     }
 }
@@ -285,7 +296,7 @@ impl<'a> Store<'a> {
             at: self.words.len(),
             to: self.text.len(),
         };
-        if Checker::new(self.words, self.text).check_function(start, DEPTH) == Some(end) {
+        if Checker::new(self).check_function(start, DEPTH) == Some(end) {
             Ok(())
         } else {
             Err(Refusal::BadStore)

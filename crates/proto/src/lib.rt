@@ -1,4 +1,4 @@
-// A tree in lent memory: all that knows how a store is laid out.
+// A tree in lent memory: its store checked, walked and searched. How a store is laid out is known to load and load_function, which write one, and to dump too.
 #![tactic(auto)]
 
 pub mod child;

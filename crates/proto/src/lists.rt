@@ -11,7 +11,7 @@ use crate::store::Store;
 use crate::walk::{
     Next, after_debug, after_list, code_at, constants_at, first_in, functions_at, pass_all, word_at,
 };
-use format::DEPTH;
+use format::{DEPTH, Ints, Locals};
 
 // The lists of a function: the store that they are in, and their places, each the place of its count.
 #[derive(Clone, Copy)]
@@ -47,7 +47,8 @@ pub struct Kept {
     pub lines: usize,
 }
 
-// A store, and the places of lines that are kept on a walk through it: for each number of functions nested at most, below N.
+// A store, and the places of lines that are kept on a walk through it: for each number of functions nested at most, below N. Four methods say that the
+// store stays: what is kept is true of it alone, so both stand in the struct that is lent, with the ghost field.
 #[derive(Drop)]
 pub struct Way<'a, const N: usize> {
     pub store: Store<'a>,
@@ -134,8 +135,8 @@ impl<'a, const N: usize> Way<'a, N> {
         let store = self.store;
         let words = store.words;
         let lines = self.find_lines(at, allowance);
-        let locals = after_list(words, lines, 1);
-        let upvalues = after_list(words, locals, 4);
+        let locals = after_list::<Ints>(words, lines);
+        let upvalues = after_list::<Locals>(words, locals);
         Lists {
             store,
             code: code_at(words, at),

@@ -1,5 +1,5 @@
-// A tree in lent memory: its words, and its text.
-ghost use Rattle.std.specs.Prelude.{◌≡◌, List, ℕ};
+// A tree in lent memory: its words, and its text. That each word and each byte fits is known of the slices of which a Store is made.
+ghost use Rattle.std.specs.Prelude.{◌≡◌, List, ℕ, ◌<◌, ◌^◌, slice_index};
 ghost use Rattle.format.specs.Store.{string, source_piece, function_piece};
 ghost use Rattle.format.specs.Tree.{Source, Parts, Functions, Function, filled};
 ghost use Rattle.proto.specs.Walk.{Stands, StandsAt};
@@ -10,6 +10,8 @@ use crate::walk::{own_at, string_at};
 pub struct Store<'a> {
     pub words: &'a [u32],
     pub text: &'a [u8],
+    pub ghost words_fit: { (i : ℕ) → slice_index words.now i < 2 ^ 32 },
+    pub ghost text_fits: { (i : ℕ) → slice_index text.now i < 256 },
 }
 
 impl<'a> Store<'a> {

@@ -2,7 +2,7 @@
 // stands at the place asked; where none stands it is open, since the calls check the store first.
 // No methods of a struct of words and place: tried for word_at, skip and string_at, each step promises also that the words stay, each proof of two steps
 // rewrites by that, and Lists, which holds six places in the same words, makes such a struct for each.
-ghost use Rattle.std.specs.Prelude.{List, ◌≡◌, ℕ, ◌+◌, ◌*◌, ◌≤◌, min, length, get_or};
+ghost use Rattle.std.specs.Prelude.{List, ◌≡◌, ℕ, ◌+◌, ◌*◌, min, length, get_or};
 ghost use Rattle.lent.specs.Memory.{far};
 ghost use Rattle.format.specs.Tree.{Source, Debug, Parts, Functions, Function};
 ghost use Rattle.format.specs.Store.{string, ints, source_piece, debug_piece, function_piece};
@@ -10,7 +10,7 @@ ghost use Rattle.format.specs.Stored.{Here};
 ghost use Rattle.format.specs.Valid.{Valid};
 ghost use Rattle.proto.specs.Walk.{Stands, Skips, SkipsItems, NthAt, Past, Passes, PassesAll, own_place, total, to_code, to_constants, to_functions};
 
-use format::Span;
+use format::{Constants, Ints, Locals, Names, Span, StoredItem};
 
 // A place in the words, and the number in preorder of the function that begins there.
 #[derive(Clone, Copy)]
@@ -65,19 +65,19 @@ pub fn ints_at(words: &[u32], at: usize) -> &[u32]
     items.of(words)
 }
 
-// The place of item i of a list whose items have so many words.
-pub fn item_at(words: &[u32], list: usize, size: u32, i: u32) -> usize
-    ensures { Skips words.now (1 + size * i) list result }
+// The place of item i of the list of such items at a place.
+pub fn item_at<T: StoredItem>(words: &[u32], list: usize, i: u32) -> usize
+    ensures { Skips words.now (1 + T.WORDS * i) list result }
 {
-    skip(words, list, 1 + size as usize * i as usize)
+    skip(words, list, 1 + T::WORDS as usize * i as usize)
 }
 
-// The place of item i of the list at a place, whose items have so many words: none where there is no such item.
-pub fn nth_at(words: &[u32], list: usize, size: u32, i: u32) -> Option<usize>
-    ensures { NthAt words.now list size i result }
+// The same: none where there is no item i.
+pub fn nth_at<T: StoredItem>(words: &[u32], list: usize, i: u32) -> Option<usize>
+    ensures { NthAt words.now list T.WORDS i result }
 {
     if i < word_at(words, list) {
-        Some(item_at(words, list, size, i))
+        Some(item_at::<T>(words, list, i))
     } else {
         None
     }
@@ -93,13 +93,12 @@ pub fn first_in(words: &[u32], functions: usize, number: usize) -> Next
     }
 }
 
-// The place behind a list of items of k words each.
+// The place behind the list of such items at a place.
 #[tactic(auto, using(crate::proofs::Walks::skip_items))]
-pub(crate) fn after_list(words: &[u32], at: usize, k: usize) -> usize
-    requires { k ≤ 4 }
-    ensures { SkipsItems words.now k at result }
+pub(crate) fn after_list<T: StoredItem>(words: &[u32], at: usize) -> usize
+    ensures { SkipsItems words.now T.WORDS at result }
 {
-    skip(words, at, 1 + k * word_at(words, at) as usize)
+    item_at::<T>(words, at, word_at(words, at))
 }
 
 // The place of the code of the function at a place.
@@ -113,14 +112,14 @@ pub fn code_at(words: &[u32], at: usize) -> usize
 pub fn constants_at(words: &[u32], at: usize) -> usize
     ensures { (p : Parts) (fs : Functions) → Past words.now (to_constants p fs) at result }
 {
-    after_list(words, code_at(words, at), 1)
+    after_list::<Ints>(words, code_at(words, at))
 }
 
 // The place of the functions in it.
 pub fn functions_at(words: &[u32], at: usize) -> usize
     ensures { (p : Parts) (fs : Functions) → Past words.now (to_functions p fs) at result }
 {
-    after_list(words, constants_at(words, at), 3)
+    after_list::<Constants>(words, constants_at(words, at))
 }
 
 // The place behind the debug lists.
@@ -128,7 +127,9 @@ pub fn functions_at(words: &[u32], at: usize) -> usize
 pub fn after_debug(words: &[u32], at: usize) -> usize
     ensures { (d : Debug) → Past words.now (debug_piece d) at result }
 {
-    after_list(words, after_list(words, after_list(words, at, 1), 4), 2)
+    let locals = after_list::<Ints>(words, at);
+    let upvalues = after_list::<Locals>(words, locals);
+    after_list::<Names>(words, upvalues)
 }
 
 // Past n functions from s on.

@@ -1,5 +1,5 @@
 -- How many upvalues the function that a CLOSURE names has.
-use Rattle.lent.proofs.Prelude.{ℕ, zero, suc, ◌≤◌, ◌<◌, ◌≡◌, sym, ap, ◌∙◌, List, some}
+use Rattle.lent.proofs.Prelude.{ℕ, ◌≤◌, ◌<◌, ◌≡◌, sym, ap, ◌∙◌, List, some}
 use Rattle.format.specs.Tree.{Parts, Function, Functions}
 use Rattle.format.specs.Store.{function_piece}
 use Rattle.format.specs.Valid.{Valid, ValidParts}
@@ -10,13 +10,9 @@ use Rattle.proto.specs.declared.child.Children.{Children}
 use Rattle.proto.specs.declared.head.Head.{Head}
 use Rattle.proto.specs.declared.walk.Next.{Next}
 use Rattle.proto.proofs.Children.{child_past, child_stands}
+use Rattle.proto.proofs.Walks.{valid_parts}
 use Rattle.symbexec.specs.Operands.{Behind}
 use Rattle.symbexec.specs.SymbExec.{upvalues_of}
-
-valid_parts : (n : ℕ) (p : Parts) (fs : Functions) → Valid (Function.function p fs) n → ValidParts p
-unfolding Valid
-valid_parts zero p fs v = absurd v
-valid_parts (suc n) p fs v = v.0
 
 module _ {c : Children} where
   -- so many, whichever functions stand there

@@ -18,7 +18,7 @@ use operands::operands;
 use proto::child::Children;
 use proto::lists::Lists;
 use proto::walk::{ints_at, word_at};
-use step::{Sought, latest};
+use step::Sought;
 
 // The pc of the last instruction of the code before lastpc that wrote a register, the last pc of all where none did.
 fn last_write(code: &[u32], functions: Children, sought: Sought) -> usize
@@ -31,7 +31,7 @@ fn last_write(code: &[u32], functions: Children, sought: Sought) -> usize
     // No range counts pc: it goes past the words that are no instructions, and where a jump leads.
     while pc < end {
         let i = Instruction(word_at(code, pc));
-        last = latest(i, sought.reg, pc, last);
+        last = sought.latest(i, pc, last);
         let skipped = operands(&mut by_index, i);
         pc = sought.next_pc(i, skipped, pc as u32);
     }

@@ -30,7 +30,7 @@ pub fn operands(functions: &mut ByIndex, i: Instruction) -> u32
     if op == OP_CLOSURE {
         return closure_operands(functions, i.bx());
     }
-    // next_is_c's test, with the opcode at hand: it is to be no slower. By the method getobjname over 55,747 instructions took 3.44 million
-    // machine instructions, and takes 3.00 million with this test.
+    // next_is_c's test, with the opcode at hand, so that getobjname is no slower than before: by the method it takes 15 % more machine instructions,
+    // 3.44 and not 3.00 million over 55,747 instructions.
     u32::from(op == OP_SETLIST && i.c() == 0)
 }

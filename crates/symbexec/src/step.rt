@@ -12,45 +12,6 @@ use instructions::{
 // What is added to sBx in an instruction.
 const SBX: usize = MAXARG_SBX as usize;
 
-// Whether an instruction writes a register beside A.
-#[tactic(auto, unfolding(crate::specs::SymbExec::also_writes))]
-fn also_writes(i: Instruction, reg: u32) -> bool
-    ensures { result ≡ also_writes (opcode i.0) (GETARG_A i.0) (GETARG_B i.0) reg }
-{
-    let a = i.a();
-    let op = i.opcode();
-    match op {
-        OP_LOADNIL => (a..=i.b()).contains(&reg),
-        OP_SELF => reg == a + 1,
-        OP_CALL | OP_TAILCALL => a <= reg,
-        OP_TFORLOOP => a + 2 <= reg,
-        _ => false,
-    }
-}
-
-// Whether A is a register, and written.
-#[tactic(auto, unfolding(crate::specs::SymbExec::sets_a))]
-fn sets_a(i: Instruction, reg: u32) -> bool
-    ensures { result ≡ sets_a (opcode i.0) (GETARG_A i.0) reg }
-{
-    i.a() == reg && op_modes(i.opcode()).sets_register_a
-}
-
-// Whether an instruction writes a register.
-#[tactic(auto, unfolding(crate::specs::SymbExec::writes))]
-fn writes(i: Instruction, reg: u32) -> bool
-    ensures { result ≡ writes i.0 reg }
-{
-    sets_a(i, reg) || also_writes(i, reg)
-}
-
-// The pc of the last write: this one, or the last before it.
-pub fn latest(i: Instruction, reg: u32, pc: usize, last: usize) -> usize
-    ensures { result ≡ cond (writes i.0 reg) pc last }
-{
-    if writes(i, reg) { pc } else { last }
-}
-
 // What is looked for: the last write of a register before a pc.
 #[derive(Clone, Copy)]
 pub struct Sought {
@@ -59,6 +20,44 @@ pub struct Sought {
 }
 
 impl Sought {
+    // Whether the register is one that an instruction writes beside A.
+    #[tactic(auto, unfolding(crate::specs::SymbExec::also_writes))]
+    fn also_written_by(self, i: Instruction) -> bool
+        ensures { result ≡ also_writes (opcode i.0) (GETARG_A i.0) (GETARG_B i.0) self.reg }
+    {
+        let a = i.a();
+        match i.opcode() {
+            OP_LOADNIL => (a..=i.b()).contains(&self.reg),
+            OP_SELF => self.reg == a + 1,
+            OP_CALL | OP_TAILCALL => a <= self.reg,
+            OP_TFORLOOP => a + 2 <= self.reg,
+            _ => false,
+        }
+    }
+
+    // Whether the register is A of an instruction, and written.
+    #[tactic(auto, unfolding(crate::specs::SymbExec::sets_a))]
+    fn set_by(self, i: Instruction) -> bool
+        ensures { result ≡ sets_a (opcode i.0) (GETARG_A i.0) self.reg }
+    {
+        i.a() == self.reg && op_modes(i.opcode()).sets_register_a
+    }
+
+    // Whether an instruction writes the register.
+    #[tactic(auto, unfolding(crate::specs::SymbExec::writes))]
+    fn written_by(self, i: Instruction) -> bool
+        ensures { result ≡ writes i.0 self.reg }
+    {
+        self.set_by(i) || self.also_written_by(i)
+    }
+
+    // The pc of the last write: this one, or the last before it.
+    pub fn latest(self, i: Instruction, pc: usize, last: usize) -> usize
+        ensures { result ≡ cond (writes i.0 self.reg) pc last }
+    {
+        if self.written_by(i) { pc } else { last }
+    }
+
     // Whether an instruction is a jump that is followed: not for NO_REG, only forward, to lastpc at most.
     #[tactic(auto, unfolding(crate::specs::SymbExec::followed))]
     fn followed(self, i: Instruction, pc: u32) -> bool

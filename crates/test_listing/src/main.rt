@@ -12,11 +12,12 @@ use std::io::Write;
 use test_records::{Records, first};
 use undump::{measure, store};
 
-// The most words and text bytes of a store, and what stands in the output before.
+// The most words and text bytes of a store.
 const ROOM: usize = 4096;
 
 const OUT: usize = 65536;
 
+// What stands in the output before.
 const UNTOUCHED: u8 = b'.';
 
 // The listing of a chunk, held words of its store held back: the refusal of reading it, or what list_function answers. listchunk's list is apart:

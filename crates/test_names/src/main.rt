@@ -64,7 +64,7 @@ fn ask_in(
     to.write_all(b"\n")
 }
 
-// A question, its letter read. Another letter has none.
+// A question, its letter read: kind is that letter of the input. Another letter has none, nor a place, so that each reads its own.
 fn ask(
     kind: u8,
     cases: &mut Records,

@@ -1,30 +1,28 @@
--- The header: bytes that are there, or are not, or are others. Then a whole chunk, loaded; what measure answers at each of its returns,
--- and what store answers and leaves at each of its.
+-- The header: bytes that are those, or are others. Then what measure answers at each of its returns, and what store answers and leaves at each of its.
 use Rattle.std.specs.Borrow.{Bor}
 use Rattle.std.specs.Prelude.{Result, Ok, Err}
-use Rattle.std.specs.Result.{IsErrAnd}
-use Rattle.std.proofs.lemmas.Result.{err_from_is_err_and}
 use Rattle.std.specs.Str.{bytes_eq}
 use Rattle.std.proofs.lemmas.Slice.Eq.{bytes_eq-Decides}
 use Rattle.lent.proofs.Prelude.{ℕ, ◌+◌, ◌-◌, ◌≤◌, ◌<◌, min, ◌≡◌, refl, sym, ap, ◌∙◌, List, [], ◌++◌, append-nil, Bool, true, false, not, arith, length, take, drop, length-drop, drop_of_length-le, sets, sets-eq, length-take-le, le-leb, not-true, not-false}
 use Rattle.lent.specs.Memory.{far}
 use Rattle.format.specs.Tree.{Function}
-use Rattle.format.specs.Read.{Read, got, refused, ◌>>=◌, return, width_of, load_function, same, format, load_exactly, load_format, load_header}
+use Rattle.format.specs.Read.{Read, got, refused, width_of, same, format, load_exactly, load_format}
 use Rattle.format.specs.Dump.{name_refusal}
 use Rattle.format.specs.Refusal.{number}
 use Rattle.format.specs.Store.{function_piece, words_of, text_of}
-use Rattle.format.specs.Valid.{depth, most}
-use Rattle.format.specs.Undump.{repaired, Chunk, load_chunk, refused_by, undumped_result, measured_by, measured, name_ok, over, undumped, as_measured, stored}
+use Rattle.format.specs.Valid.{most}
+use Rattle.format.specs.Undump.{Chunk, load_chunk, refused_by, undumped_result, measured_by, measured, name_ok, over, undumped, as_measured, stored}
+use Rattle.format.specs.declared.MeasuredChunk.{MeasuredChunk}
+use Rattle.format.specs.declared.Needs.{Needs}
 use Rattle.format.specs.declared.Undumped.{Undumped}
 use Rattle.format.specs.declared.Refusal.{Refusal}
 use Rattle.format.specs.declared.Refusal.TheVariants.{BadFormat}
 use Rattle.load_state.specs.declared.cursor.Got.{Got}
 use Rattle.load_state.specs.ReadAt.{Ends, ReadsBy, ReadAt, BlockAt}
-use Rattle.load.specs.Loads.{Space, Does}
-use Rattle.load_function.specs.Repaired.{repaired_function}
+use Rattle.load.specs.Loads.{Does}
 use Rattle.undump.specs.declared.LoadedChunk.{LoadedChunk}
-use Rattle.undump.specs.Undump.{beginning, unused, used, LoadsChunk, Measures, undump_left}
-use Rattle.load.proofs.Steps.{reads_then, reads_refused}
+use Rattle.undump.specs.Undump.{unused, used, LoadsChunk, undump_left}
+use Rattle.load.proofs.Steps.{reads_then}
 use Rattle.format.proofs.RoundTrip.{same_is}
 use Rattle.format.proofs.Refusals.{refusal_above, name_good, by_name}
 use Rattle.format.proofs.Measured.{measured_as, undumped_as, refused_whole, store_refused, store_other, store_as, few_words, few_text, enough}
@@ -56,34 +54,6 @@ module _ {bs : List ℕ} {at : ℕ} {g : Got (Bor (List ℕ))} {t : Bool} (h : B
     pub format_other : u ≡ false → ReadAt bs load_format at (Err BadFormat)
     format_other f = reads_then _ h (λ s p. record { ends = rw (p, told g.value.now (format true) t₄, e, told g.value.now (format false) t₈, f) refl })
 
--- ---- a whole chunk
-
--- what is answered of it
-abbrev Answered : List ℕ → List ℕ → List ℕ → List ℕ → Chunk → LoadedChunk → Type 0
-Answered ws ts ws' ts' x c = (x.size4 ≡ c.size_4) × Does (function_piece x.root) (unused ws ts) (used c ws' ts')
-
--- the header, then the root function
-module _ {bs ws ts ws' ts' : List ℕ} where
-  header_then : {h : Got Bool} {r : Result LoadedChunk Refusal} → ReadAt bs load_header beginning (Ok h)
-      → ReadsBy bs (load_function h.value depth >>= λ f. return (record { size4 = h.value; root = repaired f })) (Answered ws ts ws' ts') (λ c. c.next) h.next r → LoadsChunk bs ws ts r ws' ts'
-  unfolding load_chunk
-  header_then k l = record { ends = (reads_then {Q = Answered ws ts ws' ts'} {next' = λ c. c.next} (λ v. load_function v depth >>= λ f. return (record { size4 = v; root = repaired f })) k (λ v e. rw e l)).ends }
-
-  pub header_refused : {x : Refusal} {r : Result LoadedChunk Refusal} → IsErrAnd r (λ y. y ≡ x) → ReadAt bs load_header beginning (Err x) → LoadsChunk bs ws ts r ws' ts'
-  unfolding load_chunk
-  header_refused {r = r} i h =
-      let p = err_from_is_err_and r i in
-      rw (p.1, p.2) (record { ends = (reads_refused {Q = Answered ws ts ws' ts'} {next' = λ c. c.next} (λ v. load_function v depth >>= λ f. return (record { size4 = v; root = repaired f })) h).ends })
-
-  module _ {h : Got Bool} {n : ℕ} (k : ReadAt bs load_header beginning (Ok h)) where
-    pub function_refused : {τ : Space} {x : Refusal} {r : Result LoadedChunk Refusal} → ReadsBy bs (load_function h.value depth) (λ f (u : Unit {0}). Does (repaired_function f) (unused ws ts) τ) (λ u. n) h.next (Err x)
-        → IsErrAnd r (λ y. y ≡ x) → LoadsChunk bs ws ts r ws' ts'
-    function_refused {r = r} l i = let p = err_from_is_err_and r i in rw (p.1, p.2) (header_then k (reads_refused _ l))
-
-    pub chunk_loaded : {a b : ℕ} {u v : List ℕ} → u ≡ ws' → v ≡ ts' → ReadsBy bs (load_function h.value depth) (λ f (u : Unit {0}). Does (repaired_function f) (unused ws ts) (record { words_at = a; text_at = b; words = ws'; text = ts' })) (λ u. n) h.next (Ok tt)
-        → LoadsChunk bs ws ts (Ok (record { size_4 = h.value; words = a; text = b; next = n })) u v
-    chunk_loaded e f l = rw (e, f) (header_then k (reads_then _ l (λ f d. record { ends = (refl, (refl, d)) })))
-
 -- ---- measure
 
 -- what is counted where there is no space
@@ -94,7 +64,7 @@ counted f c u v d =
 
 -- what a run says of the chunk that is read
 abbrev Ran : (bs ws ts ws' ts' : List ℕ) → Read Chunk → Result LoadedChunk Refusal → Type 0
-Ran bs ws ts ws' ts' x r = Ends x (λ y rest c. (rest ≡ drop c.next bs) × Answered ws ts ws' ts' y c) r
+Ran bs ws ts ws' ts' x r = Ends x (λ y rest c. (rest ≡ drop c.next bs) × ((y.size4 ≡ c.size_4) × Does (function_piece y.root) (unused ws ts) (used c ws' ts'))) r
 
 module _ (bs u v : List ℕ) where
   refused_by_law : (e : Refusal) (x : Read Chunk) → Ran bs [] [] u v x (Err e) → refused_by (number e) ≡ measured_by bs x
@@ -112,19 +82,19 @@ module _ (bs u v : List ℕ) where
   measured_by_law c (refused k) t ew en em er = absurd t
 
 -- a name that is refused
-pub name_refused : {bs : List ℕ} (name : List ℕ) (x : Refusal) {r : Result Undumped Refusal} → number x ≡ name_refusal name → IsErrAnd r (λ y. y ≡ x) → Measures bs name r
+pub name_refused : (bs name : List ℕ) (x : Refusal) → number x ≡ name_refusal name → undumped_result (Err x) ≡ measured bs name
 unfolding measured
-name_refused name x {r} e i = let p = err_from_is_err_and r i in rw (p.1, p.2) (record { answers = by_name name refused_by _ (refusal_above x) e; accepted = tt })
+name_refused bs name x e = by_name name refused_by _ (refusal_above x) e
 
 module _ {bs : List ℕ} (name : List ℕ) {u v : List ℕ} (o : 0 ≡ name_refusal name) where
-  pub measures_refused : {x : Refusal} {r : Result Undumped Refusal} → IsErrAnd r (λ y. y ≡ x) → LoadsChunk bs [] [] (Err x) u v → Measures bs name r
+  pub measures_refused : (x : Refusal) → LoadsChunk bs [] [] (Err x) u v → undumped_result (Err x) ≡ measured bs name
   unfolding measured
-  measures_refused {r = r} i h = let p = err_from_is_err_and r i in rw (p.1, p.2) (record { answers = rw (name_good name o) (refused_by_law bs u v _ (load_chunk bs) h.ends); accepted = tt })
+  measures_refused x h = rw (name_good name o) (refused_by_law bs u v x (load_chunk bs) h.ends)
 
   pub measure_whole : {c : LoadedChunk} {w n m read : ℕ} → LoadsChunk bs [] [] (Ok c) u v → w ≡ width_of c.size_4 → n ≡ min c.words (most + 1) → m ≡ min c.text (most + 1) → read ≡ min c.next (length bs)
-      → Measures bs name (Ok (record { refusal = 0; width = w; words = n; text = m; read = read }))
+      → record { refusal = 0; width = w; words = n; text = m; read = read } ≡ measured bs name
   unfolding measured
-  measure_whole h w n m r = record { answers = rw (name_good name o) (measured_by_law bs u v _ (load_chunk bs) h.ends w n m r); accepted = refl }
+  measure_whole h w n m r = rw (name_good name o) (measured_by_law bs u v _ (load_chunk bs) h.ends w n m r)
 
 -- ---- store
 
@@ -164,36 +134,33 @@ module _ (bs ws ts : List ℕ) (r : Result LoadedChunk Refusal) (ws' ts' : List 
   unfolding measured undumped
   left name d z en ek = stored_as (name_ok name) (load_chunk bs) r d.ends z en ek
 
-pub refused_as : (bs name ws ts : List ℕ) (need_words need_text need_read : ℕ) (x : Refusal) (r : Result Undumped Refusal) → Measures bs name (Err x) → IsErrAnd r (λ y. y ≡ x)
-    → undump_left (undumped_result r) ws ts ≡ stored bs name need_words need_text need_read ws ts
-refused_as bs name ws ts need_words need_text need_read x r d i =
-    let e : refused_by (number x) ≡ measured bs name = d.answers in
-    let p = err_from_is_err_and r i in
+pub refused_as : (bs name ws ts : List ℕ) (needs : Needs) (x : Refusal) → undumped_result (Err x) ≡ measured bs name
+    → undump_left (undumped_result (Err x)) ws ts ≡ stored bs name needs.words needs.text needs.read ws ts
+refused_as bs name ws ts needs x e =
     let some : (measured bs name).refusal ≡ 0 → ⊥ = λ z. let j : number x ≡ (measured bs name).refusal = ap (λ (u : Undumped). u.refusal) e in omega (arith, refusal_above x) in
-    rw (p.1, p.2, store_refused bs name ws ts need_words need_text need_read some, e) (ap (λ (a : Undumped). undump_left a ws ts) (refused_whole bs name some))
+    rw (store_refused bs name ws ts needs.words needs.text needs.read some, e) (ap (λ (a : Undumped). undump_left a ws ts) (refused_whole bs name some))
 
--- the returns of store, which measures and is handed three numbers
-module _ (bs name ws ts : List ℕ) {m : Undumped} (e : m ≡ measured bs name) (need_words need_text need_read : ℕ) where
-  module _ {ok : Bool} (z : m.refusal ≡ 0) (o : ok ≡ as_measured m need_words need_text need_read) where
-    none : (measured bs name).refusal ≡ 0
-    none = let i : m.refusal ≡ (measured bs name).refusal = ap (λ (u : Undumped). u.refusal) e in omega arith
+-- the returns of store, which measures and is handed what is needed
+module _ (bs name ws ts : List ℕ) {m : MeasuredChunk} (e : undumped_result (Ok m) ≡ measured bs name) (needs : Needs) where
+  none : (measured bs name).refusal ≡ 0
+  none = sym (ap (λ (u : Undumped). u.refusal) e)
 
-    pub refused_other : ok ≡ false → undump_left (refused_by 15) ws ts ≡ stored bs name need_words need_text need_read ws ts
-    refused_other h = sym (store_other bs name ws ts need_words need_text need_read none (rw (← e, ← o) h))
+  pub refused_other : true ≡ not (as_measured (undumped_result (Ok m)) needs.words needs.text needs.read) → undump_left (refused_by 15) ws ts ≡ stored bs name needs.words needs.text needs.read ws ts
+  refused_other h = sym (store_other bs name ws ts needs.words needs.text needs.read none (rw (← e) (not-true _ (sym h))))
 
-    module _ {l : ℕ} (h : ok ≡ true) (lw : l ≡ min (length ws) most) where
-      as_measured_law : stored bs name need_words need_text need_read ws ts ≡ undumped bs name ws ts
-      as_measured_law = store_as bs name ws ts need_words need_text need_read (rw (← e, ← o) h)
+  module _ (h : false ≡ not (as_measured (undumped_result (Ok m)) needs.words needs.text needs.read)) where
+    as_measured_law : stored bs name needs.words needs.text needs.read ws ts ≡ undumped bs name ws ts
+    as_measured_law = store_as bs name ws ts needs.words needs.text needs.read (rw (← e) (not-false _ (sym h)))
 
-      pub refused_words : l < m.words → undump_left (refused_by 8) ws ts ≡ stored bs name need_words need_text need_read ws ts
-      refused_words i = sym (as_measured_law ∙ few_words bs name ws ts none (rw (← e) (omega arith)))
+    pub refused_words : min (length ws) most < m.needs.words → undump_left (refused_by 8) ws ts ≡ stored bs name needs.words needs.text needs.read ws ts
+    refused_words i = sym (as_measured_law ∙ few_words bs name ws ts none (rw (← e) i))
 
-      module _ {k : ℕ} (i : m.words ≤ l) (lt : k ≡ min (length ts) most) where
-        pub refused_text : k < m.text → undump_left (refused_by 9) ws ts ≡ stored bs name need_words need_text need_read ws ts
-        refused_text j = sym (as_measured_law ∙ few_text bs name ws ts none (rw (← e) (omega arith)) (rw (← e) (omega arith)))
+    module _ (i : m.needs.words ≤ min (length ws) most) where
+      pub refused_text : min (length ts) most < m.needs.text → undump_left (refused_by 9) ws ts ≡ stored bs name needs.words needs.text needs.read ws ts
+      refused_text j = sym (as_measured_law ∙ few_text bs name ws ts none (rw (← e) i) (rw (← e) j))
 
-        pub store_whole : {r : Result LoadedChunk Refusal} {ws' ts' : List ℕ} → m.text ≤ k → LoadsChunk bs (take m.words ws) (take m.text ts) r ws' ts'
-            → undump_left m (ws' ++ drop m.words ws) (ts' ++ drop m.text ts) ≡ stored bs name need_words need_text need_read ws ts
-        store_whole {r} {ws'} {ts'} j d =
-            let q : m ≡ (undumped bs name ws ts).answer = e ∙ sym (enough bs name ws ts none (rw (← e) (omega arith)) (rw (← e) (omega arith))) in
-            ap (λ (a : Undumped). undump_left a (ws' ++ drop m.words ws) (ts' ++ drop m.text ts)) q ∙ left bs ws ts r ws' ts' m.words m.text (omega arith) (omega arith) name d none (rw e) (rw e) ∙ sym as_measured_law
+      pub store_whole : {r : Result LoadedChunk Refusal} {ws' ts' : List ℕ} → m.needs.text ≤ min (length ts) most → LoadsChunk bs (take m.needs.words ws) (take m.needs.text ts) r ws' ts'
+          → undump_left (undumped_result (Ok m)) (ws' ++ drop m.needs.words ws) (ts' ++ drop m.needs.text ts) ≡ stored bs name needs.words needs.text needs.read ws ts
+      store_whole {r} {ws'} {ts'} j d =
+          let q : undumped_result (Ok m) ≡ (undumped bs name ws ts).answer = e ∙ sym (enough bs name ws ts none (rw (← e) i) (rw (← e) j)) in
+          ap (λ (a : Undumped). undump_left a (ws' ++ drop m.needs.words ws) (ts' ++ drop m.needs.text ts)) q ∙ left bs ws ts r ws' ts' m.needs.words m.needs.text i j name d none (ap (λ (u : Undumped). u.words) e) (ap (λ (u : Undumped). u.text) e) ∙ sym as_measured_law

@@ -1,10 +1,10 @@
 -- Where reading begins, a whole chunk loaded, and what a call leaves.
-use Rattle.std.specs.Prelude.{ℕ, ◌≡◌, List, drop, Result, IfOk}
+use Rattle.std.specs.Prelude.{ℕ, ◌≡◌, List, Result}
 use Rattle.format.specs.Store.{function_piece}
-use Rattle.format.specs.Undump.{load_chunk, undumped_result, measured, UndumpLeft}
+use Rattle.format.specs.Undump.{load_chunk, UndumpLeft}
 use Rattle.format.specs.declared.Undumped.{Undumped}
 use Rattle.format.specs.declared.Refusal.{Refusal}
-use Rattle.load_state.specs.ReadAt.{Ends}
+use Rattle.load_state.specs.ReadAt.{ReadsBy}
 use Rattle.load.specs.Loads.{Space, Does}
 use Rattle.undump.specs.declared.LoadedChunk.{LoadedChunk}
 
@@ -21,13 +21,8 @@ abbrev pub used : LoadedChunk → List ℕ → List ℕ → Space
 used c ws ts = record { words_at = c.words; text_at = c.text; words = ws; text = ts }
 
 -- a whole chunk was read, and its tree stored
-pub record LoadsChunk (bs ws ts : List ℕ) (r : Result LoadedChunk Refusal) (ws' ts' : List ℕ) : Type 0 where
-  pub ends : Ends (load_chunk bs) (λ x rest c. (rest ≡ drop c.next bs) × ((x.size4 ≡ c.size_4) × Does (function_piece x.root) (unused ws ts) (used c ws' ts'))) r
-
--- what measuring a chunk gives: what is answered of it, with refusal 0 where it is not refused
-pub record Measures (bs name : List ℕ) (r : Result Undumped Refusal) : Type 0 where
-  pub answers : undumped_result r ≡ measured bs name
-  pub accepted : IfOk r (λ m. m.refusal ≡ 0)
+abbrev pub LoadsChunk : (bs ws ts : List ℕ) → Result LoadedChunk Refusal → (ws' ts' : List ℕ) → Type 0
+LoadsChunk bs ws ts r ws' ts' = ReadsBy bs load_chunk (λ x c. (x.size4 ≡ c.size_4) × Does (function_piece x.root) (unused ws ts) (used c ws' ts')) (λ c. c.next) beginning r
 
 -- an answer, with what stands in lent memory
 abbrev pub undump_left : Undumped → List ℕ → List ℕ → UndumpLeft

@@ -1,7 +1,7 @@
 // The header of a chunk.
 ghost use Rattle.format.specs.Read.{load_exactly, load_format, load_header};
 ghost use Rattle.format.specs.Refusal.{number};
-ghost use Rattle.load_state.specs.ReadAt.{ReadsBy, ReadAt};
+ghost use Rattle.load_state.specs.ReadAt.{ReadsByFrom, ReadFrom, ReadAt};
 ghost use Rattle.undump.specs.Undump.{beginning};
 
 use format::Refusal;
@@ -16,7 +16,7 @@ const SIZES_OF_8: &[u8] = b"\x51\x00\x01\x04\x08\x04\x08\x00";
 // These bytes, else the refusal given. Answers the place behind them.
 #[tactic(auto, using(load::proofs::Steps::reads_refused_with, crate::proofs::Calls::exactly_others, crate::proofs::Calls::exactly_these))]
 fn load_exactly(s: LoadState, bytes: &[u8], other: Refusal) -> Result<usize, Refusal>
-    ensures { ReadsBy s.entry.chunk.now (load_exactly bytes.now (number other)) (λ v n. Unit {0}) (λ n. n) s.entry.pos result }
+    ensures { ReadsByFrom (load_exactly bytes.now (number other)) (λ v n. Unit {0}) (λ n. n) s.entry result }
 {
     let block = s.load_block(bytes.len())?;
     if block.value != bytes {
@@ -28,7 +28,7 @@ fn load_exactly(s: LoadState, bytes: &[u8], other: Refusal) -> Result<usize, Ref
 // The eight bytes behind the signature, in one of their two forms, else refusal 4: whether a size takes 4 bytes. By tests: a match on byte strings did not prove.
 #[tactic(auto, using(load::proofs::Steps::reads_refused_with, crate::proofs::Calls::format_of_4, crate::proofs::Calls::format_of_8, crate::proofs::Calls::format_other))]
 fn load_format(s: LoadState) -> Result<Got<bool>, Refusal>
-    ensures { ReadAt s.entry.chunk.now load_format s.entry.pos result }
+    ensures { ReadFrom load_format s.entry result }
 {
     let block = s.load_block(8)?;
     if block.value == SIZES_OF_4 {

@@ -5,10 +5,10 @@
 pub mod header;
 
 ghost use Rattle.std.specs.Prelude.{◌≡◌};
-ghost use Rattle.format.specs.Undump.{undumped_result, measured, as_measured, stored};
-ghost use Rattle.undump.specs.Undump.{LoadsChunk, Measures, undump_left};
+ghost use Rattle.format.specs.Undump.{undumped_result, measured, stored};
+ghost use Rattle.undump.specs.Undump.{LoadsChunk, undump_left};
 
-use format::{DEPTH, MOST, Refusal, Undumped, check_name, width};
+use format::{DEPTH, MOST, MeasuredChunk, Needs, Refusal, Undumped, check_name, width};
 use header::load_header;
 use load::Loader;
 use load::cursor::ChunkReader;
@@ -18,7 +18,8 @@ use load_state::LoadState;
 // What measure answers of words or text bytes that are above the limit.
 const ABOVE: usize = MOST + 1;
 
-// A chunk that was loaded: whether its sizes take 4 bytes, the words and the text bytes of its tree, and the place behind it.
+// A chunk that was loaded: whether its sizes take 4 bytes, the words and the text bytes of its tree, and the place behind it. No MeasuredChunk: its numbers
+// stop at no limit.
 #[derive(Clone, Copy)]
 pub struct LoadedChunk {
     pub size_4: bool,
@@ -28,7 +29,7 @@ pub struct LoadedChunk {
 }
 
 // The header, then the root function, whose tree goes to the words and the text (luaU_undump). They are lent to be written, where a Store is of what is read.
-#[tactic(auto, using(crate::proofs::Calls::header_refused, crate::proofs::Calls::chunk_loaded))]
+#[tactic(auto, using(load::proofs::Steps::reads_then, load::proofs::Steps::reads_refused_with), unfolding(format::specs::Undump::load_chunk))]
 fn load_chunk(chunk: &[u8], words: &mut [u32], text: &mut [u8]) -> Result<LoadedChunk, Refusal>
     ensures { LoadsChunk chunk.now words.old text.old result words.new text.new }
 {
@@ -57,20 +58,21 @@ fn load_chunk(chunk: &[u8], words: &mut [u32], text: &mut [u8]) -> Result<Loaded
 }
 
 // The chunk is loaded with no space, which counts and finds what refuses it.
-#[tactic(auto, using(crate::proofs::Calls::measures_refused, crate::proofs::Calls::measure_whole))]
-fn load_measured(chunk: &[u8], name: &[u8]) -> Result<Undumped, Refusal>
-    ensures { Measures chunk.now name.now result }
+#[tactic(auto, using(std::proofs::lemmas::Result::err_from_is_err_and, crate::proofs::Calls::name_refused, crate::proofs::Calls::measures_refused, crate::proofs::Calls::measure_whole))]
+fn load_measured(chunk: &[u8], name: &[u8]) -> Result<MeasuredChunk, Refusal>
+    ensures { undumped_result result ≡ measured chunk.now name.now }
 {
     check_name(name)?;
     let mut no_words = [0u32; 0];
     let mut no_text = [0u8; 0];
     let c = load_chunk(chunk, &mut no_words, &mut no_text)?;
-    Ok(Undumped {
-        refusal: 0,
+    Ok(MeasuredChunk {
         width: u32::from(width(c.size_4)),
-        words: c.words.min(ABOVE),
-        text: c.text.min(ABOVE),
-        read: c.next.min(chunk.len()),
+        needs: Needs {
+            words: c.words.min(ABOVE),
+            text: c.text.min(ABOVE),
+            read: c.next.min(chunk.len()),
+        },
     })
 }
 
@@ -81,38 +83,33 @@ pub fn measure(chunk: &[u8], name: &[u8]) -> Undumped
     Undumped::from(load_measured(chunk, name))
 }
 
-// Whether three numbers, as C hands them over, are those that measure answered.
-fn as_measured(m: Undumped, need_words: usize, need_text: usize, need_read: usize) -> bool
-    ensures { result ≡ as_measured m need_words need_text need_read }
-{
-    need_words == m.words && need_text == m.text && need_read == m.read
-}
-
-// Measures a chunk again, and where the numbers that were handed over are the same and all fits, loads it into the space. Refused by 1, 2 to 7, 15, 8, 9.
-#[tactic(auto, using(crate::proofs::Calls::refused_other, crate::proofs::Calls::refused_words, crate::proofs::Calls::refused_text))]
+// Measures a chunk again, and where it needs what was handed over and all fits, loads it into the space. Refused by 1, 2 to 7, 15, 8, 9.
+#[tactic(auto, using(std::proofs::lemmas::Result::err_from_is_err_and, crate::proofs::Calls::refused_as, crate::proofs::Calls::refused_other, crate::proofs::Calls::refused_words, crate::proofs::Calls::refused_text, crate::proofs::Calls::store_whole))]
 fn store_measured(
     chunk: &[u8],
     name: &[u8],
-    need_words: usize,
-    need_text: usize,
-    need_read: usize,
+    needs: Needs,
     words: &mut [u32],
     text: &mut [u8],
-) -> Result<Undumped, Refusal>
-    ensures { undump_left (undumped_result result) words.new text.new ≡ stored chunk.now name.now need_words need_text need_read words.old text.old }
+) -> Result<MeasuredChunk, Refusal>
+    ensures { undump_left (undumped_result result) words.new text.new ≡ stored chunk.now name.now needs.words needs.text needs.read words.old text.old }
 {
     let m = load_measured(chunk, name)?;
-    if !as_measured(m, need_words, need_text, need_read) {
+    if needs != m.needs {
         return Err(Refusal::NotAsMeasured);
     }
-    if words.len().min(MOST) < m.words {
+    if words.len().min(MOST) < m.needs.words {
         return Err(Refusal::TooFewWords);
     }
-    if text.len().min(MOST) < m.text {
+    if text.len().min(MOST) < m.needs.text {
         return Err(Refusal::TooLittleText);
     }
     // Measured so, it is not refused here.
-    let _ = load_chunk(chunk, &mut words[..m.words], &mut text[..m.text]);
+    let _ = load_chunk(
+        chunk,
+        &mut words[..m.needs.words],
+        &mut text[..m.needs.text],
+    );
     Ok(m)
 }
 
@@ -128,5 +125,10 @@ pub fn store(
 ) -> Undumped
     ensures { undump_left result words.new text.new ≡ stored chunk.now name.now need_words need_text need_read words.old text.old }
 {
-    Undumped::from(store_measured(chunk, name, need_words, need_text, need_read, words, text))
+    let needs = Needs {
+        words: need_words,
+        text: need_text,
+        read: need_read,
+    };
+    Undumped::from(store_measured(chunk, name, needs, words, text))
 }

@@ -1,6 +1,6 @@
-// UTF-8: whether bytes are well-formed, and their repair. The functions go over bytes and a place: over a slice that begins at the place, text_end takes
-// 0.60 and not 0.42 million instructions for 60,000 bytes of sequences of two, 0.86 and not 0.70 of three, 1.34 and not 1.17 of four, 0.99 and not 0.90 of
-// damaged text. That the place lies within the bytes is asked for in each: a struct that held it would be built anew at each step, and the bound proved again.
+// UTF-8: whether bytes are well-formed, and their repair. The functions go over bytes and a place: over a slice that begins at the place the test of validity
+// takes 1.1 to 1.4 times as many instructions. The bar, here and below, is that of steps (docs/PERFORMANCE.md). That the place lies within the bytes is asked
+// for in each: a struct that held both would be built anew at each step, and the bound proved again.
 #![tactic(auto)]
 
 ghost use Rattle.std.specs.Prelude.{◌+◌, ◌≤◌, ◌<◌, ◌≡◌, true, length, drop};
@@ -19,7 +19,7 @@ fn in_range(bytes: &[u8], at: usize, low: u8, high: u8) -> bool
     at < bytes.len() && (low..=high).contains(&bytes[at])
 }
 
-// The least second byte behind a lead byte. A pair of both from one match made 60,000 bytes of sequences of three slower, 163 and not 72 microseconds.
+// The least second byte behind a lead byte. Tried: a pair of both from one match. 60,000 bytes of sequences of three took 163 microseconds and not 72.
 fn second_low(b: u8) -> u8
     ensures { result ≡ second_low b }
 {
@@ -41,8 +41,8 @@ fn second_high(b: u8) -> u8
     }
 }
 
-// How many bytes the row of a lead byte has, 0 where it leads none, as the definition has it. An Option made 60,000 bytes of sequences of four slower
-// to test and repair, 148 and not 111 microseconds.
+// How many bytes the row of a lead byte has, 0 where it leads none, as the definition has it. Tried: an Option. 60,000 bytes of sequences of
+// four took 148 microseconds to test and repair and not 111.
 #[tactic(auto, unfolding(crate::specs::Rows::row_of))]
 fn row_len(b: u8) -> usize
     ensures { result ≡ length (row_of table3_7 b) }
@@ -119,8 +119,8 @@ fn ascii_blocks(bytes: &[u8], at: usize) -> usize
     i
 }
 
-// The end of the ASCII at a place. By index: with position over the slice behind the blocks 60,000 bytes of ASCII took 24,568 and not 22,692 instructions,
-// and ASCII with some sequences of three 617,799 and not 581,671.
+// The end of the ASCII at a place. Tried: position over the slice behind the blocks. 60,000 bytes of ASCII took 24,568 instructions and not 22,692, and ASCII
+// with some sequences of three 617,799 and not 581,671.
 #[tactic(auto, using(crate::proofs::Texts::text_byte, crate::proofs::Texts::text_join))]
 fn ascii_end(bytes: &[u8], at: usize) -> usize
     requires { at ≤ length bytes.now }
@@ -159,8 +159,8 @@ fn text_end(bytes: &[u8], at: usize) -> usize
     i
 }
 
-// Whether bytes are well-formed UTF-8. Tried: std's from_utf8. For 60,000 bytes of sequences of two it takes 0.81 and not 0.42 million instructions, 0.86 and
-// not 0.70 of three (0.68 and not 1.17 of four, 0.01 and not 0.02 of ASCII).
+// Whether bytes are well-formed UTF-8. Tried: std's from_utf8. 60,000 bytes of sequences of two take 0.81 and not 0.42 million instructions, those
+// of three 0.86 and not 0.70 (those of four 0.68 and not 1.17, ASCII 0.01 and not 0.02).
 #[tactic(auto, using(crate::proofs::Texts::text_whole))]
 pub fn is_utf8(bytes: &[u8]) -> bool
     ensures { result ≡ is_utf8 bytes.now }
@@ -168,8 +168,8 @@ pub fn is_utf8(bytes: &[u8]) -> bool
     text_end(bytes, 0) == bytes.len()
 }
 
-// Writes bytes, each maximal subpart of an ill-formed subsequence replaced by U+FFFD. Not by std's utf8_chunks: it was slower for sequences of two and of three,
-// as from_utf8 is in is_utf8, and the step of repair is to be by the rows of the standard, a rule of the project.
+// Writes bytes, each maximal subpart of an ill-formed subsequence replaced by U+FFFD. Tried: std's utf8_chunks. Sequences of two take twice as many
+// instructions, those of three a fifth more. And the step of repair is to be by the rows of the standard, a rule of the project.
 fn put_steps(w: &mut Writer, bytes: &[u8])
     ensures { Writes (repaired bytes.now) w.old w.new }
 {

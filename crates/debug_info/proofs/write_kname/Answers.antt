@@ -1,4 +1,5 @@
 -- Not refused, the function stands at its place, and so do its constants.
+-- Tried by an attribute with these laws: returns stays open.
 use Rattle.lent.proofs.Prelude.{ap, ◌∙◌}
 use Rattle.format.specs.Tree.{parts_of}
 use Rattle.format.specs.Dump.{write_refused, written}

@@ -1,4 +1,5 @@
 -- Not refused, the function stands at its place, and so do its locals.
+-- Tried by an attribute with these laws: returns stays open, as the search gives up at a limit.
 use Rattle.lent.proofs.Prelude.{ap, ◌∙◌}
 use Rattle.format.specs.Tree.{parts_of}
 use Rattle.debug_info.specs.Names.{get_local_name}

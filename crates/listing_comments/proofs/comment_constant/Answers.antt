@@ -1,4 +1,5 @@
 -- The beginning of a comment, then the constant.
+-- Tried by an attribute with these laws: it stays open.
 use Rattle.listing_operands.proofs.ShownLists.{shows_put, shows_then}
 use Rattle.listing_comments.proofs.comment_constant.Goals as goal
 

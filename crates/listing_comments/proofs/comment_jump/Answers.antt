@@ -1,4 +1,5 @@
 -- The beginning of a comment, then the sum less MAXARG_sBx; nothing wraps at 64 bits.
+-- Tried by an attribute with these laws: it stays open.
 use Rattle.lent.proofs.Writers.{writes_then}
 use Rattle.listing_comments.proofs.comment_jump.Goals as goal
 

@@ -1,4 +1,5 @@
 -- The parts one after the other, where b or c is a constant.
+-- Tried by an attribute with these laws: it stays open.
 use Rattle.std.proofs.Math.Bool.{or-true}
 use Rattle.lent.proofs.Prelude.{sym, ◌∙◌}
 use Rattle.listing_operands.proofs.ShownLists.{shows_put, shows_then, shows_is}

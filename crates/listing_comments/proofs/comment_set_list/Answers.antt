@@ -1,4 +1,5 @@
 -- C is not 0, or the word behind is past the count, or it stands there.
+-- Tried by an attribute with these laws: both stay open.
 use Rattle.lent.proofs.Prelude.{arith, sym, eq-eqb, ltb-true, ◌+◌}
 use Rattle.proto.proofs.Items.{item_past}
 use Rattle.listing_operands.proofs.ShownLists.{shows_ints, got_some}

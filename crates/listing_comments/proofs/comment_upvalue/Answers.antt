@@ -1,4 +1,5 @@
 -- There is no such name, or it stands there.
+-- Tried by an attribute with these laws: both stay open.
 use Rattle.lent.proofs.Prelude.{none, some}
 use Rattle.format.specs.Store.{string}
 use Rattle.listing_comments.specs.Comment.{upvalue_text}

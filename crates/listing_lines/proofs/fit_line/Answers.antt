@@ -1,4 +1,5 @@
 -- The line is known, or not.
+-- Tried by an attribute with these laws: it stays open.
 use Rattle.lent.proofs.Prelude.{arith}
 use Rattle.listing_operands.proofs.Fits.{fits_then, fits_more}
 use Rattle.listing_lines.proofs.fit_line.Goals as goal

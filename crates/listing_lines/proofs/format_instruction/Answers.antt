@@ -1,4 +1,5 @@
 -- The parts one after the other, the list of lines standing where lists says.
+-- Tried by an attribute with these laws: it stays open.
 use Rattle.lent.proofs.Writers.{writes_then}
 use Rattle.listing_lines.specs.Line.{format_instruction}
 use Rattle.listing_lines.proofs.format_instruction.Goals as goal

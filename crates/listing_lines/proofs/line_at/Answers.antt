@@ -1,4 +1,5 @@
 -- It is got from the words that stand there.
+-- Tried by an attribute with these laws: it stays open.
 use Rattle.listing_operands.proofs.ShownLists.{got_copied}
 use Rattle.listing_lines.proofs.line_at.Goals as goal
 

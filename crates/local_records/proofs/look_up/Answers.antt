@@ -1,4 +1,5 @@
 -- Refused before the records are filled, or they are filled, searched, and the name is written.
+-- Tried by an attribute with this law: returns stays open.
 use Rattle.local_records.proofs.Lookup.{in_answered}
 use Rattle.local_records.proofs.look_up.Goals as goal
 

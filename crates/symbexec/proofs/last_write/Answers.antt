@@ -1,4 +1,5 @@
 -- The walk begins at the first instruction, goes on by one, and is over at lastpc.
+-- Tried by an attribute with these laws, all or some: each search gives up at a limit.
 use Rattle.lent.proofs.Prelude.{rules}
 use Rattle.symbexec.proofs.Steps.{trace_start, trace_turn, trace_end}
 use Rattle.symbexec.proofs.last_write.Goals as goal

@@ -1,4 +1,5 @@
 -- The instruction at the pc that the search gives.
+-- Tried by an attribute that unfolds symbexec: returns stays open, as the search gives up at a limit.
 use Rattle.lent.proofs.Prelude.{◌∙◌}
 use Rattle.symbexec.specs.SymbExec.{symbexec}
 use Rattle.symbexec.proofs.symbexec_at.Goals as goal

@@ -11,16 +11,10 @@ pub returns-then-bytes-end : goal.returns-then-bytes-end
 returns-then-bytes-end c = search (rules, left_end, repair_none, left_put, repair_text)
 
 pub overflow_add-i : goal.overflow_add-i
-overflow_add-i c = elim c.match-step_at.branch [
-  | in-Ok w ↦ omega (arith, step_most c.args.bytes.now c.text_end-end.result w.in-Ok.ensures, w.n-is)
-  | in-Ok-2 w ↦ omega (arith, step_most c.args.bytes.now c.text_end-end.result w.in-Ok.ensures, w.n-is)
-]
+overflow_add-i c = grind (arith, step_most c.args.bytes.now c.text_end-end.result)
 
 pub loop-i-smaller : goal.loop-i-smaller
-loop-i-smaller c = elim c.match-step_at.branch [
-  | in-Ok w ↦ omega (arith, step_least c.args.bytes.now c.text_end-end.result w.in-Ok.ensures, step_most c.args.bytes.now c.text_end-end.result w.in-Ok.ensures, w.n-is)
-  | in-Ok-2 w ↦ omega (arith, step_least c.args.bytes.now c.text_end-end.result w.in-Ok.ensures, step_most c.args.bytes.now c.text_end-end.result w.in-Ok.ensures, w.n-is)
-]
+loop-i-smaller c = grind (arith, step_least c.args.bytes.now c.text_end-end.result, step_most c.args.bytes.now c.text_end-end.result)
 
 pub loop-i-preserved : goal.loop-i-preserved
 loop-i-preserved c = elim c.match-step_at.branch [

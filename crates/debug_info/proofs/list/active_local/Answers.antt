@@ -1,16 +1,13 @@
--- By what a local tells: the search is over, or it is this one, or it goes on behind it.
--- Tried by an attribute: all but the one that is found stay open, as the search gives up at a limit.
-use Rattle.debug_info.proofs.Lists.{ends_over, ends_nothing, ends_found, goes_on}
+-- By what a local tells: the search breaks, or it goes on behind it.
+-- Tried by an attribute with these laws: all but returns-in-Break stay open.
+use Rattle.debug_info.proofs.Lists.{ends_over, ends_found, goes_on}
 use Rattle.debug_info.proofs.list.active_local.Goals as goal
 
-pub returns-in-Nothing : goal.returns-in-Nothing
-returns-in-Nothing c = search (ends_nothing, c.in-Nothing.ensures)
-
-pub returns-in-Found : goal.returns-in-Found
-returns-in-Found c = search (ends_found, c.in-Found.ensures)
+pub returns-in-Break : goal.returns-in-Break
+returns-in-Break c = search (ends_found, c.in-Break.ensures)
 
 pub loop-i-preserved : goal.loop-i-preserved
-loop-i-preserved c = search (goes_on, c.in-Left.ensures)
+loop-i-preserved c = search (goes_on, c.in-Continue.ensures)
 
 pub returns : goal.returns
 returns c = search ends_over

@@ -1,4 +1,5 @@
 -- By the mark, and then by the constant.
+-- Tried by the attribute that unfolds kname alone: returns stays open, as the search gives up at a limit.
 use Rattle.lent.proofs.Prelude.{sym, ◌∙◌}
 use Rattle.debug_info.specs.Names.{kname}
 use Rattle.debug_info.proofs.list.operand_name.Goals as goal

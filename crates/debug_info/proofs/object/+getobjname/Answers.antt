@@ -11,7 +11,7 @@ pub returns-then-is_some : goal.returns-then-is_some
 returns-then-is_some t c = search search_local
 
 pub getobjname-requires : goal.getobjname-requires
-getobjname-requires t c = (omega (arith, marked c.args.before c.args.reg (omega (arith, c.ranges.reg)) c.if-before-n.false, c.decreases), tt)
+getobjname-requires t c = (omega (arith, marked c.args.before c.from-n.result (omega (arith, c.ranges.reg)) c.if-before-n.false, c.decreases), tt)
 
 pub overflow_cast-b : goal.overflow_cast-b
 overflow_cast-b t c = record { fits = rw c.b.ensures (moves_below _ (sym c.moves_up.ensures ∙ c.if-moves_up.true)) }

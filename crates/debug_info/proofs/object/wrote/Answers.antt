@@ -1,4 +1,5 @@
 -- Each arm is a line of the definition.
+-- Tried by the attribute that unfolds wrote alone: these four stay open.
 use Rattle.lent.proofs.Prelude.{sym, ◌∙◌}
 use Rattle.debug_info.specs.Names.{wrote}
 use Rattle.debug_info.proofs.object.wrote.Goals as goal

@@ -1,4 +1,5 @@
 -- All fit, or one is cut.
+-- Tried by an attribute with these laws: `returns` stays open.
 use Rattle.lent.proofs.Prelude.{◌+◌, ◌-◌, ◌*◌, refl, arith}
 use Rattle.dump.proofs.Blocks.{ints_part, ints_put, ints_cut}
 use Rattle.dump.proofs.block.dump_ints.Goals as goal

@@ -1,4 +1,5 @@
 -- There is no such constant, or there is.
+-- Tried by an attribute with this law: both goals stay open.
 use Rattle.lent.proofs.Prelude.{none, some, not, eqb}
 use Rattle.format.specs.Store.{constant_piece}
 use Rattle.format.specs.Constants.{value_of}

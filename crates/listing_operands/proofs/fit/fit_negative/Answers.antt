@@ -1,4 +1,5 @@
 -- The sign, then the number.
+-- Tried by an attribute with these laws: it stays open.
 use Rattle.listing_operands.proofs.Fits.{fits_then}
 use Rattle.listing_operands.proofs.fit.fit_negative.Goals as goal
 

@@ -1,4 +1,5 @@
 -- The parts one after the other.
+-- Tried by an attribute with these laws: it stays open.
 use Rattle.listing_operands.proofs.Fits.{fits_then}
 use Rattle.listing_operands.proofs.operand.fit_abc.Goals as goal
 

@@ -1,4 +1,5 @@
 -- A space, then the operand.
+-- Tried by an attribute with these laws: it stays open.
 use Rattle.lent.proofs.Prelude.{◌≡◌, false, rules}
 use Rattle.listing_operands.specs.Operands.{is_n}
 use Rattle.listing_operands.proofs.Fits.{fits_then}

@@ -1,4 +1,5 @@
 -- JMP has no A, the others have.
+-- Tried by an attribute with these laws: it stays open.
 use Rattle.lent.proofs.Prelude.{ne_eqb}
 use Rattle.listing_operands.proofs.Fits.{fits_then}
 use Rattle.listing_operands.proofs.operand.fit_asbx.Goals as goal

@@ -1,9 +1,8 @@
 -- The functions stand behind the constants.
 -- Tried by an attribute: `returns` stays open, as grind takes no premise that is a promise for every tree, here of constants_at.
-use Rattle.format.specs.Store.{constant_piece}
-use Rattle.proto.proofs.Pieces.{constant_words_law}
+use Rattle.format.specs.contracts.ConstantsStoredItem.TheImpl.{ghosts as Constants}
 use Rattle.proto.proofs.Walks.{past_then, past_list}
 use Rattle.proto.proofs.walk.functions_at.Goals as goal
 
 pub returns : goal.returns
-returns c p fs = past_then (c.constants_at.ensures p fs) (past_list constant_piece 3 constant_words_law p.constants c.after_list.ensures)
+returns c p fs = past_then (c.constants_at.ensures p fs) (past_list Constants p.constants c.after_list.ensures)

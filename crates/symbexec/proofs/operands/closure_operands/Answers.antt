@@ -1,4 +1,5 @@
 -- Past the count there is no such function; before it, the head of the function found has its upvalues.
+-- Tried by an attribute with these laws, the code by match, by let else and by map_or: both stay open.
 use Rattle.symbexec.proofs.Upvalues.{behind_none, behind_child}
 use Rattle.symbexec.proofs.operands.closure_operands.Goals as goal
 

@@ -1,4 +1,5 @@
 -- Three pieces one behind the other.
+-- Tried by an attribute with this law: `returns` stays open.
 use Rattle.dump.proofs.Steps.{dumps_three}
 use Rattle.dump.proofs.list.Dumper.dump_local.Goals as goal
 

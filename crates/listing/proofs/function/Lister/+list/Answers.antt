@@ -1,4 +1,5 @@
 -- A turn lists one of the functions in this one and keeps the store. Behind the last, the function is listed: itself, those in it, and the place behind.
+-- Tried by an attribute with these laws: both stay open.
 use Rattle.lent.proofs.Prelude.{arith, suc, ◌-◌, ◌≡◌, ◌∙◌}
 use Rattle.format.proofs.Loops.{loop_turn, loop_end}
 use Rattle.listing.proofs.Listers.{lists_none, lists_more, lists_function}

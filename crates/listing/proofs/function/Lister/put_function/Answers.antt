@@ -1,4 +1,5 @@
 -- The lists of the function stand where Way says.
+-- Tried by an attribute with these laws: it stays open.
 use Rattle.lent.proofs.Writers.{writes_then}
 use Rattle.proto.proofs.ListPlaces.{lists_stand}
 use Rattle.listing.proofs.function.Lister.put_function.Goals as goal

@@ -1,4 +1,5 @@
 -- The lists one after the other, or nothing.
+-- Tried by an attribute with these laws: it stays open.
 use Rattle.lent.proofs.Writers.{writes_then}
 use Rattle.listing.proofs.function.Lister.put_lists.Goals as goal
 

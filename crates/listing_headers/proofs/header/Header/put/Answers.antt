@@ -1,4 +1,5 @@
 -- Line one, then line two.
+-- Tried by an attribute with these laws: it stays open.
 use Rattle.lent.proofs.Writers.{writes_then}
 use Rattle.listing_headers.proofs.header.Header.put.Goals as goal
 

@@ -1,4 +1,5 @@
 -- The numbers are those of the head, and the count of the code stands before it.
+-- Tried by an attribute with these laws: it stays open.
 use Rattle.lent.proofs.Prelude.{ap, ◌∙◌}
 use Rattle.lent.proofs.Writers.{writes_then}
 use Rattle.proto.specs.declared.head.Head.{Head}

@@ -1,4 +1,5 @@
 -- The index, the constant that stands there, a newline.
+-- Tried by an attribute with these laws: it stays open.
 use Rattle.lent.proofs.Prelude.{some, false}
 use Rattle.listing_operands.specs.Operands.{constant_text}
 use Rattle.listing_operands.proofs.ShownLists.{shows_put, shows_then, constant_shown}

@@ -1,4 +1,5 @@
 -- What is read of the local that stands there is the local.
+-- Tried by an attribute with these laws: it stays open.
 use Rattle.lent.proofs.Writers.{writes_then}
 use Rattle.listing_headers.proofs.list.LocalsItem.put_line.Goals as goal
 

@@ -1,4 +1,5 @@
 -- The index, the name that stands there, a newline.
+-- Tried by an attribute with these laws: it stays open.
 use Rattle.listing_operands.proofs.ShownLists.{shows_put, shows_then, string_shown}
 use Rattle.listing_headers.proofs.list.NamesItem.put_line.Goals as goal
 

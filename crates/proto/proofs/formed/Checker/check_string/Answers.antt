@@ -12,4 +12,4 @@ returns-then-place-s c = string_bad c.in_ok-get.ensures.lookup.0 c.in-len2-up.le
 ])
 
 pub returns : goal.returns
-returns c = string_good c.in_ok-get.ensures.lookup.0 c.in-len2-up.len_at_least c.args.self.text_fits c.if-place-s.false (c.is_within.ensures.is c.if-not-is_within.false)
+returns c = string_good c.in_ok-get.ensures.lookup.0 c.in-len2-up.len_at_least c.args.self.store.text_fits c.if-place-s.false (c.is_within.ensures.is c.if-not-is_within.false)

@@ -5,4 +5,4 @@ use Rattle.proto.proofs.Stores.{passed_0}
 use Rattle.proto.proofs.store.Store.check_held.Goals as goal
 
 pub returns-then-eq : goal.returns-then-eq
-returns-then-eq c = passed_0 (rw (c.new.ensures.words, c.new.ensures.text) at c.check_function.ensures) _ (λ x y. refl) c.eq.ensures (omega (arith, c.if-max-gt-MOST.false, c.max.ensures)) (omega (arith, c.if-max-gt-MOST.false, c.max.ensures)) c.if-eq.true
+returns-then-eq c = passed_0 (rw c.new.ensures at c.check_function.ensures) _ (λ x y. refl) c.eq.ensures (omega (arith, c.if-max-gt-MOST.false, c.max.ensures)) (omega (arith, c.if-max-gt-MOST.false, c.max.ensures)) c.if-eq.true
