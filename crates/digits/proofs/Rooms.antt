@@ -1,5 +1,5 @@
 -- Laws of writing where there is room, and of how much is needed.
-use Rattle.lent.proofs.Prelude.{ℕ, ◌+◌, ◌*◌, ◌^◌, ◌≤◌, min, max, ◌<◌, ◌≡◌, sym, ◌∙◌, List, ◌++◌, arith, length, take, drop, sets, sets-eq, take_at}
+use Rattle.lent.proofs.Prelude.{ℕ, ◌+◌, ◌-◌, ◌*◌, ◌^◌, ◌≤◌, min, max, ◌<◌, ◌≡◌, sym, ◌∙◌, List, ◌++◌, arith, length, take, drop, sets, sets-eq, take_at}
 use Rattle.lent.specs.Memory.{Puts, far}
 use Rattle.lent.specs.Writer.{Writes}
 use Rattle.lent.specs.declared.Writer.{Writer}
@@ -40,6 +40,10 @@ fit_written p h k =
 -- what was stored at the start of a buffer
 pub stored : (items out : List ℕ) (n : ℕ) → length items ≡ n → n ≤ length out → take n (sets out 0 items) ≡ items
 stored items out n e h = rw (sets-eq items out 0 (omega arith)) (take_at items (drop (0 + length items) out) n e)
+
+-- bytes that fit, so that no place stops
+pub writes_room : {items : List ℕ} {w w' : Writer} → w'.out.ghost_name ≡ w.out.ghost_name → w'.at ≡ w.at + length items → w.at < length w.out.now → length items ≤ length w.out.now - w.at → w'.out.now ≡ sets w.out.now w.at items → Writes items w w'
+writes_room n p h r q = record { same = n; puts = record { puts = λ i k. (omega arith, q) } }
 
 -- digits past the end are only counted
 pub digits_lost : (base k n : ℕ) {w w' : Writer} → w'.out.ghost_name ≡ w.out.ghost_name → w'.at ≡ min (w.at + k) far → length w.out.now ≤ w.at → w'.out.now ≡ w.out.now → Writes (digits base k n) w w'
