@@ -1,7 +1,7 @@
 -- Writing to lent memory: one write, and writes one after the other.
 use borrow.Rule.Slice.PartMut.{put_mid}
 use Rattle.std.specs.Prelude.{Some}
-use Rattle.lent.proofs.Prelude.{ℕ, suc, ◌+◌, ◌-◌, ◌≤◌, ◌<◌, min, ◌≡◌, refl, sym, ap, ◌∙◌, List, [], ◌∷◌, ◌++◌, arith, dec_le, add-zero, zero-add, le-leb, length, take, drop, set, length-append, take-append-drop, sets, length-sets, set_out, sets-eq, take_all, length-take-le, drop-drop, append_assoc}
+use Rattle.lent.proofs.Prelude.{ℕ, suc, ◌+◌, ◌-◌, ◌≤◌, ◌<◌, min, ◌≡◌, refl, sym, ap, ◌∙◌, List, [], ◌∷◌, ◌++◌, arith, dec_le, add-zero, zero-add, le-leb, length, take, drop, set, length-append, take-append-drop, sets, length-sets, set_out, sets-eq, take_all, take-suc, length-take-le, drop-drop, drop_of_length-le, append_assoc, append-nil, add-one, get_or}
 use Rattle.lent.specs.Memory.{far, Puts}
 use Rattle.lent.specs.Whole.{PutsWhole}
 
@@ -21,6 +21,19 @@ sets_append (v ∷ a) l b i =
 -- a part of a slice is written over
 pub sets_part : {A : Type 0} {part : List A} (l items : List A) (i k : ℕ) → part ≡ items → k ≡ length items → i + k ≤ length l → put_mid i k l part ≡ sets l i items
 sets_part l items i k p e h = rw (p, sets-eq items l i (omega arith), append_assoc, e, drop-drop)
+
+-- ---- items copied one by one
+
+pub each_none : {A : Type 0} (l s : List A) → l ≡ sets l 0 (take 0 s)
+each_none l s = refl
+
+pub each_more : {A : Type 0} {m : List A} (l s : List A) (i : ℕ) (d : A) → i < length s → m ≡ sets l 0 (take i s) → set m i (get_or s i d) ≡ sets l 0 (take (i + 1) s)
+each_more l s i d h e =
+    let n : 0 + length (take i s) ≡ i = zero-add _ ∙ length-take-le i s (omega arith) in
+    rw (e, add-one i, take-suc s i d h) (rw n at (sets_append (take i s) l (get_or s i d ∷ []) 0))
+
+pub each_all : {A : Type 0} {m : List A} (l s : List A) (i : ℕ) → length s ≤ i → length s ≡ length l → m ≡ sets l 0 (take i s) → m ≡ s
+each_all l s i h n e = e ∙ rw (take_all i s h) (sets-eq s l 0 (omega arith) ∙ rw (drop_of_length-le l {i = 0 + length s} (omega arith)) (append-nil s))
 
 -- n items reach the end
 sets_take : {A : Type 0} (l s : List A) (i n : ℕ) → n ≤ length s → length l ≤ i + n → sets l i (take n s) ≡ sets l i s

@@ -27,6 +27,17 @@ fn copy_ends<T: Copy, const N: usize>(to: &mut [T], s: &[T])
     copy_block::<T, N>(&mut to[last..], &s[last..]);
 }
 
+// Items over as many, one by one: std's copy_from_slice is a call of memmove, which the archive for C would need from outside.
+#[tactic(auto, using(crate::proofs::Writes::each_none, crate::proofs::Writes::each_more, crate::proofs::Writes::each_all))]
+fn copy_each<T: Copy>(to: &mut [T], s: &[T])
+    requires { length s.now ≡ length to.old }
+    ensures { to.new ≡ s.now }
+{
+    for i in 0..s.len() {
+        to[i] = s[i];
+    }
+}
+
 // Items over as many. Few are moved at once, with no call that copies memory.
 pub fn copy<T: Copy>(to: &mut [T], s: &[T])
     requires { length s.now ≡ length to.old }
@@ -39,7 +50,7 @@ pub fn copy<T: Copy>(to: &mut [T], s: &[T])
         5..=8 => copy_ends::<T, 4>(to, s),
         9..=16 => copy_ends::<T, 8>(to, s),
         17..=32 => copy_ends::<T, 16>(to, s),
-        _ => to.copy_from_slice(s),
+        _ => copy_each(to, s),
     }
 }
 

@@ -3,7 +3,7 @@
 // for in each: a struct that held both would be built anew at each step, and the bound proved again.
 #![tactic(auto)]
 
-ghost use Rattle.std.specs.Prelude.{◌+◌, ◌≤◌, ◌<◌, ◌≡◌, true, length, drop};
+ghost use Rattle.std.specs.Prelude.{◌+◌, ◌≤◌, ◌<◌, ◌≡◌, true, length, take, drop};
 ghost use Rattle.lent.specs.Memory.{Puts};
 ghost use Rattle.lent.specs.Writer.{Writes};
 ghost use Rattle.utf8.specs.Utf8.{◌‥◌, table3_7, first_step, is_utf8, is_ascii, repair as repaired};
@@ -105,6 +105,20 @@ pub fn is_ascii(bytes: &[u8]) -> bool
     bytes.is_ascii()
 }
 
+// Whether the 32 bytes from a place on are ASCII, by the greatest of them. The loop has one way out, so that it becomes vector instructions. Tried: is_ascii,
+// which searches what is not all ASCII for the first byte that is not. Text with an accent here and there took 1.4 times as many instructions.
+#[tactic(auto, using(crate::proofs::Ascii::greatest_more))]
+fn is_ascii_block(bytes: &[u8], at: usize) -> bool
+    requires { at + 32 ≤ length bytes.now }
+    ensures { result ≡ is_ascii (take 32 (drop at bytes.now)) }
+{
+    let mut top: u8 = 0;
+    for i in 0..32 {
+        top = top.max(bytes[at + i]);
+    }
+    top < 0x80
+}
+
 // The end of the blocks of 32 bytes of ASCII at a place.
 #[tactic(auto, using(crate::proofs::Texts::text_none, crate::proofs::Texts::text_ascii, crate::proofs::Texts::text_join))]
 fn ascii_blocks(bytes: &[u8], at: usize) -> usize
@@ -113,7 +127,7 @@ fn ascii_blocks(bytes: &[u8], at: usize) -> usize
 {
     // Tried: at + 32 * bytes[at..].chunks_exact(32).take_while(..).count(). The proof did not close: it tells of the chunks by two iterators' steps.
     let mut i = at;
-    while 32 <= bytes.len() - i && is_ascii(&bytes[i..i + 32]) {
+    while 32 <= bytes.len() - i && is_ascii_block(bytes, i) {
         i += 32;
     }
     i
