@@ -1,12 +1,12 @@
 -- The bytes of integers, sizes and strings.
-use Rattle.lent.proofs.Prelude.{ℕ, zero, suc, ◌+◌, ◌-◌, ◌*◌, ◌^◌, ◌/◌, ◌%◌, ◌≤◌, ◌<◌, min, ◌≡◌, refl, sym, ap, ◌∙◌, List, [], ◌∷◌, ◌++◌, append_assoc, append-nil, Bool, true, false, arith, add-one, length, take, drop, get_or, sets, length-append, length-sets, take-suc, take_all, length-take-le, take-append-drop, sets-eq, drop_of_length-le, dec_lt}
+use Rattle.lent.proofs.Prelude.{ℕ, zero, suc, ◌+◌, ◌-◌, ◌*◌, ◌^◌, ◌/◌, ◌%◌, ◌≤◌, ◌<◌, min, ◌≡◌, refl, sym, ap, subst, ◌∙◌, List, [], ◌∷◌, ◌++◌, append_assoc, append-nil, Bool, true, false, arith, add-one, length, take, drop, get_or, set, sets, length-append, length-sets, take-suc, take_all, length-take-le, take-append-drop, sets-eq, drop_of_length-le, dec_lt}
 use Rattle.std.proofs.Math.Nat.{div-div-eq-div-mul}
 use Rattle.std.specs.Int.{to_le_bytes, bytes_low_first, byte_at}
 use native.Mathlib.Numerals.{unary_clauses}
 use mir.Syntax.{w32, w64}
 use borrow.Rule.Slice.PartMut.{put_mid}
 use Rattle.lent.specs.Memory.{far, Puts}
-use Rattle.lent.proofs.Writes.{sets_part, sets_past, sets_append, put_then}
+use Rattle.lent.proofs.Writes.{sets_part, sets_past, sets_append, put_stored, put_lost, put_then}
 use Rattle.format.specs.Read.{width_of}
 use Rattle.format.proofs.RoundTrip.{dumped_length}
 use Rattle.format.specs.Write.{dump_number, dump_int, dump_size, dump_text, dump_list, each}
@@ -60,10 +60,32 @@ size_length size4 n = dumped_length (width_of size4) n
 pub string_length : (size4 : Bool) (s : List ℕ) → length (dump_text size4 s) ≡ width_of size4 + length s + 1
 string_length size4 s = simp length-append (omega (arith, size_length size4 (length s + 1)))
 
-module _ {at a b r : ℕ} {out out₁ out₂ out' : List ℕ} where
-  -- a size, the bytes, a zero
-  pub string_put : (size4 : Bool) (s : List ℕ) → Puts (dump_size size4 (length s + 1)) at out a out₁ → Puts s a out₁ b out₂ → Puts (0 ∷ []) b out₂ r out' → Puts (dump_text size4 s) at out r out'
-  string_put size4 s p q t = put_then (put_then p q) t
+-- bytes, others and a zero, one behind the other
+pub ended_put : {at a b r : ℕ} {out out₁ out₂ out' : List ℕ} (x s : List ℕ) → Puts x at out a out₁ → Puts s a out₁ b out₂ → Puts (0 ∷ []) b out₂ r out' → Puts (x ++ s ++ (0 ∷ [])) at out r out'
+ended_put x s p q t = put_then (put_then p q) t
+
+-- the same, only counted
+pub ended_lost : {r : ℕ} (x s : List ℕ) (at : ℕ) → r ≡ min (at + (length x + length s + 1)) far → Puts (x ++ s ++ (0 ∷ [])) at [] r []
+ended_lost x s at e = put_lost (omega (arith, length-append (x ++ s) (0 ∷ []), length-append x s)) (omega arith) refl
+
+-- the same where all fit
+pub ended_fits : {start end : ℕ} {m₁ m₂ p : List ℕ} (out x s : List ℕ) (at k n : ℕ) → start ≡ at + length x → end ≡ start + length s → at + length x + length s < length out
+    → k ≡ length x → m₁ ≡ put_mid at k out x → p ≡ s → n ≡ length s → m₂ ≡ put_mid start n m₁ p → length out ≤ far → Puts (x ++ s ++ (0 ∷ [])) at out (end + 1) (set m₂ end 0)
+ended_fits {start} {end} {m₁} {m₂} out x s at k n a b room kx e ep ns f small =
+    let u : m₁ ≡ sets out at x = e ∙ sets_part out x at k refl kx (omega arith) in
+    let l : length m₁ ≡ length out = ap length u ∙ length-sets out at x in
+    let v : m₂ ≡ sets m₁ start s = f ∙ sets_part m₁ s start n ep ns (omega arith) in
+    let w : m₂ ≡ sets out at (x ++ s) = v ∙ rw (u, a) (sets_append x out s at) in
+    let z : end ≡ at + length (x ++ s) = omega (arith, length-append x s) in
+    put_stored (omega (arith, length-append (x ++ s) (0 ∷ []), length-append x s)) (rw (w, z) (sets_append (x ++ s) out (0 ∷ []) at))
+
+module _ {at r : ℕ} {out out' : List ℕ} (s : List ℕ) {size4 : Bool} where
+  -- a string behind its size
+  pub string_short : size4 ≡ true → Puts (to_le_bytes w32 ((length s + 1) % 4294967296) ++ s ++ (0 ∷ [])) at out r out' → Puts (dump_text size4 s) at out r out'
+  string_short e p = let n = length s + 1 in rw e (subst (λ (b : List ℕ). Puts (b ++ s ++ (0 ∷ [])) at out r out') (number_bytes 4 (n % 4294967296) ∙ low_four n) p)
+
+  pub string_long : size4 ≡ false → Puts (to_le_bytes w64 (length s + 1) ++ s ++ (0 ∷ [])) at out r out' → Puts (dump_text size4 s) at out r out'
+  string_long e p = rw e (subst (λ (b : List ℕ). Puts (b ++ s ++ (0 ∷ [])) at out r out') (number_bytes 8 (length s + 1)) p)
 
 -- a number of four bytes and w more: the low four are an integer
 pub number_int : (w n : ℕ) → dump_number (suc (suc (suc (suc w)))) n ≡ dump_int (n % 4294967296) ++ dump_number w (n / 4294967296)
@@ -82,8 +104,23 @@ number_halves low high l =
     let b : n / 4294967296 ≡ high = omega arith in
     number_int 4 n ∙ rw (a, b)
 
-pub num_put : {at a r : ℕ} {out out₁ out' : List ℕ} (low high : ℕ) → low < 4294967296 → Puts (3 ∷ []) at out a out₁ → Puts (to_le_bytes w64 (low + 4294967296 * high)) a out₁ r out' → Puts (3 ∷ dump_int low ++ dump_int high) at out r out'
-num_put low high l p q = put_then p (rw (number_bytes 8 (low + 4294967296 * high) ∙ number_halves low high l) at q)
+-- a byte and others, one behind the other
+pub tagged_put : {at a r : ℕ} {out out₁ out' : List ℕ} (tag : ℕ) (x : List ℕ) → Puts (tag ∷ []) at out a out₁ → Puts x a out₁ r out' → Puts (tag ∷ x) at out r out'
+tagged_put tag x p q = put_then p q
+
+-- the same where all fit
+pub tagged_fits : {start : ℕ} {m p : List ℕ} (out x : List ℕ) (at tag k n : ℕ) → start ≡ at + 1 → at + length x < length out → p ≡ x → k ≡ length x → n ≡ start + length x → m ≡ put_mid start k (set out at tag) p → length out ≤ far → Puts (tag ∷ x) at out n m
+tagged_fits {start} out x at tag k n s room e kx nx f small =
+    let l : length (set out at tag) ≡ length out = length-sets out at (tag ∷ []) in
+    let v = f ∙ sets_part (set out at tag) x start k e kx (omega arith) in
+    put_stored (omega arith) (v ∙ rw s (sets_append (tag ∷ []) out x at))
+
+-- two integers as a number of eight bytes, the first in its low half
+pub two_put : {at r : ℕ} {out out' : List ℕ} (low high : ℕ) → low < 4294967296 → Puts (to_le_bytes w64 (low + 4294967296 * high)) at out r out' → Puts (dump_int low ++ dump_int high) at out r out'
+two_put low high l p = rw (number_bytes 8 (low + 4294967296 * high) ∙ number_halves low high l) at p
+
+pub num_put : {at r : ℕ} {out out' : List ℕ} (low high : ℕ) → low < 4294967296 → Puts (3 ∷ to_le_bytes w64 (low + 4294967296 * high)) at out r out' → Puts (3 ∷ dump_int low ++ dump_int high) at out r out'
+num_put {at} {r} {out} {out'} low high l p = subst (λ (b : List ℕ). Puts (3 ∷ b) at out r out') (number_bytes 8 (low + 4294967296 * high) ∙ number_halves low high l) p
 
 -- a string behind its tag
 pub str_put : {at a r : ℕ} {out out₁ out' : List ℕ} (size4 : Bool) (s : List ℕ) → Puts (4 ∷ []) at out a out₁ → Puts (dump_text size4 s) a out₁ r out' → Puts (4 ∷ dump_text size4 s) at out r out'
@@ -96,7 +133,7 @@ unfolding each
 each_append [] m = refl
 each_append (a ∷ l) m = rw (each_append l m) (sym (append_assoc (dump_int a) (each dump_int l) (each dump_int m)))
 
-ints_length : (l : List ℕ) → length (each dump_int l) ≡ 4 * length l
+pub ints_length : (l : List ℕ) → length (each dump_int l) ≡ 4 * length l
 unfolding each
 ints_length [] = refl
 ints_length (n ∷ l) = length-append (dump_int n) (each dump_int l) ∙ omega (arith, int_length n, ints_length l)

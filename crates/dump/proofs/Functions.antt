@@ -96,13 +96,13 @@ module _ (strip size4 : Bool) (source : List ℕ) where
 pub seven : (x₁ x₂ x₃ x₄ x₅ x₆ x₇ : List ℕ) → x₁ ++ x₂ ++ x₃ ++ x₄ ++ x₅ ++ x₆ ++ x₇ ≡ x₁ ++ (x₂ ++ (x₃ ++ (x₄ ++ (x₅ ++ (x₆ ++ x₇)))))
 seven x₁ x₂ x₃ x₄ x₅ x₆ x₇ = simp append_assoc
 
--- six parts, of which the fifth has two pieces
-module _ {d : Dumper} {s a b c e f r : Progress} where
-  pub dumps_six : {p₁ p₂ p₃ p₄ p₆ : Piece} (p₅ p₅′ : Piece) {x₁ x₂ x₃ x₄ x₅ x₆ : List ℕ} → Dumps d p₁ x₁ s a → Dumps d p₂ x₂ a b → Dumps d p₃ x₃ b c → Dumps d p₄ x₄ c e → Dumps d (p₅ ⊕ p₅′) x₅ e f → Dumps d p₆ x₆ f r
-      → Dumps d (p₁ ⊕ p₂ ⊕ p₃ ⊕ p₄ ⊕ p₅ ⊕ p₅′ ⊕ p₆) (x₁ ++ x₂ ++ x₃ ++ x₄ ++ x₅ ++ x₆) s r
-  dumps_six {p₆ = p₆} p₅ p₅′ u₁ u₂ u₃ u₄ u₅ u₆ =
-      let behind = dumps_as (same_sym (same_assoc p₅ p₅′ p₆)) refl (dumps_then u₅ u₆) in
-      dumps_as same_refl (simp append_assoc) (dumps_then u₁ (dumps_then u₂ (dumps_then u₃ (dumps_then u₄ behind))))
+-- five parts, of which the first and the fourth have two pieces each
+module _ {d : Dumper} {s b c e f r : Progress} where
+  pub dumps_five : {p₂ p₃ p₅ : Piece} (p₁ p₁′ p₄ p₄′ : Piece) {x₁ x₂ x₃ x₄ x₅ : List ℕ} → Dumps d (p₁ ⊕ p₁′) x₁ s b → Dumps d p₂ x₂ b c → Dumps d p₃ x₃ c e → Dumps d (p₄ ⊕ p₄′) x₄ e f → Dumps d p₅ x₅ f r
+      → Dumps d (p₁ ⊕ p₁′ ⊕ p₂ ⊕ p₃ ⊕ p₄ ⊕ p₄′ ⊕ p₅) (x₁ ++ x₂ ++ x₃ ++ x₄ ++ x₅) s r
+  dumps_five {p₂} {p₃} {p₅} p₁ p₁′ p₄ p₄′ u₁ u₂ u₃ u₄ u₅ =
+      let behind = dumps_as (same_sym (same_assoc p₄ p₄′ p₅)) refl (dumps_then u₄ u₅) in
+      dumps_as (same_sym (same_assoc p₁ p₁′ (p₂ ⊕ p₃ ⊕ p₄ ⊕ p₄′ ⊕ p₅))) (simp append_assoc) (dumps_then u₁ (dumps_then u₂ (dumps_then u₃ behind)))
 
 -- a function: its source, then what stands behind it
 module _ {d : Dumper} {s m r : Progress} (strip size4 : Bool) (around outer source : List ℕ) (o : Source) where

@@ -1,6 +1,8 @@
 -- Where there is room for the bytes of a piece, each step of the walk has room for its own, and leaves room for the rest: so what fits is written whole.
-use Rattle.lent.proofs.Prelude.{ℕ, ◌+◌, ◌-◌, ◌≤◌, ◌<◌, ◌≡◌, ◌∙◌, List, [], ◌∷◌, ◌++◌, arith, length, take, drop, length-append}
-use Rattle.lent.specs.Memory.{Every, far}
+use Rattle.std.specs.Prelude.{None}
+use Rattle.lent.proofs.Prelude.{ℕ, ◌+◌, ◌-◌, ◌≤◌, ◌<◌, ◌≡◌, refl, ◌∙◌, List, [], ◌∷◌, ◌++◌, Bool, false, arith, length, take, drop, length-append, leb, lt-leb}
+use Rattle.lent.specs.Memory.{Every, far, Puts}
+use Rattle.lent.specs.Whole.{PutsWhole}
 use Rattle.lent.proofs.Writes.{put_length, put_fits}
 use Rattle.format.specs.Store.{Piece, ◌⊕◌, pieces}
 use Rattle.format.specs.Write.{each}
@@ -10,6 +12,16 @@ use Rattle.proto.proofs.Pieces.{stands_left, stands_right}
 use Rattle.dump.specs.Step.{Progress, Dumps}
 use Rattle.dump.specs.declared.list.Dumper.{Dumper}
 use Rattle.dump.proofs.Lists.{DumpsAll, all_more}
+
+-- bytes that were counted, in some space: they fit, or none is written
+module _ {bytes : List ℕ} {n : ℕ} (out : List ℕ) where
+  pub counted_fits : n ≤ length out → length out < far → Puts bytes 0 [] n [] → length bytes ≤ length out
+  counted_fits h l p = omega (arith, p.puts (omega arith) (omega arith))
+
+  pub counted_long : length out < n → Puts bytes 0 [] n [] → PutsWhole bytes out None out
+  counted_long h p =
+      let e : leb (length bytes) (length out) ≡ false = lt-leb (length bytes) (length out) (omega (arith, p.puts (omega arith) (omega arith))) in
+      record { counts = rw e refl; leaves = rw e refl }
 
 -- the piece stands there, and there is room for the bytes
 pub record Fits (d : Dumper) (p : Piece) (bytes : List ℕ) (s : Progress) : Type 0 where

@@ -1,7 +1,7 @@
 -- Steps of the writer: one behind the other, and a word, a string, a constant.
-use Rattle.lent.proofs.Prelude.{ℕ, ◌+◌, ◌*◌, ◌≡◌, sym, ◌∙◌, List, [], ◌∷◌, ◌++◌, append_assoc, Bool, arith, add-zero, add_assoc, length, get_or, length-append}
-use Rattle.std.specs.Int.{to_be_bytes}
-use mir.Syntax.{w32}
+use Rattle.lent.proofs.Prelude.{ℕ, ◌+◌, ◌*◌, ◌<◌, ◌≡◌, refl, sym, ◌∙◌, List, [], ◌∷◌, ◌++◌, append_assoc, Bool, arith, add-zero, add_assoc, length, get_or, length-append}
+use Rattle.std.specs.Int.{to_be_bytes, to_le_bytes}
+use mir.Syntax.{w32, w64}
 use Rattle.lent.specs.Memory.{Puts}
 use Rattle.lent.proofs.Writes.{put_none, put_then}
 use Rattle.format.specs.Tree.{Constant as Value}
@@ -13,14 +13,16 @@ use Rattle.format.specs.Constants.{value_of}
 use Rattle.format.specs.declared.Constant.{Constant}
 use Rattle.format.specs.contracts.ConstantsStoredItem.TheImpl.{ghosts as Constants}
 use Rattle.format.specs.contracts.NamesStoredItem.TheImpl.{ghosts as Names}
+use Rattle.format.proofs.Stored.{here_left}
 use Rattle.proto.specs.Constants.{ConstantAt}
 use Rattle.proto.specs.Walk.{Stands, Skips, Past}
 use Rattle.proto.proofs.Items.{packed_bytes}
-use Rattle.proto.proofs.Sublists.{here_get}
+use Rattle.proto.proofs.Sublists.{here_get, here_item}
 use Rattle.proto.proofs.Pieces.{Same, same_refl, stands_same, stands_left, stands_right}
 use Rattle.proto.proofs.Walks.{past_word, past_words, past_ints, skip_items}
 use Rattle.dump.specs.Step.{Progress, Dumps}
 use Rattle.dump.specs.declared.list.Dumper.{Dumper}
+use Rattle.dump.proofs.Blocks.{two_put}
 
 -- so that a state is found by its parts
 abbrev pub place : (at len : ℕ) (out : List ℕ) → Progress
@@ -53,6 +55,16 @@ module _ {d : Dumper} where
   module _ {at to len r x : ℕ} {out out' : List ℕ} where
     pub word_dumped : x ≡ get_or d.store.words.now at 0 → Puts (dump_int x) len out r out' → Skips d.store.words.now 1 at to → (v : ℕ) → Dumps d (word v) (dump_int v) (place at len out) (place to r out')
     word_dumped e p s v = dumps_past (past_word v s) (λ t h. rw (e ∙ here_get v [] h.in_words) at p)
+
+    pub two_dumped : {y n : ℕ} → x < 4294967296 → x ≡ get_or d.store.words.now at 0 → Skips d.store.words.now 1 at n → y ≡ get_or d.store.words.now n 0 → Puts (to_le_bytes w64 (x + 4294967296 * y)) len out r out' → Skips d.store.words.now 2 at to
+        → (v w : ℕ) → Dumps d (word v ⊕ word w) (dump_int v ++ dump_int w) (place at len out) (place to r out')
+    two_dumped {n = n} b e m f p s v w =
+        dumps_past (past_words 2 (word v ⊕ word w) (λ t. refl) s)
+        (λ t h.
+        let i = h.in_words in
+        let k : n ≡ at + 1 = m.skips (v ∷ []) refl (here_left (v ∷ []) (w ∷ []) i) in
+        let o : get_or d.store.words.now n 0 ≡ w = rw k (here_item (v ∷ w ∷ []) 1 (omega arith) i) in
+        rw (e ∙ here_get v (w ∷ []) i, f ∙ o) at (two_put x _ b p))
 
     pub packed_dumped : x ≡ get_or d.store.words.now at 0 → Puts (to_be_bytes w32 x) len out r out' → Skips d.store.words.now 1 at to
         → (p : Parts) → ValidParts p → Dumps d (word (packed p)) (p.num_upvalues ∷ p.num_params ∷ p.is_vararg ∷ p.max_stack_size ∷ []) (place at len out) (place to r out')

@@ -1,5 +1,5 @@
 -- What a step of the writer does: past a piece of the store, with its bytes written.
-use Rattle.std.specs.Prelude.{ℕ, ◌+◌, ◌≡◌, List, [], ◌∷◌, ◌++◌, Bool, Option, None, Some, length}
+use Rattle.std.specs.Prelude.{ℕ, ◌+◌, ◌≡◌, List, [], ◌∷◌, ◌++◌, Bool, cond, Option, None, Some, length}
 use Rattle.std.specs.Borrow.{Bor}
 use Rattle.lent.specs.Memory.{Puts}
 use Rattle.format.specs.Tree.{Constant, Source, Parts, Functions, count, kept}
@@ -14,6 +14,10 @@ pub record Progress : Type 0 where
   pub at : ℕ
   pub len : ℕ
   pub out : List ℕ
+
+-- the space as it is written: none where bytes are only counted
+abbrev pub seen : Bool → List ℕ → List ℕ
+seen stored out = cond stored out []
 
 abbrev pub progress : Reached → List ℕ → Progress
 progress s out = record { at = s.at; len = s.len; out = out }

@@ -1,5 +1,5 @@
 // The items of a function's lists: how each is written.
-ghost use Rattle.std.specs.Prelude.{ℕ, List, Bool};
+ghost use Rattle.std.specs.Prelude.{ℕ, List, [], Bool};
 ghost use Rattle.format.specs.Tree.{Constant as Value};
 ghost use Rattle.format.specs.Tree.{Local};
 ghost use Rattle.format.specs.Store.{Piece, string, constant_piece, local_piece};
@@ -21,6 +21,10 @@ pub trait Item {
     // Writes one, past it.
     fn dump(d: Dumper, out: &mut [u8], s: Reached) -> Reached
         ensures { (v : Value) → Dumps d.entry (piece v) (bytes d.entry.options.size_4 v) (progress s out.old) (progress result out.new) };
+
+    // Only counts its bytes. Two methods: one cannot have a const parameter.
+    fn count(d: Dumper, s: Reached) -> Reached
+        ensures { (v : Value) → Dumps d.entry (piece v) (bytes d.entry.options.size_4 v) (progress s []) (progress result []) };
 }
 
 impl Item for Constants {
@@ -31,7 +35,11 @@ impl Item for Constants {
     ghost bytes = { dump_constant };
 
     fn dump(d: Dumper, out: &mut [u8], s: Reached) -> Reached {
-        d.dump_constant(out, s)
+        d.dump_constant::<true>(out, s)
+    }
+
+    fn count(d: Dumper, s: Reached) -> Reached {
+        d.dump_constant::<false>(&mut [], s)
     }
 }
 
@@ -43,7 +51,11 @@ impl Item for Locals {
     ghost bytes = { dump_local };
 
     fn dump(d: Dumper, out: &mut [u8], s: Reached) -> Reached {
-        d.dump_local(out, s)
+        d.dump_local::<true>(out, s)
+    }
+
+    fn count(d: Dumper, s: Reached) -> Reached {
+        d.dump_local::<false>(&mut [], s)
     }
 }
 
@@ -55,6 +67,10 @@ impl Item for Names {
     ghost bytes = { dump_text };
 
     fn dump(d: Dumper, out: &mut [u8], s: Reached) -> Reached {
-        d.dump_name(out, s)
+        d.dump_name::<true>(out, s)
+    }
+
+    fn count(d: Dumper, s: Reached) -> Reached {
+        d.dump_name::<false>(&mut [], s)
     }
 }

@@ -12,33 +12,38 @@ ghost use Rattle.format.specs.Tree.{Function};
 ghost use Rattle.format.specs.Valid.{Holds};
 ghost use Rattle.format.specs.Write.{dump_header, dump_chunk};
 ghost use Rattle.format.specs.Dump.{write_left, written_left, dumped};
+ghost use Rattle.dump.specs.Step.{seen};
 
-use block::Options;
-use format::{Refusal, Written, check_name, width};
-use lent::{put_array, write_whole};
+use block::{Options, dump_array};
+use format::{DEPTH, Refusal, Written, check_name, width};
 use list::{Dumper, Reached};
 use proto::store::Store;
 
 impl Options {
     // The signature, then the version, the format and the sizes: 12 bytes.
-    fn dump_header(self, out: &mut [u8]) -> usize
-        ensures { Puts (dump_header self.size_4) 0 out.old result out.new }
+    fn dump_header<const STORED: bool>(self, out: &mut [u8]) -> usize
+        ensures { Puts (dump_header self.size_4) 0 (seen STORED out.old) result (seen STORED out.new) }
     {
         let w = width(self.size_4);
-        put_array(out, 0, [0x1b, b'L', b'u', b'a', 0x51, 0, 1, 4, w, 4, 8, 0])
+        dump_array::<STORED, 12>(out, 0, [0x1b, b'L', b'u', b'a', 0x51, 0, 1, 4, w, 4, 8, 0])
     }
 }
 
-// The chunk of the tree that a store holds. Answers how many bytes it has.
-fn dump_chunk<'a>(store: Store<'a>, name: &'a [u8], options: Options, out: &mut [u8]) -> usize
-    ensures { (f : Function) → Holds store.entry.words.now store.entry.text.now f → Puts (dump_chunk options.strip options.size_4 name.now f) 0 out.old result out.new }
+// The chunk of the tree that a store holds, written or only counted. Answers how many bytes it has.
+fn dump_chunk<'a, const STORED: bool>(
+    store: Store<'a>,
+    name: &'a [u8],
+    options: Options,
+    out: &mut [u8],
+) -> usize
+    ensures { (f : Function) → Holds store.entry.words.now store.entry.text.now f → Puts (dump_chunk options.strip options.size_4 name.now f) 0 (seen STORED out.old) result (seen STORED out.new) }
 {
     let start = Reached {
         at: 0,
-        len: options.dump_header(out),
+        len: options.dump_header::<STORED>(out),
     };
     let dumper = Dumper { store, options };
-    dumper.dump_root(out, start, name).len
+    dumper.dump_root::<STORED>(out, start, name, DEPTH).len
 }
 
 // Whether a space has room for 12 bytes, five for each of so many words, and those of the text and of the chunk name.
@@ -65,10 +70,13 @@ fn dump_store<'a>(
 {
     check_name(name)?;
     store.check_held()?;
-    if has_room(out.len(), store.words.len(), store.text.len(), name.len()) {
-        return Ok(dump_chunk(store, name, options, out));
+    if !has_room(out.len(), store.words.len(), store.text.len(), name.len()) {
+        let len = dump_chunk::<false>(store, name, options, &mut []);
+        if out.len() < len {
+            return Err(Refusal::TooLittleOutput);
+        }
     }
-    write_whole(out, |o| dump_chunk(store, name, options, o)).ok_or(Refusal::TooLittleOutput)
+    Ok(dump_chunk::<true>(store, name, options, out))
 }
 
 // Writes the chunk of a store to lent memory. Refused by 1, 10, 11. The call for C: words and text apart, and the two options.

@@ -6,4 +6,4 @@ use Rattle.dump.proofs.Steps.{dumps_as, dumps_three}
 use Rattle.dump.proofs.list.Dumper.dump_debug.Goals as goal
 
 pub returns : goal.returns
-returns c = λ d. dumps_as same_refl (rw c.if-self.false refl) (dumps_three (c.dump_code-locals.ensures d.lines) (c.dump_list-upvalues.ensures d.locals) (c.dump_list.ensures d.upvalues))
+returns g c = λ d. dumps_as same_refl (rw c.if-self.false refl) (dumps_three (c.dump_code-locals.ensures d.lines) (c.dump_list-upvalues.ensures d.locals) (c.dump_list.ensures d.upvalues))

@@ -5,4 +5,4 @@ use Rattle.dump.proofs.Lists.{all_more}
 use Rattle.dump.proofs.list.Dumper.dump_list.Goals as goal
 
 pub loop-preserved : goal.loop-preserved
-loop-preserved g c = loop_turn c.loop-test.true c.loop.invariant (all_more (λ a k. c.dump-r.ensures a))
+loop-preserved g c = loop_turn c.loop-test.true c.loop.invariant (all_more (λ a k. c.dump_item-r.ensures a))

@@ -2,8 +2,8 @@
 -- Tried by an attribute with these laws: `returns` stays open.
 use Rattle.lent.proofs.Prelude.{◌+◌, ◌-◌, ◌*◌, refl, arith}
 use Rattle.dump.proofs.Blocks.{ints_part, ints_put, ints_cut}
-use Rattle.dump.proofs.block.dump_ints.Goals as goal
-use Rattle.dump.proofs.block.dump_ints.Goals.{then-fit-l, else-fit-l}
+use Rattle.dump.proofs.block.put_ints.Goals as goal
+use Rattle.dump.proofs.block.put_ints.Goals.{then-fit-l, else-fit-l}
 
 pub returns : goal.returns
 returns c =
