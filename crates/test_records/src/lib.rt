@@ -49,7 +49,7 @@ impl<'a> Records<'a> {
     }
 
     // n bytes, as many as there are.
-    fn part(&mut self, n: usize) -> &'a [u8]
+    pub fn part(&mut self, n: usize) -> &'a [u8]
         ensures { length result.now ≤ n }
     {
         let (part, rest) = self.rest.split_at(n.min(self.rest.len()));

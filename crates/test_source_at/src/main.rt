@@ -20,6 +20,9 @@ const WORDS: usize = 65600;
 
 const TEXT: usize = 512;
 
+// Where the chunk name stands in the text's space, behind texts of up to so many bytes. It stays there.
+const NAME: usize = 256;
+
 // The question, and its line.
 fn ask(
     words: &[u32],
@@ -61,8 +64,13 @@ fn case(
         }
         b'Q' => {
             let place = cases.word() as usize;
-            let name = cases.name();
-            ask(space.words(), space.text(), name, place, to)?;
+            let n = usize::from(cases.byte());
+            let name = cases.part(n);
+            space.text[NAME..NAME + name.len()].copy_from_slice(name);
+            let text = &space.text[..];
+            let name = first(&text[NAME..], n);
+            let text = first(text, space.used_text);
+            ask(first(&space.words, space.used_words), text, name, place, to)?;
         }
         _ => cases.end(),
     }
