@@ -39,7 +39,7 @@ module _ (b : ℕ) (none : letter b ≡ None) where
   escape_digits h = escape_other b none ∙ rw h
 
 -- a byte that has no letter because it is no quote, no backslash and no control byte
-escape_plain : (b : ℕ) → is_plain b ≡ true → escape b ≡ b ∷ []
+pub escape_plain : (b : ℕ) → is_plain b ≡ true → escape b ≡ b ∷ []
 unfolding Every
 escape_plain b h =
     let p = (and-eq-true_iff (not (eqb b 34) && not (eqb b 92)) (is_print b)).0 h in

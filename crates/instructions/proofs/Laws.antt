@@ -19,7 +19,7 @@ use Rattle.instructions.specs.OpCodes.{NUM_OPCODES, or_move}
 -- ==== what an instruction is made of, it holds
 
 -- 1 << k
-one_shifted : (k : ℕ) → k < 32 → (1 * 2 ^ k) % 2 ^ 32 ≡ 2 ^ k
+pub one_shifted : (k : ℕ) → k < 32 → (1 * 2 ^ k) % 2 ^ 32 ≡ 2 ^ k
 one_shifted k h = rw one-mul (mod-eq_of_lt (pow-lt h))
 
 -- what is below 1 << size, shifted, stays below 2 ^ 32

@@ -37,14 +37,16 @@ fn put_fours(bytes: &[u8], words: &mut [u32], at: usize) -> usize
 impl<'a> Loader<'a> {
     // Integers are stored, four bytes each.
     fn put_ints(&mut self, bytes: &[u8])
-        ensures { Stores (plain (fours bytes.now 0 (length bytes.now / 4))) self.old self.new }
+        ensures stores { Stores (plain (fours bytes.now 0 (length bytes.now / 4))) self.old self.new }
+        ensures text { self.new.text.now ≡ self.old.text.now }
     {
         self.words_at = put_fours(bytes, self.words, self.words_at);
     }
 
-    // A list of integers: one test tells whether all are there.
+    // A list of integers: one test tells whether all are there. The text stays, refused or not.
     pub fn load_ints(&mut self) -> Result<(), Refusal>
-        ensures { Loads (load_list load_int) ints self.old self.new result }
+        ensures loads { Loads (load_list load_int) ints self.old self.new result }
+        ensures text { self.new.text.now ≡ self.old.text.now }
     {
         let n = self.copy_count()? as usize;
         let bytes = self.advance(self.reader.state.load_block(4 * n)?);

@@ -43,7 +43,8 @@ impl<'a> Loader<'a> {
 
     // A word is stored.
     pub fn put(&mut self, v: u32)
-        ensures { Stores (word_piece v) self.old self.new }
+        ensures stores { Stores (word_piece v) self.old self.new }
+        ensures text { self.new.text.now ≡ self.old.text.now }
     {
         self.words_at = lent::put(self.words, self.words_at, v);
     }
@@ -119,9 +120,10 @@ impl<'a> Loader<'a> {
         Ok(self.advance(self.reader.state.load_byte()?))
     }
 
-    // An integer goes from the chunk to the words.
+    // An integer goes from the chunk to the words. The text stays, refused or not.
     pub fn copy_int(&mut self) -> Result<(), Refusal>
-        ensures { Loads load_int word_piece self.old self.new result }
+        ensures loads { Loads load_int word_piece self.old self.new result }
+        ensures text { self.new.text.now ≡ self.old.text.now }
     {
         let v = self.advance(self.reader.state.load_int()?);
         self.put(v);
@@ -130,7 +132,8 @@ impl<'a> Loader<'a> {
 
     // So does a count, which is answered too.
     pub fn copy_count(&mut self) -> Result<u32, Refusal>
-        ensures { LoadsBy load_count (λ a n. (a ≡ n) × Does (word_piece a) (space self.old) (space self.new)) self.old self.new result }
+        ensures loads { LoadsBy load_count (λ a n. (a ≡ n) × Does (word_piece a) (space self.old) (space self.new)) self.old self.new result }
+        ensures text { self.new.text.now ≡ self.old.text.now }
     {
         let n = self.advance(self.reader.load_count()?);
         self.put(n);

@@ -1,6 +1,6 @@
 -- Lists read item by item.
 use Rattle.std.specs.Prelude.{Result, Ok, Err}
-use Rattle.lent.proofs.Prelude.{ℕ, suc, ◌+◌, ◌≤◌, ◌<◌, ◌≡◌, refl, ◌∙◌, ap, List, [], ◌∷◌, map, Bool, length, length-map}
+use Rattle.lent.proofs.Prelude.{ℕ, suc, ◌+◌, ◌≤◌, ◌<◌, ◌≡◌, refl, ◌∙◌, ap, List, [], ◌∷◌, map, Bool, arith, length, length-map}
 use Rattle.format.specs.Tree.{Functions, count}
 use Rattle.format.specs.Read.{Reader, ◌>>=◌, return, many, many_functions, load_count, load_function}
 use Rattle.format.specs.Store.{Piece, plain, word, ◌⊕◌, pieces, list, function_pieces}
@@ -21,9 +21,15 @@ pub record Listing {A L : Type 0} (R : Bool → Reader A) (Many : Bool → ℕ �
   pub more : (w : Bool) (n : ℕ) → Many w (suc n) ≡ (R w >>= λ a. Many w n >>= λ rest. return (cons a rest))
   pub cell : (a : A) (l : L) → (size (cons a l) ≡ suc (size l)) × (all (cons a l) ≡ piece a ⊕ all l)
 
-pub items : {A : Type 0} (R : Bool → Reader A) (piece : A → Piece) → Listing R (λ w. many (R w)) length piece (pieces piece)
+-- items that are changed by g before they are stored
+pub items : {A B : Type 0} (R : Bool → Reader A) (g : A → B) (piece : B → Piece) → Listing R (λ w. many (R w)) (λ l. length (map g l)) (λ a. piece (g a)) (λ l. pieces piece (map g l))
 unfolding many pieces
-items R piece = record { nil = []; cons = λ a l. a ∷ l; none = λ w. (refl, refl, refl); more = λ w n. refl; cell = λ a l. (refl, refl) }
+items R g piece = record { nil = []; cons = λ a l. a ∷ l; none = λ w. (refl, refl, refl); more = λ w n. refl; cell = λ a l. (refl, refl) }
+
+-- items as they are
+pub plain_items : {A : Type 0} (R : Bool → Reader A) (piece : A → Piece) → Listing R (λ w. many (R w)) length piece (pieces piece)
+unfolding many pieces
+plain_items R piece = record { nil = []; cons = λ a l. a ∷ l; none = λ w. (refl, refl, refl); more = λ w n. refl; cell = λ a l. (refl, refl) }
 
 pub function_items : (allowance : ℕ) → Listing (λ w. load_function w allowance) (λ w. many_functions (load_function w allowance)) (λ fs. count (repaired_all fs)) repaired_function (λ fs. function_pieces (repaired_all fs))
 unfolding many_functions count function_pieces repaired_all
@@ -40,6 +46,7 @@ LoadsAll Many size all n σ e = LoadsBy (Many σ.reader.size_4 n) (λ l (b : Uni
 
 -- the loop that reads n items, begun at σ₀, stands at σ before item i
 pub record Loading {L : Type 0} (Many : Bool → ℕ → Reader L) (size : L → ℕ) (all : L → Piece) (n : ℕ) (σ₀ : Loader) (i : ℕ) (σ : Loader) : Type 0 where
+  pub within : i ≤ n
   pub loop : Loop (LoadsAll Many size all) n σ₀ i σ
   pub none : (ρ : Loader) → LoadsAll Many size all 0 ρ (record { at = ρ; answer = Ok tt })
 
@@ -55,10 +62,10 @@ counted Many c t = loads_then _ c (λ a d. at_width (λ w. Many w a) c.same (rw 
 module _ {A L : Type 0} {R : Bool → Reader A} {Many : Bool → ℕ → Reader L} {size : L → ℕ} {piece : A → Piece} {all : L → Piece}
     (laws : Listing R Many size piece all) {n : ℕ} where
   pub loading_start : {σ : Loader} → Loading Many size all n σ 0 σ
-  loading_start = record { loop = loop_start; none = λ ρ. rw (laws.none ρ.reader.size_4).0 (loads_done laws.nil tt ((laws.none ρ.reader.size_4).1, rw (laws.none ρ.reader.size_4).2 nothing)) }
+  loading_start = record { within = omega arith; loop = loop_start; none = λ ρ. rw (laws.none ρ.reader.size_4).0 (loads_done laws.nil tt ((laws.none ρ.reader.size_4).1, rw (laws.none ρ.reader.size_4).2 nothing)) }
 
   pub loading_turn : {i : ℕ} {σ₀ σ m : Loader} → Loading Many size all n σ₀ i σ → i < n → Loads (R σ.reader.size_4) piece σ m (Ok tt) → Loading Many size all n σ₀ (i + 1) m
-  loading_turn {σ = σ} {m = m} h k d = record { loop = loop_turn k h.loop more; none = h.none }
+  loading_turn {σ = σ} {m = m} h k d = record { within = omega arith; loop = loop_turn k h.loop more; none = h.none }
     where
       more : (k : ℕ) (e : End) → LoadsAll Many size all k m e → LoadsAll Many size all (suc k) σ e
       more k e t =

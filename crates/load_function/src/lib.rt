@@ -3,6 +3,7 @@
 
 pub mod list;
 
+ghost use Rattle.std.specs.Prelude.{◌≡◌};
 ghost use Rattle.format.specs.Read.{load_code, load_constants, load_debug, load_function};
 ghost use Rattle.format.specs.Store.{ints};
 ghost use Rattle.load.specs.Loads.{Loads};
@@ -12,9 +13,10 @@ use format::{Constants, Locals, Names, Refusal};
 use list::load_list;
 use load::Loader;
 
-// By the name that it has in lundump.c, LoadCode.
+// By the name that it has in lundump.c, LoadCode. The text stays, refused or not.
 pub fn load_code(s: &mut Loader) -> Result<(), Refusal>
-    ensures { Loads load_code ints s.old s.new result }
+    ensures loads { Loads load_code ints s.old s.new result }
+    ensures text { s.new.text.now ≡ s.old.text.now }
 {
     s.load_ints()
 }

@@ -4,11 +4,11 @@ use Rattle.std.specs.Result.{IsErrAnd}
 use Rattle.std.proofs.lemmas.Result.{err_from_is_err_and}
 use Rattle.lent.proofs.Prelude.{refl, ℕ, ◌+◌, ◌*◌, ◌-◌, ◌/◌, ◌%◌, ◌^◌, ◌≤◌, ◌<◌, ◌≡◌, ◌∙◌, List, ◌∷◌, arith, add-zero, dec_le, length, take, drop, get_or, length-drop, drop-drop, take_all, le-leb, lt-leb}
 use Rattle.std.proofs.lemmas.List.{drop_more}
-use Rattle.format.specs.Read.{got, refused, load_byte, load_block, load_number, load_int, load_num, little_endian, Read, and_then, return}
+use Rattle.format.specs.Read.{got, refused, load_byte, load_block, load_number, load_int, load_num, little_endian}
 use Rattle.format.specs.Refusal.{number}
 use Rattle.format.specs.declared.Refusal.{Refusal}
 use Rattle.load_state.specs.declared.cursor.Got.{Got}
-use Rattle.load_state.specs.ReadAt.{Ends, four_at, ReadAt, HalvesAt}
+use Rattle.load_state.specs.ReadAt.{four_at, ReadAt, HalvesAt}
 use Rattle.std.specs.Int.{from_le_bytes, w32, w64}
 
 pub byte_got : (bs : List ℕ) (at : ℕ) → at < length bs → load_byte (drop at bs) ≡ got (get_or bs at 0) (drop (at + 1) bs)
@@ -71,11 +71,14 @@ module _ (b : List ℕ) {v : ℕ} where
 module _ {bs : List ℕ} {at : ℕ} where
   -- the number that n bytes stand for
   number_taken : (n : ℕ) {b : Got (List ℕ)} {g : Got ℕ} → ReadAt bs (load_block n) at (Ok b) → g.value ≡ little_endian b.value → g.next ≡ b.next → ReadAt bs (load_number n) at (Ok g)
-  number_taken n {b} {g} h e f = record { ends = by (load_block n (drop at bs)) h.ends }
-    where
-      by : (x : Read (List ℕ)) → Ends x (λ s rest (c : Got (List ℕ)). (rest ≡ drop c.next bs) × (s ≡ c.value)) (Ok b) → Ends (and_then x (λ s. return (little_endian s))) (λ a rest (c : Got ℕ). (rest ≡ drop c.next bs) × (a ≡ c.value)) (Ok g)
-      by (got s rest) t = (rw (f, t.0), rw (e, t.1))
-      by (refused k) t = absurd t
+  number_taken n {b} {g} h e f = elim (dec_le n (length bs - at)) [
+    | yes k ↦
+        let t : (drop (at + n) bs ≡ drop b.next bs) × (take n (drop at bs) ≡ b.value) = rw (block_at n bs at k) at h.ends in
+        record { ends = rw (number_got n bs at k, f, t.0, e, t.1) (refl, refl) }
+    | no k ↦
+        let m : length bs - at < n = omega arith in
+        record { ends = rw (number_none n bs at m) (rw (block_short n bs at m) at h.ends) }
+  ]
 
   pub int_taken : {b : Got (List ℕ)} {g : Got ℕ} → ReadAt bs (load_block 4) at (Ok b) → length b.value ≡ 4 → g.value ≡ from_le_bytes w32 b.value → g.next ≡ b.next → ReadAt bs load_int at (Ok g)
   int_taken {b} h l e f = number_taken 4 h (le_4 b.value l e) f

@@ -95,12 +95,12 @@ pub record Child (c : Children) (text : List ℕ) (fs : Functions) (i : ℕ) (n 
   pub valid : Valid function c.allowance
   pub numbered : c.number + 1 + total_all fs ≤ far → n.number ≡ child_number c.number fs i
 
-module _ {c : Children} {text : List ℕ} {i : ℕ} {n : Next} (fs : Functions) (h : StandsAt c.words.now text c.list (children_piece fs)) (v : ValidAll fs c.allowance) (b : i < counted c) (w : ChildAt c i n) where
-  within : i < count fs
+module _ {c : Children} {text : List ℕ} {i : ℕ} {n : Next} (fs : Functions) (h : StandsAt c.words.now text c.list (children_piece fs)) (v : ValidAll fs c.allowance) (b : i ≤ counted c) (w : ChildAt c i n) where
+  within : i ≤ count fs
   within = omega (arith, here_get (count fs) _ h.stands.in_words)
 
   at_index : Split fs i
-  at_index = split fs i (omega (arith, within))
+  at_index = split fs i within
 
   passes : PassesAll c.words.now c.allowance i (first c) n
   passes = w.passes (count fs) (here_left (count fs ∷ []) _ h.stands.in_words)
@@ -111,17 +111,23 @@ module _ {c : Children} {text : List ℕ} {i : ℕ} {n : Next} (fs : Functions) 
   passed : Passes c.words.now (function_pieces at_index.before) (total_all at_index.before) (first c) n
   passed = passes.all at_index.before (at_index.valid c.allowance v).0 at_index.many
 
+  -- the one with the index has this number; behind the last it is that of the next one
   pub child_numbered : c.number + 1 + total_all fs ≤ far → n.number ≡ child_number c.number fs i
   child_numbered k =
       let m = (passed.passes _ (stands_left (function_pieces at_index.before) (function_pieces at_index.behind) begin).in_words).1 in
       omega (arith, m (omega arith), at_index.number, at_index.all)
 
+module _ {c : Children} {text : List ℕ} {i : ℕ} {n : Next} (fs : Functions) (h : StandsAt c.words.now text c.list (children_piece fs)) (v : ValidAll fs c.allowance) (b : i < counted c) (w : ChildAt c i n) where
+  up_to : i ≤ counted c
+  up_to = omega arith
+
   pub child_stands : Child c text fs i n
   unfolding item children function_pieces ValidAll
   child_stands =
-      let y = item_there (children fs) i (omega (arith, within, children_count fs)) in
-      let x = go y.value at_index.behind (at_index.valid c.allowance v).1 (sym at_index.items ∙ y.is) (past_stands {p = function_pieces at_index.before} {q = function_pieces at_index.behind} (passes_past passed) begin) in
-      record { function = y.value; is = y.is; stands = x.0; valid = x.1; numbered = child_numbered }
+      let s = at_index fs h v up_to w in
+      let y = item_there (children fs) i (omega (arith, here_get (count fs) _ h.stands.in_words, children_count fs)) in
+      let x = go y.value s.behind (s.valid c.allowance v).1 (sym s.items ∙ y.is) (past_stands {p = function_pieces s.before} {q = function_pieces s.behind} (passes_past (passed fs h v up_to w)) (begin fs h v up_to w)) in
+      record { function = y.value; is = y.is; stands = x.0; valid = x.1; numbered = child_numbered fs h v up_to w }
     where
       go : (f : Function) (gs : Functions) {to : ℕ} → ValidAll gs c.allowance → item (children gs) 0 ≡ some f → Stands c.words.now text n.at to (function_pieces gs) → StandsAt c.words.now text n.at (function_piece f) × Valid f c.allowance
       go f Functions.none v e s = let z : ◌≡◌ {A = ℕ} 0 1 = cc in absurd (omega arith)

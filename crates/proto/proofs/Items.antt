@@ -7,6 +7,7 @@ use mir.Syntax.{w32}
 use Rattle.format.specs.Tree.{Local, Source, Parts, Function, Functions}
 use Rattle.format.specs.Store.{Piece, word, ◌⊕◌, string, pieces, list, ints, source_piece, constant_piece, local_piece, debug_piece, packed, function_piece, children_piece}
 use Rattle.format.specs.declared.StoredItem.{Ghosts}
+use Rattle.format.specs.contracts.IntsStoredItem.TheImpl.{ghosts as Ints}
 use Rattle.format.specs.Stored.{part}
 use Rattle.format.specs.declared.Span.{Span}
 use Rattle.format.specs.Valid.{ValidParts}
@@ -15,7 +16,7 @@ use Rattle.proto.specs.Walk.{Stands, StandsAt, item, Skips, NthAt, Past, to_code
 use Rattle.proto.specs.Debug.{local_of}
 use Rattle.proto.specs.Head.{head_of}
 use Rattle.proto.proofs.Sublists.{here_get, here_front, skip_item}
-use Rattle.proto.proofs.Pieces.{same_sym, same_assoc, function_debug, stands_same, stands_left, stands_right, pieces_words}
+use Rattle.proto.proofs.Pieces.{Same, same_sym, same_assoc, function_debug, stands_same, stands_left, stands_right, pieces_words}
 use Rattle.proto.proofs.Walks.{past_stands}
 
 -- ---- the lists of a function
@@ -88,6 +89,24 @@ unfolding item
 item_drop [] i e = cc
 item_drop (b ∷ l) zero {a} e = let g : b ≡ a = cc in rw g
 item_drop (b ∷ l) (suc i) e = item_drop l i e
+
+-- words behind their count are a list of pieces of a word
+word_pieces : (l : List ℕ) (to : ℕ) → (pieces word l).words to ≡ l
+unfolding pieces
+word_pieces [] to = refl
+word_pieces (a ∷ l) to = rw (word_pieces l (to + 0))
+
+word_text : (l : List ℕ) → (pieces word l).text ≡ []
+unfolding pieces
+word_text [] = refl
+word_text (a ∷ l) = word_text l
+
+pub ints_list : (l : List ℕ) → Same (ints l) (list Ints.piece l)
+ints_list l = record { words = λ to. ap (λ (m : List ℕ). length l ∷ m) (sym (word_pieces l (to + 0))); text = sym (word_text l) }
+
+-- the place n words on
+pub skips_on : {words : List ℕ} {n at : ℕ} → Skips words n at (at + n)
+skips_on = record { skips = λ l e h. refl }
 
 module _ {words text : List ℕ} where
   module _ {at to : ℕ} where

@@ -1,5 +1,5 @@
 -- Each function that function_at finds stands in the store, well formed, and its source stands where its span says. So source_at and source answer as defined.
-use Rattle.lent.proofs.Prelude.{ℕ, zero, suc, ◌+◌, ◌-◌, ◌<◌, ◌≡◌, refl, sym, ap, ◌∙◌, List, [], ◌∷◌, Bool, true, false, cond, none, some, arith, add-zero, length, take-length, eqb, eqb-true}
+use Rattle.lent.proofs.Prelude.{ℕ, zero, suc, ◌+◌, ◌-◌, ◌≤◌, ◌<◌, ◌≡◌, refl, sym, ap, ◌∙◌, List, [], ◌∷◌, Bool, true, false, cond, none, some, arith, add-zero, length, take-length, eqb, eqb-true}
 use Rattle.std.specs.Prelude.{Result, Ok, Err}
 use Rattle.std.specs.Option.{ok_or}
 use Rattle.std.specs.ControlFlow.{break_value}
@@ -29,10 +29,15 @@ use Rattle.proto.proofs.Calls.{root_stands}
 
 -- ---- what stands in a store
 
+-- the bytes at a span
+abbrev pub at_span : List ℕ → List ℕ → SourceSpan → List ℕ
+at_span text name (Text start end) = part text start (end - start)
+at_span text name (Name start end) = part name start (end - start)
+
 -- a source stands where its span says
-abbrev pub Sourced : List ℕ → List ℕ → List ℕ → SourceSpan → Type 0
-Sourced text name source (Text start end) = part text start (end - start) ≡ source
-Sourced text name source (Name start end) = part name start (end - start) ≡ source
+pub record Sourced (text name source : List ℕ) (z : SourceSpan) : Type 0 where
+  pub ordered : (span_answer z).start ≤ (span_answer z).end
+  pub is : at_span text name z ≡ source
 
 -- a function that begins at a place stands there, with at most so many nested
 pub record PlacedIn (words text name : List ℕ) (allowance : ℕ) (x : Placed) : Type 0 where
@@ -53,8 +58,8 @@ mutual
   all_suc Functions.none n v = tt
   all_suc (Functions.more f fs) n v = (valid_suc f n v.0, all_suc fs n v.1)
 
-named_sourced : (text name : List ℕ) → Sourced text name name (Name 0 (length name))
-named_sourced text name = let e : length name - 0 ≡ length name = omega arith in rw e (take-length name)
+named_sourced : (text name : List ℕ) → Sourced text name (chunk_name name).bytes (chunk_name name).span
+named_sourced text name = let e : length name - 0 ≡ length name = omega arith in record { ordered = omega arith; is = rw e (take-length name) }
 
 module _ {words text : List ℕ} (name : List ℕ) where
   filled_sourced : {at to : ℕ} (around : Filled) (s : Source) → Stands words text at to (source_piece s) → Sourced text name around.bytes around.span
@@ -62,7 +67,7 @@ module _ {words text : List ℕ} (name : List ℕ) where
   filled_sourced around Source.inherited h k = k
   filled_sourced {to = to} around (Source.own s) h k =
       let e : to + length s - to ≡ length s = omega arith in
-      rw e (here_part s h.in_text)
+      record { ordered = omega arith; is = rw e (here_part s h.in_text) }
 
 -- where a function stands, the functions in it stand
 pub stands_children : {words text : List ℕ} {at to : ℕ} (p : Parts) (fs : Functions) → Stands words text at to (function_piece (Function.function p fs))
@@ -233,3 +238,15 @@ module _ (words text name : List ℕ) (place : ℕ) where
           called_by words text name place
           (λ n h k. rw (k (List ℕ) (λ n. []) (λ x. x.source.bytes)) (none r n h (e ∙ k SourceAt no_source (λ x. span_answer x.source.span))))
           (λ f x h b. rw (holds_tree h, b) (there r x.source (function_stands name place x h b).0.sourced (e ∙ rw (holds_tree h, b))))
+
+  -- the end that it answers is not before the start
+  pub source_ordered : {a : SourceAt} → a ≡ source_answer words text name place → a.start ≤ a.end
+  unfolding found_answer source_answer
+  source_ordered e = rw e (by_name (name_ok name))
+    where
+      by_name : (b : Bool) → let a = cond b (called no_source (λ x. span_answer x.source.span) words text name place) (no_source 1) in a.start ≤ a.end
+      by_name false = omega arith
+      by_name true =
+          called_by words text name place
+          (λ n h k. rw (k SourceAt no_source (λ x. span_answer x.source.span)) (omega arith))
+          (λ f x h b. rw (holds_tree h, b) (function_stands name place x h b).0.sourced.ordered)

@@ -13,14 +13,18 @@ use Rattle.proto.specs.declared.walk.Next.{Next}
 abbrev pub StandsIn : Store → ℕ → Piece → Type 0
 StandsIn s at p = StandsAt s.words.now s.text.now at p
 
--- the lists of a function stand at their places
-pub record ListsAt (l : Lists) (p : Parts) (fs : Functions) : Type 0 where
-  pub code : StandsIn l.store l.code (ints p.code)
-  pub constants : StandsIn l.store l.constants (list constant_piece p.constants)
-  pub functions : StandsIn l.store l.functions (children_piece fs)
-  pub lines : StandsIn l.store l.lines (ints p.debug.lines)
-  pub locals : StandsIn l.store l.locals (list local_piece p.debug.locals)
-  pub upvalues : StandsIn l.store l.upvalues (list string p.debug.upvalues)
+-- the lists of a function stand at their places, with this text, be it the store's or another
+pub record ListsOver (text : List ℕ) (l : Lists) (p : Parts) (fs : Functions) : Type 0 where
+  pub code : StandsAt l.store.words.now text l.code (ints p.code)
+  pub constants : StandsAt l.store.words.now text l.constants (list constant_piece p.constants)
+  pub functions : StandsAt l.store.words.now text l.functions (children_piece fs)
+  pub lines : StandsAt l.store.words.now text l.lines (ints p.debug.lines)
+  pub locals : StandsAt l.store.words.now text l.locals (list local_piece p.debug.locals)
+  pub upvalues : StandsAt l.store.words.now text l.upvalues (list string p.debug.upvalues)
+
+-- with the store's
+abbrev pub ListsAt : Lists → Parts → Functions → Type 0
+ListsAt l p fs = ListsOver l.store.text.now l p fs
 
 -- where a function stands at a place, these are the places of its lists
 pub record ListsFound (at : ℕ) (p : Parts) (fs : Functions) (l : Lists) : Type 0 where

@@ -276,7 +276,7 @@ impl<'a> Checker<'a> {
 }
 
 // Whether n items from a place on are within so many.
-fn is_within(len: usize, at: usize, n: usize) -> bool
+pub fn is_within(len: usize, at: usize, n: usize) -> bool
     ensures { Room result len at n }
 {
     n == 0 || n <= len && at <= len - n

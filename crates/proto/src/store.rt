@@ -4,7 +4,7 @@ ghost use Rattle.format.specs.Store.{string, source_piece, function_piece};
 ghost use Rattle.format.specs.Tree.{Source, Parts, Functions, Function, filled};
 ghost use Rattle.proto.specs.Walk.{Stands, StandsAt};
 
-use crate::walk::{own_at, string_at};
+use crate::walk::{own_source, source_of, string_at};
 
 #[derive(Clone, Copy)]
 pub struct Store<'a> {
@@ -26,16 +26,13 @@ impl<'a> Store<'a> {
     pub fn own_source(self, around: &'a [u8], at: usize) -> &'a [u8]
         ensures { (s : Source) (to : ℕ) → Stands self.entry.words.now self.entry.text.now at to (source_piece s) → result.now ≡ filled around.now s }
     {
-        match own_at(self.words, at) {
-            Some(own) => own.of(self.text),
-            None => around,
-        }
+        own_source(self.words, self.text, around, at)
     }
 
-    // The source of the function at a place. Beside own_source, whose promise is of a source's piece; this one's is of a function's.
+    // The source of the function at a place.
     pub fn source_of(self, around: &'a [u8], at: usize) -> &'a [u8]
         ensures { (p : Parts) (fs : Functions) → StandsAt self.entry.words.now self.entry.text.now at (function_piece (Function.function p fs)) → result.now ≡ filled around.now p.source }
     {
-        self.own_source(around, at)
+        source_of(self.words, self.text, around, at)
     }
 }

@@ -4,11 +4,11 @@
 // rewrites by that, and Lists, which holds six places in the same words, makes such a struct for each.
 ghost use Rattle.std.specs.Prelude.{List, ◌≡◌, ℕ, ◌+◌, ◌*◌, min, length, get_or};
 ghost use Rattle.lent.specs.Memory.{far};
-ghost use Rattle.format.specs.Tree.{Source, Debug, Parts, Functions, Function};
+ghost use Rattle.format.specs.Tree.{Source, Debug, Parts, Functions, Function, filled};
 ghost use Rattle.format.specs.Store.{string, ints, source_piece, debug_piece, function_piece};
 ghost use Rattle.format.specs.Stored.{Here};
 ghost use Rattle.format.specs.Valid.{Valid};
-ghost use Rattle.proto.specs.Walk.{Stands, Skips, SkipsItems, NthAt, Past, Passes, PassesAll, own_place, total, to_code, to_constants, to_functions};
+ghost use Rattle.proto.specs.Walk.{Stands, StandsAt, Skips, SkipsItems, NthAt, Past, Passes, PassesAll, own_place, total, to_code, to_constants, to_functions};
 
 use format::{Constants, Ints, Locals, Names, Span, StoredItem};
 
@@ -54,6 +54,23 @@ pub(crate) fn own_at(words: &[u32], at: usize) -> Option<Span>
     Some(string_at(words, skip(words, at, 1)))
 }
 
+// The source whose words stand at a place: a function's own, or the one around it. The words are asked for no longer than the call.
+pub fn own_source<'a>(words: &[u32], text: &'a [u8], around: &'a [u8], at: usize) -> &'a [u8]
+    ensures { (s : Source) (to : ℕ) → Stands words.now text.now at to (source_piece s) → result.now ≡ filled around.now s }
+{
+    match own_at(words, at) {
+        Some(own) => own.of(text),
+        None => around,
+    }
+}
+
+// The source of the function at a place. Beside own_source, whose promise is of a source's piece; this one's is of a function's.
+pub fn source_of<'a>(words: &[u32], text: &'a [u8], around: &'a [u8], at: usize) -> &'a [u8]
+    ensures { (p : Parts) (fs : Functions) → StandsAt words.now text.now at (function_piece (Function.function p fs)) → result.now ≡ filled around.now p.source }
+{
+    own_source(words, text, around, at)
+}
+
 // The items of the list of words at a place.
 pub fn ints_at(words: &[u32], at: usize) -> &[u32]
     ensures { (l : List ℕ) (t : List ℕ) (to : ℕ) → Stands words.now t at to (ints l) → result.now ≡ l }
@@ -65,11 +82,20 @@ pub fn ints_at(words: &[u32], at: usize) -> &[u32]
     items.of(words)
 }
 
+// The place of item i of the list at a place whose items have so many words.
+#[inline]
+pub fn item_at(words: &[u32], list: usize, size: u32, i: u32) -> usize
+    ensures { Skips words.now (1 + size * i) list result }
+{
+    skip(words, list, 1 + size as usize * i as usize)
+}
+
 // The place of item i of the list of such items at a place.
-pub fn item_at<T: StoredItem>(words: &[u32], list: usize, i: u32) -> usize
+#[inline]
+pub fn item_of<T: StoredItem>(words: &[u32], list: usize, i: u32) -> usize
     ensures { Skips words.now (1 + T.WORDS * i) list result }
 {
-    skip(words, list, 1 + T::WORDS as usize * i as usize)
+    item_at(words, list, T::WORDS, i)
 }
 
 // The same: none where there is no item i.
@@ -77,7 +103,7 @@ pub fn nth_at<T: StoredItem>(words: &[u32], list: usize, i: u32) -> Option<usize
     ensures { NthAt words.now list T.WORDS i result }
 {
     if i < word_at(words, list) {
-        Some(item_at::<T>(words, list, i))
+        Some(item_of::<T>(words, list, i))
     } else {
         None
     }
@@ -98,7 +124,7 @@ pub fn first_in(words: &[u32], functions: usize, number: usize) -> Next
 pub(crate) fn after_list<T: StoredItem>(words: &[u32], at: usize) -> usize
     ensures { SkipsItems words.now T.WORDS at result }
 {
-    item_at::<T>(words, at, word_at(words, at))
+    item_of::<T>(words, at, word_at(words, at))
 }
 
 // The place of the code of the function at a place.

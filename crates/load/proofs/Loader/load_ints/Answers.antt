@@ -3,8 +3,8 @@
 use Rattle.load.proofs.Fours.{ints_refused, ints_loaded}
 use Rattle.load.proofs.Loader.load_ints.Goals as goal
 
-pub returns-in_err-load_block : goal.returns-in_err-load_block
-returns-in_err-load_block c = ints_refused c.in_ok-n.ensures c.in_err-load_block.ensures c.from_residual-in_err-load_block.ensures.1
+pub returns-in_err-load_block-clause-loads : goal.returns-in_err-load_block-clause-loads
+returns-in_err-load_block-clause-loads c = ints_refused c.in_ok-n.ensures.loads c.in_err-load_block.ensures c.from_residual-in_err-load_block.ensures.1
 
-pub returns : goal.returns
-returns c = ints_loaded c.in_ok-n.ensures c.in_ok-load_block.ensures c.advance-bytes.ensures.0 c.advance-bytes.ensures.1 c.put_ints.ensures
+pub returns-clause-loads : goal.returns-clause-loads
+returns-clause-loads c = ints_loaded c.in_ok-n.ensures.loads c.in_ok-load_block.ensures c.advance-bytes.ensures.0 c.advance-bytes.ensures.1 c.put_ints.ensures.stores
