@@ -6,7 +6,7 @@ use Rattle.format.specs.Tree.{Local, Parts, Function, Functions}
 use Rattle.format.specs.Store.{list, local_piece}
 use Rattle.format.specs.Valid.{depth, ValidAll}
 use Rattle.proto.specs.Walk.{StandsAt}
-use Rattle.proto.specs.Lists.{ListsAt}
+use Rattle.proto.specs.Lists.{ListsOver}
 use Rattle.proto.specs.declared.lists.Lists.{Lists}
 use Rattle.debug_info.specs.declared.name.Kind.{Kind}
 use Rattle.debug_info.specs.declared.name.Known.{Known}
@@ -33,9 +33,9 @@ moves_below i h = elim (dec_lt (GETARG_B i) (GETARG_A i)) [
   | no k ↦ absurd (true≢false (sym h ∙ simp (le-ltb (GETARG_B i) (GETARG_A i) (omega arith), and-false)))
 ]
 
--- what the search gives for a register of the function whose lists these are
-abbrev Gives : Lists → ℕ → ℕ → List Bool → Option Known → Type 0
-Gives s pc reg before r = (p : Parts) (fs : Functions) → ListsAt s p fs → ValidAll fs depth → object_of s.store.text.now r ≡ searched (Function.function p fs) pc (unsearched before) reg before
+-- what the search gives for a register of the function whose lists these are, by a text
+abbrev Gives : List ℕ → Lists → ℕ → ℕ → List Bool → Option Known → Type 0
+Gives text s pc reg before r = (p : Parts) (fs : Functions) → ListsOver text s p fs → ValidAll fs depth → object_of text r ≡ searched (Function.function p fs) pc (unsearched before) reg before
 
 -- what is known comes before what the search goes on with
 known_first : (text : List ℕ) (x : Option Known) (o : Object) → is_some x ≡ true → or_else (object_of text x) o ≡ object_of text x
@@ -54,36 +54,36 @@ unknown_then text None o e = refl
 unknown_then text (Some k) o e = absurd (true≢false e)
 
 -- n is the register's number among those searched
-module _ {s : Lists} (pc reg : ℕ) (before : List Bool) {n : ℕ} (q : n ≡ reg) where
+module _ {text : List ℕ} {s : Lists} (pc reg : ℕ) (before : List Bool) {n : ℕ} (q : n ≡ reg) where
   -- it was searched before
-  pub search_again : get_or before n false ≡ true → Gives s pc reg before None
+  pub search_again : get_or before n false ≡ true → Gives text s pc reg before None
   unfolding searched
   search_again e p fs h v = by (unsearched before)
     where
-      by : (k : ℕ) → object_of s.store.text.now None ≡ searched (Function.function p fs) pc k reg before
+      by : (k : ℕ) → object_of text None ≡ searched (Function.function p fs) pc k reg before
       by zero = refl
       by (suc k) = rw (rw q at e)
 
   module _ (small : pc < 2 ^ 32) (within : reg < 256) (all : length before ≡ 256) (new : get_or before n false ≡ false) (x : Option Known)
       (active : (text : List ℕ) (l : List Local) → StandsAt s.store.words.now text s.locals (list local_piece l) → object_of text x ≡ active_local l (n + 1) pc) where
-    opened : (p : Parts) (fs : Functions) → ListsAt s p fs → (i : ℕ) → i ≡ symbexec (Function.function p fs) pc reg → searched (Function.function p fs) pc (unsearched before) reg before
-        ≡ or_else (object_of s.store.text.now x) (cond (moves_up i) (searched (Function.function p fs) pc (unsearched (set before n true)) (GETARG_B i) (set before n true)) (wrote p i))
+    opened : (p : Parts) (fs : Functions) → ListsOver text s p fs → (i : ℕ) → i ≡ symbexec (Function.function p fs) pc reg → searched (Function.function p fs) pc (unsearched before) reg before
+        ≡ or_else (object_of text x) (cond (moves_up i) (searched (Function.function p fs) pc (unsearched (set before n true)) (GETARG_B i) (set before n true)) (wrote p i))
     unfolding searched get_local_name
     opened p fs h i e = let m : pc % 2 ^ 32 ≡ pc = omega arith in let e : i ≡ symbexec (Function.function p fs) pc n = rw (← q) at e in
-        rw (← q) (rw (marked before n (omega arith) new, new, m, e, ← active s.store.text.now p.debug.locals h.locals))
+        rw (← q) (rw (marked before n (omega arith) new, new, m, e, ← active text p.debug.locals h.locals))
 
     -- it is a local
-    pub search_local : {b : Bool} → b ≡ is_some x → b ≡ true → Gives s pc reg before x
+    pub search_local : {b : Bool} → b ≡ is_some x → b ≡ true → Gives text s pc reg before x
     search_local d k p fs h v = sym (opened p fs h _ refl ∙ known_first _ x _ (sym d ∙ k))
 
-    module _ {b : Bool} (d : b ≡ is_some x) (k : b ≡ false) {r i : ℕ} (g : r ≡ reg) (last : (p : Parts) (fs : Functions) → ListsAt s p fs → ValidAll fs depth → i ≡ symbexec (Function.function p fs) pc r) {m : Bool} (up : m ≡ moves_up i) where
-      found : (p : Parts) (fs : Functions) → ListsAt s p fs → ValidAll fs depth → searched (Function.function p fs) pc (unsearched before) reg before
+    module _ {b : Bool} (d : b ≡ is_some x) (k : b ≡ false) {r i : ℕ} (g : r ≡ reg) (last : (p : Parts) (fs : Functions) → ListsOver text s p fs → ValidAll fs depth → i ≡ symbexec (Function.function p fs) pc r) {m : Bool} (up : m ≡ moves_up i) where
+      found : (p : Parts) (fs : Functions) → ListsOver text s p fs → ValidAll fs depth → searched (Function.function p fs) pc (unsearched before) reg before
           ≡ cond m (searched (Function.function p fs) pc (unsearched (set before n true)) (GETARG_B i) (set before n true)) (wrote p i)
       found p fs h v = opened p fs h i (rw g at (last p fs h v)) ∙ unknown_then _ x _ (sym d ∙ k) ∙ rw up
 
       -- it was moved there
-      pub search_moved : (r : Option Known) {from : ℕ} → m ≡ true → from ≡ GETARG_B i → Gives s pc from (set before n true) r → Gives s pc reg before r
+      pub search_moved : (r : Option Known) {from : ℕ} → m ≡ true → from ≡ GETARG_B i → Gives text s pc from (set before n true) r → Gives text s pc reg before r
       search_moved r t e f p fs h v = f p fs h v ∙ rw e (sym (found p fs h v ∙ rw t))
 
-      pub search_wrote : (r : Option Known) → m ≡ false → ((p : Parts) (fs : Functions) → ListsAt s p fs → object_of s.store.text.now r ≡ wrote p i) → Gives s pc reg before r
+      pub search_wrote : (r : Option Known) → m ≡ false → ((p : Parts) (fs : Functions) → ListsOver text s p fs → object_of text r ≡ wrote p i) → Gives text s pc reg before r
       search_wrote r t f p fs h v = f p fs h ∙ sym (found p fs h v ∙ rw t)

@@ -9,13 +9,14 @@ pub mod object;
 ghost use Rattle.std.specs.Prelude.{◌≡◌, IfOk};
 ghost use Rattle.format.specs.Dump.{write_left, written_left};
 ghost use Rattle.format.specs.Refusal.{RefusedBy};
-ghost use Rattle.debug_info.specs.Known.{object_of};
+ghost use Rattle.debug_info.specs.Names.{object};
+ghost use Rattle.debug_info.specs.Known.{name_of, object_of};
 ghost use Rattle.debug_info.specs.Calls.{register_refusal, symbexec_answer, symbexec_result, name_left, named, named_result, local_named, knamed, object_named};
 
 use answer::{Named, SymbExec};
 use format::{Refusal, Written, low};
 use list::{active_local, operand_name};
-use name::{Kind, Known, write_name};
+use name::{Kind, Known, Name, write_name};
 use proto::store::Store;
 use proto::walk::{code_at, constants_at, word_at};
 use symbexec::symbexec_at;
@@ -37,6 +38,20 @@ fn check_register(store: Store, place: usize, pc: usize, reg: u32) -> Result<(u3
         return Err(Refusal::BadRegister);
     };
     Ok((low(pc), reg))
+}
+
+// The answer for a kind by its number, whichever it is, and a name, which goes to out. 11 where it does not fit.
+pub fn give(text: &[u8], kind: u32, name: Name, out: &mut [u8]) -> Named
+    ensures { name_left result out.new ≡ named (object kind (name_of text.now name)) out.old }
+{
+    match write_name(text, name, out) {
+        Ok(len) => Named {
+            refusal: 0,
+            kind,
+            len,
+        },
+        Err(e) => Err(e).into(),
+    }
 }
 
 // Writes the name of what is known from the start of out, and answers its kind and its length, nothing where nothing is known. Refused by 11.

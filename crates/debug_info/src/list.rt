@@ -13,7 +13,7 @@ use format::Locals;
 use instructions::{index_k, is_k};
 use proto::constant::constant_of;
 use proto::debug::{local_at, upvalue_of};
-use proto::walk::{item_at, word_at};
+use proto::walk::{item_of, word_at};
 use std::ops::ControlFlow;
 
 // What a local of which this is known, active from start on and before end, tells of the search for number remaining, from it on, of those active at pc.
@@ -48,7 +48,7 @@ pub fn active_local(words: &[u32], locals: usize, n: usize, pc: u32) -> Option<K
     let count = word_at(words, locals);
     let mut remaining = n;
     for i in 0..count {
-        let v = local_at(words, item_at::<Locals>(words, locals, i));
+        let v = local_at(words, item_of::<Locals>(words, locals, i));
         let known = Known {
             kind: Kind::Local,
             name: Name::Text(v.name),

@@ -1,8 +1,8 @@
 // The object that a register holds (ldebug.c, getobjname).
-ghost use Rattle.std.specs.Prelude.{◌≡◌, ◌<◌};
+ghost use Rattle.std.specs.Prelude.{List, ◌≡◌, ℕ, ◌<◌};
 ghost use Rattle.format.specs.Tree.{Parts, Function, Functions};
 ghost use Rattle.format.specs.Valid.{depth, ValidAll};
-ghost use Rattle.proto.specs.Lists.{ListsAt};
+ghost use Rattle.proto.specs.Lists.{ListsOver};
 ghost use Rattle.debug_info.specs.Names.{wrote, moves_up, searched};
 ghost use Rattle.debug_info.specs.Known.{object_of};
 ghost use Rattle.debug_info.specs.Searched.{unsearched};
@@ -17,7 +17,7 @@ use symbexec::symbexec_at;
 // What an instruction other than MOVE wrote.
 #[tactic(auto, unfolding(crate::specs::Names::wrote))]
 fn wrote(s: Lists, i: Instruction) -> Option<Known>
-    ensures { (p : Parts) (fs : Functions) → ListsAt s.entry p fs → object_of s.entry.store.text.now result ≡ wrote p i.0 }
+    ensures { (text : List ℕ) (p : Parts) (fs : Functions) → ListsOver text s.entry p fs → object_of text result ≡ wrote p i.0 }
 {
     let words = s.store.words;
     let (kind, name) = match i.opcode() {
@@ -41,7 +41,7 @@ fn moves_up(i: Instruction) -> bool
 // The object in a register at pc, of the function whose lists these are. Calls itself on the register that MOVE took it from, as the scope
 // has it; nothing is known where that was searched before.
 pub fn getobjname(s: Lists, pc: u32, reg: u8, mut before: [bool; 256]) -> Option<Known>
-    ensures { (p : Parts) (fs : Functions) → ListsAt s.entry p fs → ValidAll fs depth → object_of s.entry.store.text.now result ≡ searched (Function.function p fs) pc (unsearched before) reg before }
+    ensures { (text : List ℕ) (p : Parts) (fs : Functions) → ListsOver text s.entry p fs → ValidAll fs depth → object_of text result ≡ searched (Function.function p fs) pc (unsearched before) reg before }
 {
     let n = usize::from(reg);
     if before[n] {

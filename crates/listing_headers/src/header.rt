@@ -1,5 +1,5 @@
 // The header of a function (listing.rs: display_source, format_header).
-ghost use Rattle.std.specs.Prelude.{◌≡◌, ◌++◌};
+ghost use Rattle.std.specs.Prelude.{List, ◌≡◌, ℕ, ◌++◌};
 ghost use Rattle.lent.specs.Writer.{Writes};
 ghost use Rattle.digits.specs.Digits.{decimal};
 ghost use Rattle.instructions.specs.OpCodes.{ascii};
@@ -117,7 +117,7 @@ pub struct Header<'a> {
 impl Header<'_> {
     // Line one.
     fn put_kind(self, w: &mut Writer, source: &[u8], number: usize)
-        ensures { (p : Parts) (fs : Functions) → HeaderOf self.entry p fs → Writes (header_kind p source.now number) w.old w.new }
+        ensures { (text : List ℕ) (p : Parts) (fs : Functions) → HeaderOf text self.entry p fs → Writes (header_kind p source.now number) w.old w.new }
     {
         put_kind_of(w, self.head.line_defined);
         put_source_lines(
@@ -131,7 +131,7 @@ impl Header<'_> {
 
     // Line two.
     fn put_counts(self, w: &mut Writer)
-        ensures { (p : Parts) (fs : Functions) → HeaderOf self.entry p fs → Writes (header_counts p fs) w.old w.new }
+        ensures { (text : List ℕ) (p : Parts) (fs : Functions) → HeaderOf text self.entry p fs → Writes (header_counts p fs) w.old w.new }
     {
         let words = self.lists.store.words;
         put_params(w, self.head.num_params, self.head.is_vararg);
@@ -145,7 +145,7 @@ impl Header<'_> {
 
     // The header.
     pub fn put(self, w: &mut Writer, source: &[u8], number: usize)
-        ensures { (p : Parts) (fs : Functions) → HeaderOf self.entry p fs → Writes (format_header p fs source.now number) w.old w.new }
+        ensures { (text : List ℕ) (p : Parts) (fs : Functions) → HeaderOf text self.entry p fs → Writes (format_header p fs source.now number) w.old w.new }
     {
         self.put_kind(w, source, number);
         self.put_counts(w);

@@ -15,7 +15,7 @@ use listing_operands::constant::put_constant;
 use proto::constant::constant_at;
 use proto::debug::local_at;
 use proto::store::Store;
-use proto::walk::{item_at, word_at};
+use proto::walk::{item_of, word_at};
 
 // What a list of a full listing holds: a line for each item. proto, load_function and dump have an Item of their own, and Value and piece stand here beside
 // StoredItem's: a ghost member's type cannot name a member of a supertrait (only a law's can), and line is of Value.
@@ -140,6 +140,6 @@ pub fn put_list<T: Item>(w: &mut Writer, store: Store, place: usize, number: usi
     let n = word_at(store.words, place);
     put_title(w, T::noun(), n, number);
     for i in 0..n {
-        T::put_line(w, store, item_at::<T>(store.words, place, i), i);
+        T::put_line(w, store, item_of::<T>(store.words, place, i), i);
     }
 }

@@ -9,7 +9,7 @@ ghost use Rattle.format.specs.Store.{children_piece};
 ghost use Rattle.format.specs.Tree.{Parts, Function, Functions};
 ghost use Rattle.proto.specs.Walk.{children, StandsAt};
 ghost use Rattle.format.specs.Valid.{depth, ValidAll};
-ghost use Rattle.proto.specs.Lists.{ListsAt};
+ghost use Rattle.proto.specs.Lists.{ListsOver};
 ghost use Rattle.symbexec.specs.SymbExec.{last_write, symbexec};
 
 use format::DEPTH;
@@ -40,7 +40,7 @@ fn last_write(code: &[u32], functions: Children, sought: Sought) -> usize
 
 // That instruction, in the function whose lists these are.
 pub fn symbexec_at(s: Lists, lastpc: u32, reg: u32) -> u32
-    ensures { (p : Parts) (fs : Functions) → ListsAt s.entry p fs → ValidAll fs depth → result ≡ symbexec (Function.function p fs) lastpc reg }
+    ensures { (text : List ℕ) (p : Parts) (fs : Functions) → ListsOver text s.entry p fs → ValidAll fs depth → result ≡ symbexec (Function.function p fs) lastpc reg }
 {
     let code = ints_at(s.store.words, s.code);
     word_at(

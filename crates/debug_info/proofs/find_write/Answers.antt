@@ -8,4 +8,4 @@ use Rattle.debug_info.proofs.find_write.Goals as goal
 pub returns : goal.returns
 unfolding symbexec_answer
 returns c = let a = c.args in let k = c.in_ok-lastpc.ensures in
-    register_listed no_instruction (λ f. record { refusal = 0; instruction = symbexec f a.lastpc a.reg }) c.lists_at.ensures.store c.lists_at.ensures.lists (λ p fs h v. rw (c.symbexec_at.ensures p fs h v, c.from.ensures, k.found.0, k.found.1)) _ _ k.refused
+    register_listed no_instruction (λ f. record { refusal = 0; instruction = symbexec f a.lastpc a.reg }) c.lists_at.ensures.store c.lists_at.ensures.lists (λ p fs h v. rw (c.symbexec_at.ensures _ p fs h v, c.from.ensures, k.found.0, k.found.1)) _ _ k.refused

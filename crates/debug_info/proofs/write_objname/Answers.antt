@@ -11,4 +11,4 @@ pub returns : goal.returns
 unfolding object_named unsearched
 returns c = let a = c.args in let out = a.out.now in let k = c.in_ok-pc.ensures in
     register_listed (name_refused out) (λ f. named (getobjname f a.pc a.stackpos) out) c.lists_at.ensures.store c.lists_at.ensures.lists
-    (λ p fs h v. c.write_known.ensures ∙ ap (λ o. named o out) (rw (c.lists_at.ensures.store, k.found.0, k.found.1) at (c.getobjname-v.ensures p fs h v))) _ _ k.refused
+    (λ p fs h v. c.write_known.ensures ∙ ap (λ o. named o out) (rw (c.lists_at.ensures.store, k.found.0, k.found.1) at (c.getobjname-v.ensures _ p fs h v))) _ _ k.refused

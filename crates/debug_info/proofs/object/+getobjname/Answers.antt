@@ -17,7 +17,7 @@ pub overflow_cast-b : goal.overflow_cast-b
 overflow_cast-b t c = record { fits = rw c.b.ensures (moves_below _ (sym c.moves_up.ensures ∙ c.if-moves_up.true)) }
 
 pub returns-then-moves_up : goal.returns-then-moves_up
-returns-then-moves_up t c = search search_moved
+returns-then-moves_up t c text = search (search_moved, c.symbexec_at.ensures text, c.getobjname.ensures text)
 
 pub returns : goal.returns
-returns t c = search search_wrote
+returns t c text = search (search_wrote, c.symbexec_at.ensures text, c.wrote.ensures text)

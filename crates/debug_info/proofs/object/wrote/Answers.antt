@@ -6,16 +6,16 @@ use Rattle.debug_info.proofs.object.wrote.Goals as goal
 
 pub returns-in-5 : goal.returns-in-5
 unfolding wrote
-returns-in-5 c p fs h = rw (sym c.opcode.ensures ∙ c.in-5.is, ← c.bx.ensures) (c.global_of.ensures c.args.s.store.text.now ∙ rw (c.constant_of.ensures c.args.s.store.text.now p.constants h.constants))
+returns-in-5 c text p fs h = rw (sym c.opcode.ensures ∙ c.in-5.is, ← c.bx.ensures) (c.global_of.ensures text ∙ rw (c.constant_of.ensures text p.constants h.constants))
 
 pub returns-in-6 : goal.returns-in-6
 unfolding wrote
-returns-in-6 c p fs h = rw (sym c.opcode.ensures ∙ c.in-6.is, ← c.c.ensures, ← c.operand_name.ensures c.args.s.store.text.now p.constants h.constants)
+returns-in-6 c text p fs h = rw (sym c.opcode.ensures ∙ c.in-6.is, ← c.c.ensures, ← c.operand_name.ensures text p.constants h.constants)
 
 pub returns-in-4 : goal.returns-in-4
 unfolding wrote
-returns-in-4 c p fs h = rw (sym c.opcode.ensures ∙ c.in-4.is, ← c.b.ensures, ← c.upvalue_name.ensures c.args.s.store.text.now p.debug.upvalues h.upvalues)
+returns-in-4 c text p fs h = rw (sym c.opcode.ensures ∙ c.in-4.is, ← c.b.ensures, ← c.upvalue_name.ensures text p.debug.upvalues h.upvalues)
 
 pub returns-in-11 : goal.returns-in-11
 unfolding wrote
-returns-in-11 c p fs h = rw (sym c.opcode.ensures ∙ c.in-11.is, ← c.c-in-11.ensures, ← c.operand_name-in-11.ensures c.args.s.store.text.now p.constants h.constants)
+returns-in-11 c text p fs h = rw (sym c.opcode.ensures ∙ c.in-11.is, ← c.c-in-11.ensures, ← c.operand_name-in-11.ensures text p.constants h.constants)

@@ -4,4 +4,4 @@ use Rattle.lent.proofs.Writers.{writes_then}
 use Rattle.listing_headers.proofs.header.Header.put.Goals as goal
 
 pub returns : goal.returns
-returns c = λ p fs h. writes_then (c.put_kind.ensures p fs h) (c.put_counts.ensures p fs h)
+returns c = λ text p fs h. writes_then (c.put_kind.ensures text p fs h) (c.put_counts.ensures text p fs h)

@@ -12,7 +12,7 @@ use Rattle.listing_headers.proofs.header.Header.put_counts.Goals as goal
 pub returns : goal.returns
 unfolding header_counts
 returns c =
-    λ p fs h.
+    λ text p fs h.
     let locals = c.word_at.ensures ∙ list_count local_piece p.debug.locals h.lists.locals.stands in
     let constants = c.word_at-2.ensures ∙ list_count constant_piece p.constants h.lists.constants.stands in
     let functions = c.word_at-3.ensures ∙ here_get (count fs) _ h.lists.functions.stands.in_words in

@@ -9,4 +9,4 @@ use Rattle.listing_headers.proofs.header.Header.put_kind.Goals as goal
 
 pub returns : goal.returns
 unfolding header_kind
-returns c = λ p fs h. rw (← ap (λ (x : Head). x.line_defined) h.head, ← ap (λ (x : Head). x.last_line_defined) h.head, ← (c.word_at.ensures ∙ ints_count p.code h.lists.code.stands)) (writes_then (writes_then c.put_kind_of.ensures c.put_source_lines.ensures) c.put_code_size.ensures)
+returns c = λ text p fs h. rw (← ap (λ (x : Head). x.line_defined) h.head, ← ap (λ (x : Head). x.last_line_defined) h.head, ← (c.word_at.ensures ∙ ints_count p.code h.lists.code.stands)) (writes_then (writes_then c.put_kind_of.ensures c.put_source_lines.ensures) c.put_code_size.ensures)
