@@ -43,7 +43,7 @@
  * Memory. A call allocates nothing, keeps no pointer and no state, and waits for nothing. So calls may run at once in any number of
  * threads, as long as nobody else writes what a call reads, or touches what it writes, before it returns. 256 KB of stack are enough
  * for any call (measured: 141 KB at most, by getobjname over a chain of 254 MOVEs; on a chunk 200 functions deep a listing takes 84 KB,
- * lua_chunk_dump 46, lua_chunk_measure and lua_chunk_store 36).
+ * lua_chunk_dump 52, lua_chunk_measure and lua_chunk_store 33).
  *
  * What the caller owes. A run is a pointer and a count of elements, a size in bytes for bytes, and:
  *   - the pointer is not null and is aligned for its type (4 bytes for words and records), also where the count is 0;
