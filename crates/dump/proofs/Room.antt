@@ -1,6 +1,6 @@
 -- Where there is room for the bytes of a piece, each step of the walk has room for its own, and leaves room for the rest: so what fits is written whole.
 use Rattle.std.specs.Prelude.{None}
-use Rattle.lent.proofs.Prelude.{ℕ, ◌+◌, ◌-◌, ◌≤◌, ◌<◌, ◌≡◌, refl, ◌∙◌, List, [], ◌∷◌, ◌++◌, Bool, false, arith, length, take, drop, length-append, leb, lt-leb}
+use Rattle.lent.proofs.Prelude.{ℕ, ◌+◌, ◌-◌, ◌≤◌, ◌<◌, ◌≡◌, refl, ◌∙◌, List, [], ◌∷◌, ◌++◌, false, arith, length, take, drop, length-append, leb, lt-leb}
 use Rattle.lent.specs.Memory.{Every, far, Puts}
 use Rattle.lent.specs.Whole.{PutsWhole}
 use Rattle.lent.proofs.Writes.{put_length, put_fits}

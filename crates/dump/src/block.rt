@@ -137,7 +137,7 @@ impl Options {
         }
     }
 
-    // A string: its length and one, its bytes, a zero. In the caller, where the width is tested: grouped1 took 0.88 of the time that it took by a call.
+    // A string: its length and one, its bytes, a zero. In the caller, where the width is tested; it takes as many instructions as by a call.
     #[inline(always)]
     #[tactic(auto, using(crate::proofs::Blocks::string_short, crate::proofs::Blocks::string_long))]
     pub fn dump_string<const STORED: bool>(self, out: &mut [u8], at: usize, s: &[u8]) -> usize
