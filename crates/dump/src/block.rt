@@ -7,6 +7,7 @@ ghost use Rattle.dump.specs.Step.{seen};
 
 use format::low;
 use lent::{copy, put, put_all, put_array};
+use proto::formed::is_within;
 
 // How a chunk is written: whether without debug lists, and whether sizes take four bytes.
 #[derive(Clone, Copy)]
@@ -44,7 +45,7 @@ pub fn dump_int<const STORED: bool>(out: &mut [u8], at: usize, n: u32) -> usize
 fn put_tagged<const N: usize>(out: &mut [u8], at: usize, tag: u8, bytes: [u8; N]) -> usize
     ensures { Puts (tag ∷ bytes.entry) at out.old result out.new }
 {
-    if at < out.len() && N < out.len() - at {
+    if is_within(out.len(), at, 1 + N) {
         let start = at + 1;
         out[at] = tag;
         out[start..start + N].copy_from_slice(&bytes);

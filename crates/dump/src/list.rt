@@ -127,7 +127,9 @@ impl Dumper<'_> {
     {
         match k {
             Constant::Nil => dump_array::<STORED, 1>(out, at, [Tag::Nil as u8]),
-            Constant::Bool(b) => dump_array::<STORED, 2>(out, at, [Tag::Bool as u8, u8::from(b)]),
+            Constant::Bool(b) => {
+                dump_tagged::<STORED, 1>(out, at, Tag::Bool as u8, [u8::from(b)])
+            }
             Constant::Num(high, low) => {
                 dump_tagged::<STORED, 8>(out, at, Tag::Num as u8, joined(high, low).to_le_bytes())
             }

@@ -18,7 +18,7 @@ use Rattle.format.proofs.Loops.{Loop, loop_turn, loop_stop, loop_end}
 use Rattle.proto.specs.declared.formed.Places.{Places}
 use Rattle.proto.specs.Walk.{Stands}
 use Rattle.proto.specs.Formed.{Found, behind, Both, beside, Check, Within, Many, Room, three, Three}
-use Rattle.proto.proofs.Sublists.{here_length, here_item, here_get, here_none, here_two, here_three, here_take}
+use Rattle.proto.proofs.Sublists.{here_length, room_short, here_item, here_get, here_none, here_two, here_three, here_take}
 use Rattle.proto.proofs.Pieces.{Same, same_refl, stands_same, same_sym, stands_left, stands_right, stands_join}
 
 -- the piece is that of a valid value
@@ -102,13 +102,16 @@ module _ {words text : List ℕ} where
   unfolding Both beside
   check_stop ok' q c = check_wrong (λ v k t. no_answer (c.complete v.0 k.0 (stands_left _ (q v.1) t)))
 
-  module _ {s : Places} {l : List ℕ} (h : Rest words s.at l) where
+  module _ {s : Places} {b : Bool} (room : Room b (length words) s.at 3) where
     -- ---- three words
 
-    pub three_good : {kind x y : ℕ} → 3 ≤ length l → get_or l 0 0 ≡ kind → get_or l 1 0 ≤ x → get_or l 2 0 ≤ y → Check words text (Three kind x y) three s (Some (record { at = s.at + 3; to = s.to }))
-    three_good k u v w =
+    pub three_good : {kind x y : ℕ} → b ≡ true → get_or words s.at 0 ≡ kind → get_or words (s.at + 1) 0 ≤ x → get_or words (s.at + 2) 0 ≤ y → Check words text (Three kind x y) three s (Some (record { at = s.at + 3; to = s.to }))
+    three_good e u v w =
         check_good (record { first = get_or words s.at 0; second = get_or words (s.at + 1) 0; third = get_or words (s.at + 2) 0 })
-        (record { is = rest_first words l s.at h ∙ u; second = rw (rest_item words l s.at h 1) v; third = rw (rest_item words l s.at h 2) w }) (record { in_words = here_three (omega arith); in_text = here_none }) (λ v k t. rw add-zero)
+        (record { is = u; second = v; third = w }) (record { in_words = here_three (omega (arith, room.is e)); in_text = here_none }) (λ v k t. rw add-zero)
+
+    pub three_short : {kind x y : ℕ} → b ≡ false → Check words text (Three kind x y) three s None
+    three_short e = check_wrong (λ w k t. room_short room e refl t.in_words)
 
 -- ---- lists
 
@@ -202,7 +205,7 @@ module _ {words text : List ℕ} {s : Places} where
         check_good l (g, part_below (2 ^ 32) words s.at n w) (record { in_words = here_take n; in_text = here_none }) (λ x z t. rw (z.0, add-zero))
 
     pub words_bad : {b : Bool} → Room b (length words) s.at n → b ≡ false → Check words text (Many Word n) plain s None
-    words_bad room e = check_wrong (λ x z t. room.not e (omega (arith, z.0, here_length x t.in_words)))
+    words_bad room e = check_wrong (λ x z t. room_short room e z.0 t.in_words)
 
     -- words after their count
     pub ints_checked : {m : Places} {r : Answer Places} → n ≤ limit → Check words text (Within n n) word s (Some m) → Check words text (Many Word n) plain m r → Check words text (ValidList Word) ints s r

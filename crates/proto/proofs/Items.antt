@@ -1,5 +1,5 @@
 -- What stands at the places that walking finds: the lists of a function, their counts, their items, strings and constants.
-use Rattle.lent.proofs.Prelude.{ℕ, zero, suc, ◌+◌, ◌*◌, ◌≤◌, ◌<◌, ◌≡◌, refl, sym, ap, ◌∙◌, List, [], ◌∷◌, ◌++◌, none, some, arith, add-zero, mul-suc, mul-zero, length, take, drop, get_or, length-take-le}
+use Rattle.lent.proofs.Prelude.{Bool, false, ℕ, zero, suc, ◌+◌, ◌*◌, ◌≤◌, ◌<◌, ◌≡◌, refl, sym, ap, ◌∙◌, List, [], ◌∷◌, ◌++◌, none, some, arith, add-zero, mul-suc, mul-zero, length, take, drop, get_or, length-take-le}
 use Rattle.std.specs.Prelude.{Some, None}
 use Rattle.std.specs.Int.{to_be_bytes}
 use Rattle.std.proofs.lemmas.Nat.{be_bytes_4}
@@ -7,15 +7,19 @@ use mir.Syntax.{w32}
 use Rattle.format.specs.Tree.{Local, Source, Parts, Function, Functions}
 use Rattle.format.specs.Store.{Piece, word, ◌⊕◌, string, pieces, list, ints, source_piece, constant_piece, local_piece, debug_piece, packed, function_piece, children_piece}
 use Rattle.format.specs.declared.StoredItem.{Ghosts}
+use Rattle.format.specs.contracts.ConstantsStoredItem.TheImpl.{ghosts as Constants}
 use Rattle.format.specs.contracts.IntsStoredItem.TheImpl.{ghosts as Ints}
+use Rattle.format.specs.declared.Constant.TheVariants.{Nil}
 use Rattle.format.specs.Stored.{part}
 use Rattle.format.specs.declared.Span.{Span}
 use Rattle.format.specs.Valid.{ValidParts}
 use Rattle.format.proofs.Stored.{here_left, here_right, here_part}
+use Rattle.proto.specs.Constants.{ConstantAt}
+use Rattle.proto.specs.Formed.{Room}
 use Rattle.proto.specs.Walk.{Stands, StandsAt, item, Skips, NthAt, Past, to_code, to_constants, to_functions, to_lines, to_locals, to_upvalues}
 use Rattle.proto.specs.Debug.{local_of}
 use Rattle.proto.specs.Head.{head_of}
-use Rattle.proto.proofs.Sublists.{here_get, here_front, skip_item}
+use Rattle.proto.proofs.Sublists.{room_short, here_get, here_front, skip_item}
 use Rattle.proto.proofs.Pieces.{Same, same_sym, same_assoc, function_debug, stands_same, stands_left, stands_right, pieces_words}
 use Rattle.proto.proofs.Walks.{past_stands}
 
@@ -220,3 +224,13 @@ head_here {x = x} {y = y} {z = z} {l = l} f i g j k m q p fs t v stands =
     let o : z ≡ packed p = skip_item _ (omega (arith, w.0)) h k m ∙ w.3 in
     let u : l ≡ p.num_upvalues ∷ p.num_params ∷ p.is_vararg ∷ p.max_stack_size ∷ [] = q ∙ rw o (packed_bytes p v) in
     rw (e, e', u)
+
+-- ---- a constant
+
+-- none stands where its words are not all there
+pub constant_away : {words : List ℕ} {at : ℕ} {b : Bool} → Room b (length words) at Constants.WORDS → b ≡ false → ConstantAt words at Nil
+constant_away room e =
+    record {
+      value = λ k t to h. absurd (room_short room e (Constants.size k to) h.in_words);
+      numbered = λ k t to h. absurd (room_short room e (Constants.size k to) h.in_words);
+    }

@@ -9,11 +9,12 @@ use Rattle.format.specs.Store.{Piece, ◌⊕◌, plain, word, string, pieces, li
 use Rattle.format.specs.Stored.{tree_of}
 use Rattle.format.specs.Dump.{on_tree, store_refusal}
 use Rattle.format.specs.Valid.{depth, most, Name, ValidSource, ValidConstant, ValidLocal, ValidList, ValidDebug, ValidParts, Valid, ValidAll, Holds}
+use Rattle.format.specs.contracts.ConstantsStoredItem.TheImpl.{ghosts as Constants}
 use Rattle.format.proofs.Stored.{holds_tree, tree_holds}
 use Rattle.proto.specs.declared.formed.Places.{Places}
 use Rattle.proto.specs.Walk.{Stands, children}
-use Rattle.proto.specs.Formed.{behind, Both, beside, Check, Within, Many, three, Three, ValidChildren}
-use Rattle.proto.proofs.Sublists.{here_get, here_whole, whole_here}
+use Rattle.proto.specs.Formed.{behind, Both, beside, Check, Within, Many, Room, three, Three, ValidChildren}
+use Rattle.proto.proofs.Sublists.{room_short, here_get, here_whole, whole_here}
 use Rattle.proto.proofs.Pieces.{Same, same_sym, same_refl, same_is}
 use Rattle.proto.proofs.Walks.{none_deep}
 use Rattle.proto.proofs.Checks.{no_answer, As, check_wrong, check_as, check_of, check_then, check_stop}
@@ -122,6 +123,10 @@ module _ {words text : List ℕ} where
 
   pub str_stop : {x : ℕ} {s : Places} → x ≡ get_or words s.at 0 → (x ≡ 0 → ⊥) → (x ≡ 1 → ⊥) → (x ≡ 3 → ⊥) → Check words text (Within 4 4) word s None → Check words text ValidConstant constant_piece s None
   str_stop e n₀ n₁ n₃ c = str_checked e n₀ n₁ n₃ (check_stop _ _ c)
+
+  -- none stands where its words are not all there
+  pub constant_short : {b : Bool} {s : Places} → Room b (length words) s.at Constants.WORDS → b ≡ false → Check words text ValidConstant constant_piece s None
+  constant_short {s = s} room e = check_wrong (λ v k t. room_short room e (Constants.size v s.to) t.in_words)
 
   -- ---- locals
 

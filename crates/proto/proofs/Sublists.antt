@@ -1,15 +1,20 @@
 -- A list that stands at a place of another: its length, its items, and two of them one behind the other.
-use Rattle.lent.proofs.Prelude.{ℕ, ◌+◌, ◌-◌, ◌≤◌, ◌<◌, min, ◌≡◌, refl, sym, ap, ◌∙◌, List, [], ◌∷◌, ◌++◌, append_assoc, append-nil, arith, length, take, drop, get_or, length-append, length-drop, take-append-drop, get_or-append, drop_at, drop-drop, get_or-drop, length-take-le}
+use Rattle.lent.proofs.Prelude.{Bool, false, ℕ, ◌+◌, ◌-◌, ◌%◌, ◌^◌, ◌≤◌, ◌<◌, ◌≡◌, refl, sym, ap, ◌∙◌, List, [], ◌∷◌, ◌++◌, append_assoc, append-nil, arith, length, take, drop, get_or, length-append, length-drop, take-append-drop, get_or-append, drop_at, drop-drop, get_or-drop, length-take-le}
 use Rattle.std.proofs.lemmas.List.{nil_from_length}
 use Rattle.lent.specs.Memory.{far}
 use Rattle.format.specs.Stored.{Here}
 use Rattle.std.proofs.lemmas.List.{drop_more}
 use Rattle.format.proofs.Stored.{here_left}
+use Rattle.proto.specs.Formed.{Room}
 use Rattle.proto.specs.Walk.{Skips}
 
 module _ {xs : List ℕ} {at : ℕ} where
   pub here_length : (l : List ℕ) → (h : Here xs at l) → length xs - at ≡ length l + length h.more
   here_length l h = sym (length-drop at xs) ∙ ap length h.is ∙ length-append l h.more
+
+  -- n of them do not stand where there is no room for n
+  pub room_short : {b : Bool} {n : ℕ} {l : List ℕ} → Room b (length xs) at n → b ≡ false → length l ≡ n → Here xs at l → ⊥
+  room_short {l = l} room e k h = room.not e (omega (arith, here_length l h))
 
   pub here_item : (l : List ℕ) (i : ℕ) → i < length l → Here xs at l → get_or xs (at + i) 0 ≡ get_or l i 0
   here_item l i k h = sym (get_or-drop at xs i 0) ∙ rw h.is (get_or-append l h.more 0 i k)
@@ -39,8 +44,8 @@ module _ {xs : List ℕ} {at : ℕ} where
   pub here_take : (n : ℕ) → Here xs at (take n (drop at xs))
   here_take n = record { more = drop n (drop at xs); is = sym (take-append-drop n (drop at xs)) }
 
--- where n words stand, there are so many from the place to the end, and no place stops
-pub skips_all : {xs : List ℕ} {n at r : ℕ} → length xs ≤ far → at ≤ far → r ≡ min (at + n) far → Skips xs n at r
+-- where n words stand, there are so many from the place to the end, and no place wraps
+pub skips_all : {xs : List ℕ} {n at r : ℕ} → length xs ≤ far → at ≤ far → r ≡ (at + n) % 2 ^ 64 → Skips xs n at r
 skips_all f k e = record { skips = λ l g h. omega (arith, here_length l h) }
 
 -- two words, and three

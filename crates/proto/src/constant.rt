@@ -6,23 +6,26 @@ ghost use Rattle.format.specs.Constants.{value_of};
 ghost use Rattle.proto.specs.Walk.{item, StandsAt};
 ghost use Rattle.proto.specs.Constants.{ConstantAt, read};
 
+use crate::formed::is_within;
 use crate::walk::nth_at;
-use format::{Constant, Constants, Span, Tag};
+use format::{Constant, Constants, Span, StoredItem, Tag};
 
 // The constant at a place, a string by its place and length in the text.
+#[tactic(auto, using(crate::proofs::Items::constant_away))]
 pub fn constant_at(words: &[u32], at: usize) -> Constant
     ensures { ConstantAt words.now at result }
 {
-    let Some([kind, a, b, ..]) = words.get(at..) else {
+    if !is_within(words.len(), at, Constants::WORDS as usize) {
         return Constant::Nil;
-    };
-    match Tag::try_from(*kind) {
+    }
+    let (a, b) = (words[at + 1], words[at + 2]);
+    match Tag::try_from(words[at]) {
         Ok(Tag::Nil) => Constant::Nil,
-        Ok(Tag::Bool) => Constant::Bool(*a != 0),
-        Ok(Tag::Num) => Constant::Num(*a, *b),
+        Ok(Tag::Bool) => Constant::Bool(a != 0),
+        Ok(Tag::Num) => Constant::Num(a, b),
         _ => Constant::String(Span {
-            start: *a as usize,
-            len: *b as usize,
+            start: a as usize,
+            len: b as usize,
         }),
     }
 }

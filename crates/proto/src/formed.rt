@@ -12,7 +12,7 @@ ghost use Rattle.proto.specs.Formed.{Checks, Both, beside, Counts, Many, Room, W
 
 use crate::store::Store;
 use crate::walk::word_at;
-use format::{Constants, DEPTH, LIMIT, Locals, MOST, Names, Refusal, Span};
+use format::{Constants, DEPTH, LIMIT, Locals, MOST, Names, Refusal, Span, StoredItem};
 
 // The greatest word.
 const ANY: u32 = u32::MAX;
@@ -127,14 +127,15 @@ impl<'a> Checker<'a> {
     }
 
     // Three words: a kind, and two with their greatest values.
-    #[tactic(auto, using(crate::proofs::Checks::three_good))]
+    #[tactic(auto, using(crate::proofs::Checks::three_good, crate::proofs::Checks::three_short))]
     fn check_three(self, s: Places, kind: u32, a: u32, b: u32) -> Option<Places>
         ensures { Checks self.entry.store (Three kind a b) three s result }
     {
-        let [k, x, y, ..] = self.store.words.get(s.at..)? else {
+        let Store { words, .. } = self.store;
+        if !is_within(words.len(), s.at, 3) {
             return None;
-        };
-        if *k != kind || a < *x || b < *y {
+        }
+        if words[s.at] != kind || a < words[s.at + 1] || b < words[s.at + 2] {
             return None;
         }
         Some(Places { at: s.at + 3, ..s })
@@ -185,12 +186,16 @@ impl<'a> Checker<'a> {
     }
 
     // A constant, by its tag: Nil or Bool, whose second word is no more than the first, Num or String. The tags by number: by Tag::try_from, proved, dump of
-    // 60,000 numbers took 3.05 and not 2.87 million instructions, over the bar of steps (docs/PERFORMANCE.md).
-    #[tactic(auto, using(crate::proofs::Stores::constant_plain, crate::proofs::Stores::num_checked, crate::proofs::Stores::str_then, crate::proofs::Stores::str_stop))]
+    // 60,000 numbers took 3.05 and not 2.87 million instructions when the room was tested in each arm, over the bar of steps (docs/PERFORMANCE.md).
+    #[tactic(auto, using(crate::proofs::Stores::constant_short, crate::proofs::Stores::constant_plain, crate::proofs::Stores::num_checked, crate::proofs::Stores::str_then, crate::proofs::Stores::str_stop))]
     fn check_constant(self, s: Places) -> Option<Places>
         ensures { Checks self.entry.store ValidConstant constant_piece s result }
     {
-        let kind = word_at(self.store.words, s.at);
+        let Store { words, .. } = self.store;
+        if !is_within(words.len(), s.at, Constants::WORDS as usize) {
+            return None;
+        }
+        let kind = words[s.at];
         match kind {
             0 | 1 => self.check_three(s, kind, kind, 0),
             3 => self.check_three(s, 3, ANY, ANY),
@@ -275,11 +280,11 @@ impl<'a> Checker<'a> {
     }
 }
 
-// Whether n items from a place on are within so many.
+// Whether n items from a place on are within so many. One comparison where n is not 0: it is made for each item of a list.
 pub fn is_within(len: usize, at: usize, n: usize) -> bool
     ensures { Room result len at n }
 {
-    n == 0 || n <= len && at <= len - n
+    n == 0 || at < len.saturating_sub(n - 1)
 }
 
 impl<'a> Store<'a> {

@@ -1,4 +1,4 @@
-// Where the parts of a function stand. Past the end a word is 0, and a place stops at the farthest. Each answer is that for every tree that
+// Where the parts of a function stand. Past the end a word is 0, and a place may wrap. Each answer is that for every tree that
 // stands at the place asked; where none stands it is open, since the calls check the store first.
 // No methods of a struct of words and place: tried for word_at, skip and string_at, each step promises also that the words stay, each proof of two steps
 // rewrites by that, and Lists, which holds six places in the same words, makes such a struct for each.
@@ -26,12 +26,12 @@ pub fn word_at(words: &[u32], at: usize) -> u32
     words.get(at).copied().unwrap_or(0)
 }
 
-// The place behind n words. `words` is there for the proof alone: there are never so many that a place among them stops.
+// The place behind n words. `words` is there for the proof alone: there are never so many that a place among them wraps.
 #[tactic(auto, using(crate::proofs::Sublists::skips_all))]
 pub fn skip(words: &[u32], at: usize, n: usize) -> usize
     ensures { Skips words.now n at result }
 {
-    at.saturating_add(n)
+    at.wrapping_add(n)
 }
 
 // The string whose place and length stand at a place.
