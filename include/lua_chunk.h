@@ -42,7 +42,7 @@
  *
  * Memory. A call allocates nothing, keeps no pointer and no state, and waits for nothing. So calls may run at once in any number of
  * threads, as long as nobody else writes what a call reads, or touches what it writes, before it returns. 256 KB of stack are enough
- * for any call (measured: 141 KB at most, by getobjname over a chain of 254 MOVEs; on a chunk 200 functions deep a listing takes 84 KB,
+ * for any call (measured: 144 KB at most, by getobjname over a chain of 254 MOVEs; on a chunk 200 functions deep a listing takes 89 KB,
  * lua_chunk_dump 52, lua_chunk_measure and lua_chunk_store 33).
  *
  * What the caller owes. A run is a pointer and a count of elements, a size in bytes for bytes, and:
