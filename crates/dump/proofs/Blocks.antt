@@ -79,8 +79,13 @@ ended_fits {start} {end} {m₁} {m₂} out x s at k n a b room kx e ep ns f smal
     let z : end ≡ at + length (x ++ s) = omega (arith, length-append x s) in
     put_stored (omega (arith, length-append (x ++ s) (0 ∷ []), length-append x s)) (rw (w, z) (sets_append (x ++ s) out (0 ∷ []) at))
 
+module _ {at a b r : ℕ} {out out₁ out₂ out' : List ℕ} where
+  -- a string: its size, its bytes, a zero, one behind the other
+  pub string_put : (size4 : Bool) (s : List ℕ) → Puts (dump_size size4 (length s + 1)) at out a out₁ → Puts s a out₁ b out₂ → Puts (0 ∷ []) b out₂ r out' → Puts (dump_text size4 s) at out r out'
+  string_put size4 s p q t = ended_put (dump_size size4 (length s + 1)) s p q t
+
 module _ {at r : ℕ} {out out' : List ℕ} (s : List ℕ) {size4 : Bool} where
-  -- a string behind its size
+  -- the same behind the bytes of its size
   pub string_short : size4 ≡ true → Puts (to_le_bytes w32 ((length s + 1) % 4294967296) ++ s ++ (0 ∷ [])) at out r out' → Puts (dump_text size4 s) at out r out'
   string_short e p = let n = length s + 1 in rw e (subst (λ (b : List ℕ). Puts (b ++ s ++ (0 ∷ [])) at out r out') (number_bytes 4 (n % 4294967296) ∙ low_four n) p)
 
@@ -119,8 +124,12 @@ tagged_fits {start} out x at tag k n s room e kx nx f small =
 pub two_put : {at r : ℕ} {out out' : List ℕ} (low high : ℕ) → low < 4294967296 → Puts (to_le_bytes w64 (low + 4294967296 * high)) at out r out' → Puts (dump_int low ++ dump_int high) at out r out'
 two_put low high l p = rw (number_bytes 8 (low + 4294967296 * high) ∙ number_halves low high l) at p
 
-pub num_put : {at r : ℕ} {out out' : List ℕ} (low high : ℕ) → low < 4294967296 → Puts (3 ∷ to_le_bytes w64 (low + 4294967296 * high)) at out r out' → Puts (3 ∷ dump_int low ++ dump_int high) at out r out'
-num_put {at} {r} {out} {out'} low high l p = subst (λ (b : List ℕ). Puts (3 ∷ b) at out r out') (number_bytes 8 (low + 4294967296 * high) ∙ number_halves low high l) p
+-- a number behind its tag, at once, and one behind the other
+pub num_tagged : {at r : ℕ} {out out' : List ℕ} (low high : ℕ) → low < 4294967296 → Puts (3 ∷ to_le_bytes w64 (low + 4294967296 * high)) at out r out' → Puts (3 ∷ dump_int low ++ dump_int high) at out r out'
+num_tagged {at} {r} {out} {out'} low high l p = subst (λ (b : List ℕ). Puts (3 ∷ b) at out r out') (number_bytes 8 (low + 4294967296 * high) ∙ number_halves low high l) p
+
+pub num_put : {at a r : ℕ} {out out₁ out' : List ℕ} (low high : ℕ) → low < 4294967296 → Puts (3 ∷ []) at out a out₁ → Puts (to_le_bytes w64 (low + 4294967296 * high)) a out₁ r out' → Puts (3 ∷ dump_int low ++ dump_int high) at out r out'
+num_put low high l p q = num_tagged low high l (tagged_put 3 (to_le_bytes w64 (low + 4294967296 * high)) p q)
 
 -- a string behind its tag
 pub str_put : {at a r : ℕ} {out out₁ out' : List ℕ} (size4 : Bool) (s : List ℕ) → Puts (4 ∷ []) at out a out₁ → Puts (dump_text size4 s) a out₁ r out' → Puts (4 ∷ dump_text size4 s) at out r out'

@@ -104,6 +104,12 @@ module _ {d : Dumper} {s b c e f r : Progress} where
       let behind = dumps_as (same_sym (same_assoc p₄ p₄′ p₅)) refl (dumps_then u₄ u₅) in
       dumps_as (same_sym (same_assoc p₁ p₁′ (p₂ ⊕ p₃ ⊕ p₄ ⊕ p₄′ ⊕ p₅))) (simp append_assoc) (dumps_then u₁ (dumps_then u₂ (dumps_then u₃ behind)))
 
+-- six parts, of which the fifth has two pieces
+module _ {d : Dumper} {s a b c e f r : Progress} where
+  pub dumps_six : {p₁ p₂ p₃ p₄ p₆ : Piece} (p₅ p₅′ : Piece) {x₁ x₂ x₃ x₄ x₅ x₆ : List ℕ} → Dumps d p₁ x₁ s a → Dumps d p₂ x₂ a b → Dumps d p₃ x₃ b c → Dumps d p₄ x₄ c e → Dumps d (p₅ ⊕ p₅′) x₅ e f → Dumps d p₆ x₆ f r
+      → Dumps d (p₁ ⊕ p₂ ⊕ p₃ ⊕ p₄ ⊕ p₅ ⊕ p₅′ ⊕ p₆) (x₁ ++ x₂ ++ x₃ ++ x₄ ++ x₅ ++ x₆) s r
+  dumps_six {p₁} {p₂} p₅ p₅′ u₁ u₂ u₃ u₄ u₅ u₆ = dumps_five p₁ p₂ p₅ p₅′ (dumps_then u₁ u₂) u₃ u₄ u₅ u₆
+
 -- a function: its source, then what stands behind it
 module _ {d : Dumper} {s m r : Progress} (strip size4 : Bool) (around outer source : List ℕ) (o : Source) where
   pub source_then_parts : (p : Parts) (fs : Functions) → ((to : ℕ) → Stands d.store.words.now d.store.text.now s.at to (source_piece p.source) → (source ≡ filled outer p.source) × (o ≡ elided around source))

@@ -12,7 +12,7 @@ ghost use Rattle.dump.specs.Step.{Dumps, progress, seen};
 
 pub use crate::block::Options;
 use crate::block::{dump_array, dump_int, dump_ints, dump_tagged};
-use crate::item::Item;
+use crate::item::CountedItem;
 use format::{Constant, Constants, Locals, Names, StoredItem, Tag, joined};
 use proto::constant::constant_at;
 use proto::store::Store;
@@ -121,7 +121,7 @@ impl Dumper<'_> {
     }
 
     // The bytes of a constant: its tag, then Bool's byte, Num's halves, or String. Answers the place behind them.
-    #[tactic(auto, using(crate::proofs::Blocks::num_put, crate::proofs::Blocks::str_put))]
+    #[tactic(auto, using(crate::proofs::Blocks::num_tagged, crate::proofs::Blocks::str_put))]
     fn put_constant<const STORED: bool>(self, out: &mut [u8], at: usize, k: Constant) -> usize
         ensures { Puts (dump_constant self.entry.options.size_4 (value_of self.entry.store.text.now k)) at (seen STORED out.old) result (seen STORED out.new) }
     {
@@ -142,7 +142,7 @@ impl Dumper<'_> {
     }
 
     // An item.
-    fn dump_item<const STORED: bool, T: Item>(self, out: &mut [u8], s: Reached) -> Reached
+    fn dump_item<const STORED: bool, T: CountedItem>(self, out: &mut [u8], s: Reached) -> Reached
         ensures { (v : T.Value) → Dumps self.entry (T.piece v) (T.bytes self.entry.options.size_4 v) (progress s (seen STORED out.old)) (progress result (seen STORED out.new)) }
     {
         if STORED {
@@ -154,7 +154,11 @@ impl Dumper<'_> {
 
     // A list of items: how many, then each.
     #[tactic(auto, using(crate::proofs::Lists::every_all, crate::proofs::Lists::list_dumped))]
-    pub fn dump_list<const STORED: bool, T: Item>(self, out: &mut [u8], s: Reached) -> Reached
+    pub fn dump_list<const STORED: bool, T: CountedItem>(
+        self,
+        out: &mut [u8],
+        s: Reached,
+    ) -> Reached
         ensures { (l : List T.Value) → Dumps self.entry (list T.piece l) (dump_list (T.bytes self.entry.options.size_4) l) (progress s (seen STORED out.old)) (progress result (seen STORED out.new)) }
     {
         let n = word_at(self.store.words, s.at);

@@ -102,13 +102,22 @@ module _ {words text : List ℕ} where
   unfolding Both beside
   check_stop ok' q c = check_wrong (λ v k t. no_answer (c.complete v.0 k.0 (stands_left _ (q v.1) t)))
 
-  module _ {s : Places} {b : Bool} (room : Room b (length words) s.at 3) where
-    -- ---- three words
+  -- ---- three words
 
-    pub three_good : {kind x y : ℕ} → b ≡ true → get_or words s.at 0 ≡ kind → get_or words (s.at + 1) 0 ≤ x → get_or words (s.at + 2) 0 ≤ y → Check words text (Three kind x y) three s (Some (record { at = s.at + 3; to = s.to }))
-    three_good e u v w =
-        check_good (record { first = get_or words s.at 0; second = get_or words (s.at + 1) 0; third = get_or words (s.at + 2) 0 })
-        (record { is = u; second = v; third = w }) (record { in_words = here_three (omega (arith, room.is e)); in_text = here_none }) (λ v k t. rw add-zero)
+  three_stand : {s : Places} {kind x y : ℕ} → s.at + 3 ≤ length words → get_or words s.at 0 ≡ kind → get_or words (s.at + 1) 0 ≤ x → get_or words (s.at + 2) 0 ≤ y → Check words text (Three kind x y) three s (Some (record { at = s.at + 3; to = s.to }))
+  three_stand {s} h u v w =
+      check_good (record { first = get_or words s.at 0; second = get_or words (s.at + 1) 0; third = get_or words (s.at + 2) 0 })
+      (record { is = u; second = v; third = w }) (record { in_words = here_three h; in_text = here_none }) (λ v k t. rw add-zero)
+
+  module _ {s : Places} {l : List ℕ} (h : Rest words s.at l) where
+    -- the first of those from the place on
+    pub three_good : {kind x y : ℕ} → 3 ≤ length l → get_or l 0 0 ≡ kind → get_or l 1 0 ≤ x → get_or l 2 0 ≤ y → Check words text (Three kind x y) three s (Some (record { at = s.at + 3; to = s.to }))
+    three_good k u v w = three_stand (omega arith) (rest_first words l s.at h ∙ u) (rw (rest_item words l s.at h 1) v) (rw (rest_item words l s.at h 2) w)
+
+  module _ {s : Places} {b : Bool} (room : Room b (length words) s.at 3) where
+    -- where there is room for them
+    pub three_in_room : {kind x y : ℕ} → b ≡ true → get_or words s.at 0 ≡ kind → get_or words (s.at + 1) 0 ≤ x → get_or words (s.at + 2) 0 ≤ y → Check words text (Three kind x y) three s (Some (record { at = s.at + 3; to = s.to }))
+    three_in_room e u v w = three_stand (omega (arith, room.is e)) u v w
 
     pub three_short : {kind x y : ℕ} → b ≡ false → Check words text (Three kind x y) three s None
     three_short e = check_wrong (λ w k t. room_short room e refl t.in_words)

@@ -1,5 +1,5 @@
 -- A list that stands at a place of another: its length, its items, and two of them one behind the other.
-use Rattle.lent.proofs.Prelude.{Bool, false, ℕ, ◌+◌, ◌-◌, ◌%◌, ◌^◌, ◌≤◌, ◌<◌, ◌≡◌, refl, sym, ap, ◌∙◌, List, [], ◌∷◌, ◌++◌, append_assoc, append-nil, arith, length, take, drop, get_or, length-append, length-drop, take-append-drop, get_or-append, drop_at, drop-drop, get_or-drop, length-take-le}
+use Rattle.lent.proofs.Prelude.{Bool, false, ℕ, ◌+◌, ◌-◌, ◌%◌, ◌^◌, ◌≤◌, ◌<◌, min, ◌≡◌, refl, sym, ap, ◌∙◌, List, [], ◌∷◌, ◌++◌, append_assoc, append-nil, arith, length, take, drop, get_or, length-append, length-drop, take-append-drop, get_or-append, drop_at, drop-drop, get_or-drop, length-take-le}
 use Rattle.std.proofs.lemmas.List.{nil_from_length}
 use Rattle.lent.specs.Memory.{far}
 use Rattle.format.specs.Stored.{Here}
@@ -44,9 +44,13 @@ module _ {xs : List ℕ} {at : ℕ} where
   pub here_take : (n : ℕ) → Here xs at (take n (drop at xs))
   here_take n = record { more = drop n (drop at xs); is = sym (take-append-drop n (drop at xs)) }
 
--- where n words stand, there are so many from the place to the end, and no place wraps
-pub skips_all : {xs : List ℕ} {n at r : ℕ} → length xs ≤ far → at ≤ far → r ≡ (at + n) % 2 ^ 64 → Skips xs n at r
-skips_all f k e = record { skips = λ l g h. omega (arith, here_length l h) }
+-- where n words stand, there are so many from the place to the end: no place stops, and none wraps
+module _ {xs : List ℕ} {n at r : ℕ} (f : length xs ≤ far) (k : at ≤ far) where
+  pub skips_all : r ≡ min (at + n) far → Skips xs n at r
+  skips_all e = record { skips = λ l g h. omega (arith, here_length l h) }
+
+  pub skips_wrapped : r ≡ (at + n) % 2 ^ 64 → Skips xs n at r
+  skips_wrapped e = record { skips = λ l g h. omega (arith, here_length l h) }
 
 -- two words, and three
 pub here_two : {xs : List ℕ} {at : ℕ} → at + 2 ≤ length xs → Here xs at (get_or xs at 0 ∷ get_or xs (at + 1) 0 ∷ [])

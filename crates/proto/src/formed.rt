@@ -127,7 +127,7 @@ impl<'a> Checker<'a> {
     }
 
     // Three words: a kind, and two with their greatest values.
-    #[tactic(auto, using(crate::proofs::Checks::three_good, crate::proofs::Checks::three_short))]
+    #[tactic(auto, using(crate::proofs::Checks::three_in_room, crate::proofs::Checks::three_short))]
     fn check_three(self, s: Places, kind: u32, a: u32, b: u32) -> Option<Places>
         ensures { Checks self.entry.store (Three kind a b) three s result }
     {

@@ -27,7 +27,7 @@ pub fn word_at(words: &[u32], at: usize) -> u32
 }
 
 // The place behind n words. `words` is there for the proof alone: there are never so many that a place among them wraps.
-#[tactic(auto, using(crate::proofs::Sublists::skips_all))]
+#[tactic(auto, using(crate::proofs::Sublists::skips_wrapped))]
 pub fn skip(words: &[u32], at: usize, n: usize) -> usize
     ensures { Skips words.now n at result }
 {
