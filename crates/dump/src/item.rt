@@ -24,7 +24,8 @@ pub trait Item {
         ensures { (v : Value) → Dumps d.entry (piece v) (bytes d.entry.options.size_4 v) (progress s out.old) (progress result out.new) };
 }
 
-// A kind whose items can be counted without being written. A trait and a method of its own: a trait's method cannot have a const parameter.
+// A kind that says too how its items are counted, with nothing written. Not in Item, which asks no more than how one is written; and not by Item's method,
+// since a trait's method cannot have a const parameter.
 pub trait CountedItem: Item {
     // The bytes of one counted, past it.
     fn count(d: Dumper, s: Reached) -> Reached
